@@ -35,7 +35,8 @@ module _ {K : Type 0} (model : Model K) where
   keeper_after (serving s) ask device_failed old new stands leaves is = leaves
   keeper_after (failed before after) ask outcome old new stands leaves is = λ o left. is o ((leaves o).0 left)
 
-  pub keeper_after_all : (root : Text) (y : Server) (old new : K) (ws : List web.HttpExchange) → ComesAll model root (standing_of y) old ws new → IsKeeperOf old y → IsKeeperOf new (last_server y ws)
+  pub keeper_after_all : (root : Text) (y : Server) (old new : K) (ws : List web.HttpExchange) → ComesAll model root (standing_of y) old ws new
+      → IsKeeperOf old y → IsKeeperOf new (last_server y ws)
   keeper_after_all root y old new [] comes is = subst (λ (k : K). IsKeeperOf k y) (sym comes) is
   keeper_after_all root y old new (w ∷ ws) comes is =
       let mid : K = comes.0 in

@@ -24,7 +24,8 @@ LeavesStates {Image} holds leaves may_leave = (image : Image) → leaves image �
 
 module _ {K Image : Type 0} (model : Model K) (holds : Image → State → Type 0) (leaves : Image → Type 0) (root : Text) (s : State) (old new : K)
     (stands : model.represents old s) (states : LeavesStates holds leaves (model.may_leave new)) where
-  pub is_guaranteed : (connections : List History) (es : List Exchange) (ws : List web.HttpExchange) → All IsInOrder connections → All RefusesForMemory connections
+  pub is_guaranteed : (connections : List History) (es : List Exchange) (ws : List web.HttpExchange) → All IsInOrder connections
+      → All RefusesForMemory connections
       → IsInterleaving (map exchanges_of connections) es → AnsweredInTurn root (of_state s) es ws → ComesAll model root (of_state s) old ws new
       → Guarantee holds leaves root s connections
   is_guaranteed connections es ws in_order refused interleaved answered comes =
@@ -40,7 +41,8 @@ module _ {K Image : Type 0} (model : Model K) (holds : Image → State → Type 
         server = server;
         sequential = sequential;
         pages = λ before later e name q is asks ok.
-            page_of_state root (serving s) server before later e name q (subst (λ (l : List Event). IsSequential root (serving s) l server) is sequential) asks ok;
+            page_of_state root (serving s) server before later e name q (subst (λ (l : List Event). IsSequential root (serving s) l server) is sequential)
+            asks ok;
         acts = history_acts root (serving s) server history sequential;
         survives = λ image left.
             let it = states image left in
@@ -48,7 +50,8 @@ module _ {K Image : Type 0} (model : Model K) (holds : Image → State → Type 
       }
 
   -- and in real time
-  pub is_guaranteed_in_time : (connections : List History) (es : List Exchange) (ws : List web.HttpExchange) → All IsInOrder connections → All RefusesForMemory connections
+  pub is_guaranteed_in_time : (connections : List History) (es : List Exchange) (ws : List web.HttpExchange) → All IsInOrder connections
+      → All RefusesForMemory connections
       → IsInterleaving (map exchanges_of connections) es → AnsweredInTurn root (of_state s) es ws → ComesAll model root (of_state s) old ws new
       → Timeline [] es connections → GuaranteeOfTown holds leaves root s connections
   unfolding is_guaranteed

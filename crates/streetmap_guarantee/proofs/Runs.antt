@@ -17,9 +17,11 @@ pub record Kept {K : Type 0} (model : Model K) (new : K) (s : State) (bs : List 
   pub ends : EndsAs s bs k fault server
   pub keeper : IsKeeperOf model new server
 
-pub run_kept : {K : Type 0} (model : Model K) (old new : K) (s : State) (bs : List BatchValue) (k : ℕ) (fault : Option Fault) → RunEnds model old new s bs k fault → Kept model new s bs k fault
+pub run_kept : {K : Type 0} (model : Model K) (old new : K) (s : State) (bs : List BatchValue) (k : ℕ) (fault : Option Fault)
+    → RunEnds model old new s bs k fault → Kept model new s bs k fault
 run_kept model old new s bs k None ends = record { server = serving (after_all s (take k bs)); ends = refl; keeper = ends }
 run_kept model old new s bs k (Some Memory) ends = record { server = serving (after_all s (take k bs)); ends = refl; keeper = ends }
-run_kept model old new s bs k (Some Device) ends = record { server = failed (after_all s (take k bs)) (after_all s (take (k + 1) bs)); ends = refl; keeper = ends.1 }
+run_kept model old new s bs k (Some Device) ends =
+    record { server = failed (after_all s (take k bs)) (after_all s (take (k + 1) bs)); ends = refl; keeper = ends.1 }
 run_kept model old new s bs k (Some Damaged) ends = absurd ends
 run_kept model old new s bs k (Some Reopen) ends = absurd ends

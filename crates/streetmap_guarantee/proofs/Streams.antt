@@ -26,11 +26,13 @@ use Rattle.streetmap_guarantee.specs.Streams.{GuaranteeOfStream}
 use Rattle.streetmap_guarantee.proofs.Guarantees.{LeavesStates, is_guaranteed}
 
 answered_all : (root : Text) (x : Standing) (ws last : List HttpExchange) → GoOn root x ws
-    → (let y = web.standing_after_all x ws in AnsweredInTurn root y (exchanges_at root y last) last) → AnsweredInTurn root x (exchanges_at root x (ws ++ last)) (ws ++ last)
+    → (let y = web.standing_after_all x ws in AnsweredInTurn root y (exchanges_at root y last) last)
+    → AnsweredInTurn root x (exchanges_at root x (ws ++ last)) (ws ++ last)
 answered_all root x [] last go h = h
 answered_all root x (w ∷ ws) last go h = (is_answer root x w go.0, answered_all root (web.standing_after x w) ws last go.2 h)
 
-exchanges-append : (root : Text) (x : Standing) (ws last : List HttpExchange) → exchanges_at root x (ws ++ last) ≡ exchanges_at root x ws ++ exchanges_at root (web.standing_after_all x ws) last
+exchanges-append : (root : Text) (x : Standing) (ws last : List HttpExchange)
+    → exchanges_at root x (ws ++ last) ≡ exchanges_at root x ws ++ exchanges_at root (web.standing_after_all x ws) last
 exchanges-append root x [] last = refl
 exchanges-append root x (w ∷ ws) last = ap (λ (es : List Exchange). exchange_at root x w ∷ es) (exchanges-append root (web.standing_after x w) ws last)
 
@@ -44,7 +46,8 @@ texts_are root x (w ∷ ws) = ap (λ (t : Text). web.answer_bytes root x w ++ t)
 
 all_open : (root : Text) (x : Standing) (ws : List HttpExchange) → GoOn root x ws → All LeavesOpen (exchanges_at root x ws)
 all_open root x [] go = All-nil LeavesOpen
-all_open root x (w ∷ ws) go = All-cons LeavesOpen (exchange_at root x w) (exchanges_at root (web.standing_after x w) ws) go.1 (all_open root (web.standing_after x w) ws go.2)
+all_open root x (w ∷ ws) go =
+    All-cons LeavesOpen (exchange_at root x w) (exchanges_at root (web.standing_after x w) ws) go.1 (all_open root (web.standing_after x w) ws go.2)
 
 -- one list alone
 merges_alone : {A : Type 0} (xs : List A) → Merges xs [] xs

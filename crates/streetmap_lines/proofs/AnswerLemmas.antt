@@ -231,8 +231,8 @@ answered_less (Some input) (Some rest) (Some later) old w v line s h f p =
     (answers_of (state_after s line) (lines later)) p))
 
 -- the one fault of a keeper that nothing shut is `Memory`, and then its state is as before
-pub says_before : {K : Type 0} (model : Model K) (s : State) (answer : Answer) (fault : Fault) (keeper : K) → model.cause keeper ≡ None → SaysOf model s answer (Err fault) keeper
-    → model.represents keeper s
+pub says_before : {K : Type 0} (model : Model K) (s : State) (answer : Answer) (fault : Fault) (keeper : K) → model.cause keeper ≡ None
+    → SaysOf model s answer (Err fault) keeper → model.represents keeper s
 says_before model s answer Memory keeper unshut h = h
 says_before model s answer Device keeper unshut h = absurd (let bad : ◌≡◌ {A = Option Cause} None (Some causes.Device) = sym unshut ∙ h in cc)
 says_before model s answer Damaged keeper unshut h = absurd h

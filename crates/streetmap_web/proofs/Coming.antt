@@ -40,7 +40,8 @@ module _ {K : Type 0} (model : Model K) (root : Text) (x : Standing) where
   }
 
   -- a request that breaks a rule of framing calls no keeper
-  broken_comes : (bare : Bool) (fault : FramingFault) (sent : AnswerSent) (k : K) → sent ≡ sent_as (broken_request bare fault) (fault_response (Framing fault)) → StandsSo model k x
+  broken_comes : (bare : Bool) (fault : FramingFault) (sent : AnswerSent) (k : K)
+      → sent ≡ sent_as (broken_request bare fault) (fault_response (Framing fault)) → StandsSo model k x
       → ComesOut model root x (broken_request bare fault) as_asked sent k k
   broken_comes bare fault sent k is h = record {
     can = can_be_as_asked x fault;
@@ -63,7 +64,9 @@ module _ {K : Type 0} (model : Model K) (root : Text) (x : Standing) where
       (no_memory, starved_comes (broken_request bare fault) (sent_so text true) k (fault_sent (broken_request bare fault) Memory text text_is) h)
 
 -- requests after others
-pub comes_on : {K : Type 0} (model : Model K) (root : Text) (x : Standing) (first mid last : K) (es fs : List HttpExchange) → ComesAll model root x first es mid → ComesAll model root (standing_after_all x es) mid fs last
+pub comes_on : {K : Type 0} (model : Model K) (root : Text) (x : Standing) (first mid last : K) (es fs : List HttpExchange)
+    → ComesAll model root x first es mid → ComesAll model root (standing_after_all x es) mid fs last
     → ComesAll model root x first (es ++ fs) last
 comes_on model root x first mid last [] fs before later = subst (λ k. ComesAll model root x k fs last) before later
-comes_on model root x first mid last (e ∷ es) fs before later = (before.0, before.1, comes_on model root (standing_after x e) before.0 mid last es fs before.2 later)
+comes_on model root x first mid last (e ∷ es) fs before later =
+    (before.0, before.1, comes_on model root (standing_after x e) before.0 mid last es fs before.2 later)

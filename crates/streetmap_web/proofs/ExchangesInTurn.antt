@@ -22,21 +22,24 @@ pub requests-more : (es : List HttpExchange) (e : HttpExchange) → all_requests
 requests-more [] e = append-nil e.bytes
 requests-more (f ∷ es) e = ap (λ l. f.bytes ++ l) (requests-more es e) ∙ sym (append_assoc f.bytes (all_requests es) e.bytes)
 
-pub answers-more : (root : Text) (x : Standing) (es : List HttpExchange) (e : HttpExchange) → all_answers root x (es ++ e ∷ []) ≡ all_answers root x es ++ answer_bytes root (standing_after_all x es) e
+pub answers-more : (root : Text) (x : Standing) (es : List HttpExchange) (e : HttpExchange)
+    → all_answers root x (es ++ e ∷ []) ≡ all_answers root x es ++ answer_bytes root (standing_after_all x es) e
 answers-more root x [] e = append-nil (answer_bytes root x e)
 answers-more root x (f ∷ es) e =
     let y = standing_after x f in
     ap (λ l. answer_bytes root x f ++ l) (answers-more root y es e)
     ∙ sym (append_assoc (answer_bytes root x f) (all_answers root y es) (answer_bytes root (standing_after_all y es) e))
 
-pub standing-more : (x : Standing) (es : List HttpExchange) (e : HttpExchange) → standing_after_all x (es ++ e ∷ []) ≡ standing_after (standing_after_all x es) e
+pub standing-more : (x : Standing) (es : List HttpExchange) (e : HttpExchange)
+    → standing_after_all x (es ++ e ∷ []) ≡ standing_after (standing_after_all x es) e
 standing-more x [] e = refl
 standing-more x (f ∷ es) e = standing-more (standing_after x f) es e
 
 -- ---- the condition after exchanges
 
 -- the connection closes after a fault, so what leaves it open was answered as requested
-open_as_asked : (root : Text) (s : State) (ask : AskValue) (asked : Bool) (o : RequestOutcome) → CanBe (of_state s) ask o → closes_with asked (answer_by root (of_state s) ask o) ≡ false → o ≡ as_asked
+open_as_asked : (root : Text) (s : State) (ask : AskValue) (asked : Bool) (o : RequestOutcome) → CanBe (of_state s) ask o
+    → closes_with asked (answer_by root (of_state s) ask o) ≡ false → o ≡ as_asked
 open_as_asked root s ask asked as_asked can h = refl
 open_as_asked root s ask asked no_memory can h = let e : true ≡ false = fault_closes asked Memory ∙ h in cc
 open_as_asked root s ask asked device_failed can h = let e : true ≡ false = fault_closes asked Device ∙ h in cc
@@ -53,14 +56,16 @@ batch_acts s (page name q) bs = refl
 batch_acts s (feature name id) bs = refl
 batch_acts s (batch b) bs = refl
 
-as_asked_acts : (s : State) (ask : AskValue) (o : RequestOutcome) (bs : List BatchValue) → o ≡ as_asked → after_all s (with_answered ask o bs) ≡ after_all (state_in s ask) bs
+as_asked_acts : (s : State) (ask : AskValue) (o : RequestOutcome) (bs : List BatchValue) → o ≡ as_asked
+    → after_all s (with_answered ask o bs) ≡ after_all (state_in s ask) bs
 as_asked_acts s ask o bs e = ap (λ p. after_all s (with_answered ask p bs)) e ∙ batch_acts s ask bs
 
 as_asked_after : (s : State) (ask : AskValue) (o : RequestOutcome) → o ≡ as_asked → after (of_state s) ask o ≡ of_state (state_in s ask)
 as_asked_after s ask o e = ap (after (of_state s) ask) e
 
 -- exchanges that leave the connection open take a state to the one after their batches
-states_after : (root : Text) (s : State) (es : List HttpExchange) → GoOn root (of_state s) es → standing_after_all (of_state s) es ≡ of_state (after_all s (batches_of es))
+states_after : (root : Text) (s : State) (es : List HttpExchange) → GoOn root (of_state s) es
+    → standing_after_all (of_state s) es ≡ of_state (after_all s (batches_of es))
 states_after root s [] h = refl
 states_after root s (e ∷ es) (first, opens, more) =
     let is : e.outcome ≡ as_asked = open_as_asked root s e.request.ask e.request.closes e.outcome first.can opens in

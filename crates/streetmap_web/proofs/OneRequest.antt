@@ -20,7 +20,8 @@ use Rattle.streetmap_web.proofs.Coming.{refused_comes}
 
 module _ {K : Type 0} (model : Model K) (root : Text) (x : Standing) where
   -- a whole request
-  whole_answered : (h : HeadValue) (bytes body : Text) (sent : AnswerSent) (old new : K) → IsRequest bytes h body → AnswersAsk model root x (request_of h body) sent old new
+  whole_answered : (h : HeadValue) (bytes body : Text) (sent : AnswerSent) (old new : K) → IsRequest bytes h body
+      → AnswersAsk model root x (request_of h body) sent old new
       → AnswersRequest model root x bytes sent old new
   whole_answered h bytes body sent old new is (outcome, one) = record {
     exchange = record { bytes = bytes; request = request_of h body; outcome = outcome };
@@ -56,7 +57,9 @@ same_request r q e = cc
 same_front : (bytes : Text) (h k : HeadValue) (a b : Text) → IsRequest bytes h a → IsRequest bytes k b
     → ◌≡◌ {A = Request} (record { bytes = bytes; head = h; body = a }) (record { bytes = bytes; head = k; body = b })
 same_front bytes h k a b one other =
-    same_request _ _ (front_unique bytes (request (record { bytes = bytes; head = h; body = a })) (request (record { bytes = bytes; head = k; body = b })) (one, ([], sym (append-nil bytes))) (other, ([], sym (append-nil bytes))))
+    let one_is = request (record { bytes = bytes; head = h; body = a }) in
+    let other_is = request (record { bytes = bytes; head = k; body = b }) in
+    same_request _ _ (front_unique bytes one_is other_is (one, ([], sym (append-nil bytes))) (other, ([], sym (append-nil bytes))))
 
 -- and says one thing
 said_of : (bytes : Text) (h k : HeadValue) (a b : Text) (P : HeadValue → Text → Type 0) → IsRequest bytes h a → IsRequest bytes k b → P k b → P h a
@@ -67,14 +70,16 @@ said_of bytes h k a b P one other says =
 -- ---- what is said of one request
 
 module _ {K : Type 0} (model : Model K) (root : Text) where
-  pub whole_answers : (h : HeadValue) (bytes body : Text) (sent : AnswerSent) (old new : K) → IsRequest bytes h body → Answers model root (request_of h body) sent old new → AnswersOne model root old bytes sent new
+  pub whole_answers : (h : HeadValue) (bytes body : Text) (sent : AnswerSent) (old new : K) → IsRequest bytes h body
+      → Answers model root (request_of h body) sent old new → AnswersOne model root old bytes sent new
   whole_answers h bytes body sent old new is says = record {
     calls = says.calls;
     answered = λ clean x stands. whole_answered model root x h bytes body sent old new is (says.answered clean x stands);
     batch_answered = λ k a one. said_of bytes k h a body (λ k a. TellsBatch model (request_of k a) sent old new) one is says.batch_answered;
   }
 
-  pub broken_answers : (bytes text : Text) (bare : Bool) (fault : FramingFault) (k : K) → Breaks bytes bare fault → RefusesBy text bare fault → AnswersOne model root k bytes (sent_so text true) k
+  pub broken_answers : (bytes text : Text) (bare : Bool) (fault : FramingFault) (k : K) → Breaks bytes bare fault → RefusesBy text bare fault
+      → AnswersOne model root k bytes (sent_so text true) k
   broken_answers bytes text bare fault k breaks refuses = record {
     calls = no_calls model k;
     answered = λ clean x stands. broken_answered model root x bytes text bare fault k breaks refuses stands;

@@ -33,7 +33,8 @@ unfinished_body head came h cut framed short =
     in_body (h.len - length came) some (record { head = head; came = came; value = h; parts = refl; cut = cut; framed = framed; len = whole })
 
 -- a turn that is known by how its answer was sent
-pub turn_of : {K : Type 0} (model : Model K) (sent : Sent) (closing : Bool) (turn : Turn) (root : Text) (x : Standing) (a : Around) (old new : K) → turn ≡ turn_after sent closing
+pub turn_of : {K : Type 0} (model : Model K) (sent : Sent) (closing : Bool) (turn : Turn) (root : Text) (x : Standing) (a : Around) (old new : K)
+    → turn ≡ turn_after sent closing
     → TurnComes model (turn_after sent closing) root x a old new → TurnComes model turn root x a old new
 turn_of model sent closing turn root x a old new is comes = subst (λ t. TurnComes model t root x a old new) {x = turn_after sent closing} (sym is) comes
 
@@ -82,10 +83,12 @@ module _ {K : Type 0} (model : Model K) (root : Text) (x : Standing) (left rest 
         → TurnComes model (turn_after sent true) root x (around left rest held now) k k
     starved_turn bytes text request sent held now asks read same written =
         let e : HttpExchange = record { bytes = bytes; request = request; outcome = no_memory } in
-        sent_turn e text true sent held now k k asks read (starved_comes model root x request (sent_so text true) k (fault_sent request Memory text same) stands) written
+        sent_turn e text true sent held now k k asks read
+        (starved_comes model root x request (sent_so text true) k (fault_sent request Memory text same) stands) written
 
     -- the answer to a broken rule, as it was sent
-    pub refuse_says : (bytes : Text) (bare : Bool) (fault : FramingFault) (turn : Turn) (held now : Option Text) → Breaks bytes bare fault → Consumes left rest bytes
+    pub refuse_says : (bytes : Text) (bare : Bool) (fault : FramingFault) (turn : Turn) (held now : Option Text) → Breaks bytes bare fault
+        → Consumes left rest bytes
         → RefuseSays turn bare fault held now → TurnComes model turn root x (around left rest held now) k k
     refuse_says bytes bare fault turn held now breaks read (answer, why, sent, turned, written) =
         let text = response_text true bare (fault_response answer) in

@@ -13,7 +13,8 @@ use Rattle.streetmap_ledger.specs.declared.reply.Fault.{Fault}
 use Rattle.streetmap_ledger.specs.declared.reply.Fault.TheVariants as faults
 use Rattle.streetmap_ledger.specs.declared.reply.Reply.{Reply}
 use Rattle.streetmap_query.specs.QueryValue.{QueryValue}
-use Rattle.streetmap_routes.specs.Ask.{AskValue, all_collections, one_collection, page, feature, batch}
+use Rattle.streetmap_routes.specs.Ask.{AskValue, faulty, landing_page, api_text, conformance_classes, all_collections, one_collection, page, feature, batch}
+use Rattle.streetmap_bodies.specs.declared.request_fault.RequestFault.{RequestFault}
 use Rattle.streetmap_bodies.specs.declared.request_fault.RequestFault.TheVariants.{Keeper}
 use Rattle.streetmap_web.specs.Response.{ResponseValue, asks_state, response_in, response_shut, state_in, fault_response, replied}
 use Rattle.streetmap_web.specs.Responds.{Responds, RespondsToBatch, FaultsIn, FaultsShut, FaultsAny, IsResponse, response_value}
@@ -29,7 +30,8 @@ is_shut : (cause : Option Cause) (why : Cause) → cause ≡ Some why → IsSome
 is_shut cause why e = subst (λ (o : Option Cause). IsSome o) (sym e) refl
 
 -- memory ran out before the keeper was called
-pub not_called : {K A : Type 0} (model : Model K) (root : Text) (ask : AskValue) (Is : A → ResponseValue → Type 0) (k : K) → Responds model root ask Is k k (Err faults.Memory)
+pub not_called : {K A : Type 0} (model : Model K) (root : Text) (ask : AskValue) (Is : A → ResponseValue → Type 0) (k : K)
+    → Responds model root ask Is k k (Err faults.Memory)
 not_called model root ask Is k = record {
   calls = no_calls model k;
   in_state = λ clean s h. h;
@@ -40,30 +42,46 @@ not_called model root ask Is k = record {
 
 -- ---- a request that needs no state
 
--- it is responded to in this way, whatever the keeper's condition is
-pub record NeedsNothing (root : Text) (ask : AskValue) (p : ResponseValue) : Type 0 where
+-- it is responded to as by a shut keeper, whatever the keeper's condition is
+pub record NeedsNothing (root : Text) (ask : AskValue) : Type 0 where
   pub plain : asks_state ask ≡ false
-  pub in_state : (s : State) → p ≡ response_in root s ask
-  pub shut : p ≡ response_shut root ask
+  pub same : (s : State) → response_shut root ask ≡ response_in root s ask
   pub stays : (s : State) → state_in s ask ≡ s
   pub no_batch : (b : BatchValue) → ask ≡ batch b → ⊥
 
-pub plain_responds : {K : Type 0} (model : Model K) (root : Text) (ask : AskValue) (p : ResponseValue) (k : K) (found : Result Response AllocError) (result : Result Response Fault)
-    → NeedsNothing root ask p → IfOk found (λ b. response_value b ≡ p) → IfOk found (λ b. result ≡ Ok b) → OnErr found (result ≡ Err faults.Memory)
-    → Responds model root ask IsResponse k k result
-plain_responds model root ask p k (Ok b) result needs is same none = subst (λ r. Responds model root ask IsResponse k k r) (sym same) (record {
-  calls = no_calls model k;
-  in_state = λ clean s h. (is ∙ needs.in_state s, subst (model.represents k) (sym (needs.stays s)) h);
-  shut = λ why e. (is ∙ needs.shut, e, λ o. (λ left. left, λ left. left));
-  any = (response_shut root ask, (λ plain. refl, λ asks. absurd (let bad : false ≡ true = sym needs.plain ∙ asks in cc)), is ∙ needs.shut);
-  to_batch = λ c e. absurd (needs.no_batch c e);
-})
-plain_responds model root ask p k (Err w) result needs is same none = subst (λ r. Responds model root ask IsResponse k k r) (sym none) (not_called model root ask IsResponse k)
+pub faulty_plain : (root : Text) (fault : RequestFault) → NeedsNothing root (faulty fault)
+faulty_plain root fault = record { plain = refl; same = λ s. refl; stays = λ s. refl; no_batch = λ b e. cc }
+
+pub landing_plain : (root : Text) → NeedsNothing root landing_page
+landing_plain root = record { plain = refl; same = λ s. refl; stays = λ s. refl; no_batch = λ b e. cc }
+
+pub api_plain : (root : Text) → NeedsNothing root api_text
+api_plain root = record { plain = refl; same = λ s. refl; stays = λ s. refl; no_batch = λ b e. cc }
+
+pub conformance_plain : (root : Text) → NeedsNothing root conformance_classes
+conformance_plain root = record { plain = refl; same = λ s. refl; stays = λ s. refl; no_batch = λ b e. cc }
+
+module _ {K : Type 0} (model : Model K) (root : Text) (asked ask : AskValue) (k : K) (is : asked ≡ ask) (needs : NeedsNothing root ask) where
+  -- memory may have run out for the response
+  pub plain_responds : (found : Result Response AllocError) (result : Result Response Fault) → IfOk found (λ b. response_value b ≡ response_shut root ask)
+      → IfOk found (λ b. result ≡ Ok b) → OnErr found (result ≡ Err faults.Memory) → Responds model root asked IsResponse k k result
+  plain_responds (Ok b) result shown same none =
+      let at_ask : Responds model root ask IsResponse k k (Ok b) = record {
+        calls = no_calls model k;
+        in_state = λ clean s h. (shown ∙ needs.same s, subst (model.represents k) (sym (needs.stays s)) h);
+        shut = λ why e. (shown, e, λ o. (λ left. left, λ left. left));
+        any = (response_shut root ask, (λ plain. refl, λ asks. absurd (let bad : false ≡ true = sym needs.plain ∙ asks in cc)), shown);
+        to_batch = λ c e. absurd (needs.no_batch c e);
+      } in
+      subst (λ r. Responds model root asked IsResponse k k r) (sym same) (subst (λ (a : AskValue). Responds model root a IsResponse k k (Ok b)) (sym is) at_ask)
+  plain_responds (Err w) result shown same none =
+      subst (λ r. Responds model root asked IsResponse k k r) (sym none) (not_called model root asked IsResponse k)
 
 -- ---- a call that failed
 
 module _ {K T : Type 0} {model : Model K} {old new : K} (root : Text) (ask : AskValue) (asks : asks_state ask ≡ true) where
-  shut_by : (fault : Fault) (why : Cause) → response_shut root ask ≡ fault_response (Keeper faults.Reopen) → model.cause old ≡ Some why → IsCall {T = T} model old new (Err fault)
+  shut_by : (fault : Fault) (why : Cause) → response_shut root ask ≡ fault_response (Keeper faults.Reopen) → model.cause old ≡ Some why
+      → IsCall {T = T} model old new (Err fault)
       → FaultsShut root ask fault × (model.cause new ≡ Some why) × LeavesSame (model.may_leave old) (model.may_leave new)
   shut_by faults.Memory why says e call = open_not_shut _ why call.faults.0 e
   shut_by faults.Device why says e call = open_not_shut _ why call.faults.0 e
@@ -76,7 +94,8 @@ module _ {K T : Type 0} {model : Model K} {old new : K} (root : Text) (ask : Ask
   any_by faults.Damaged call = (asks, is_shut _ causes.Damaged call.faults.1)
   any_by faults.Reopen call = (asks, subst (λ (o : Option Cause). IsSome o) (sym call.faults.1) call.faults.0)
 
-  read_in : (fault : Fault) (s : State) (Is : T → Type 0) → IsCall {T = T} model old new (Err fault) → Reads model old new s Is (Err fault) → FaultsIn model s ask old new fault
+  read_in : (fault : Fault) (s : State) (Is : T → Type 0) → IsCall {T = T} model old new (Err fault) → Reads model old new s Is (Err fault)
+      → FaultsIn model s ask old new fault
   read_in faults.Memory s Is call reads = reads
   read_in faults.Device s Is call reads = (asks, call.faults.1, reads.0, λ o left. inl (reads.1 o left))
   read_in faults.Damaged s Is call reads = reads
@@ -125,7 +144,8 @@ module _ {K : Type 0} {model : Model K} {old new : K} (root : Text) (ask : AskVa
   })
 
   -- the read failed
-  pub failed_responds : {T : Type 0} {Is : State → T → Type 0} (fault : Fault) → IsRead {T = T} model old new (Err fault) Is → Responds model root ask IsResponse old new (Err fault)
+  pub failed_responds : {T : Type 0} {Is : State → T → Type 0} (fault : Fault) → IsRead {T = T} model old new (Err fault) Is
+      → Responds model root ask IsResponse old new (Err fault)
   failed_responds {T} {Is} fault read = record {
     calls = by_call read.call;
     in_state = λ clean s h. read_in root ask needs.asks fault s (Is s) read.call (read.reads clean s h);
@@ -143,7 +163,8 @@ to_same b c Is result applies uncalled e h = let same : b ≡ c = cc in subst (�
 
 module _ {K : Type 0} {model : Model K} {old new : K} (root : Text) (b : BatchValue) where
   -- the keeper's reply is the response
-  pub reply_responds : (reply : Reply) (response : Response) → IsWrite model old new b (Ok reply) → response_value response ≡ replied b.key reply → Responds model root (batch b) IsResponse old new (Ok response)
+  pub reply_responds : (reply : Reply) (response : Response) → IsWrite model old new b (Ok reply) → response_value response ≡ replied b.key reply
+      → Responds model root (batch b) IsResponse old new (Ok response)
   reply_responds reply response write is = record {
     calls = by_call write.call;
     in_state = λ clean s h.
@@ -154,7 +175,8 @@ module _ {K : Type 0} {model : Model K} {old new : K} (root : Text) (b : BatchVa
     to_batch = λ c e. to_same b c IsResponse (Ok response) (λ d r. model.applies old d r new) (new ≡ old) e (reply, write.applied, is);
   }
 
-  write_in : (fault : Fault) (s : State) → IsCall {T = Reply} model old new (Err fault) → Writes model old new s b (Err fault) → FaultsIn model s (batch b) old new fault
+  write_in : (fault : Fault) (s : State) → IsCall {T = Reply} model old new (Err fault) → Writes model old new s b (Err fault)
+      → FaultsIn model s (batch b) old new fault
   write_in faults.Memory s call writes = writes
   write_in faults.Device s call writes = (refl, call.faults.1, writes.0, writes.1)
   write_in faults.Damaged s call writes = writes

@@ -44,7 +44,8 @@ module _ {K W : Type 0} (model : Model K) where
   base_kept old new [] l = ap (λ (k : KeeperService K W). k.base) l
   base_kept old new (e ∷ es) l = base_kept l.0 new es l.2 ∙ l.1.0
 
-  in_turn : (old new : KeeperService K W) (es : List Exchange) → Leads Answers old es new → model.is_clean new.keeper → (x : Standing) → StandsSo model old.keeper x
+  in_turn : (old new : KeeperService K W) (es : List Exchange) → Leads Answers old es new → model.is_clean new.keeper → (x : Standing)
+      → StandsSo model old.keeper x
       → IsAfter model (root_of old.base) x es old.keeper new.keeper
   in_turn old new [] l clean x stands =
       let here : IsAfter model (root_of old.base) x [] old.keeper old.keeper
@@ -70,7 +71,8 @@ module _ {K W : Type 0} (model : Model K) where
         comes = (l.0.keeper, for_answer model root x w.request w.outcome (sent_so e.text e.closes) old.keeper l.0.keeper came, rest.comes);
       }
 
-  module _ (old new : KeeperService K W) (before after : List (Slot TcpStream)) (s : Serves Answers IsRefusal old new before after) (clean : model.is_clean new.keeper) where
+  module _ (old new : KeeperService K W) (before after : List (Slot TcpStream)) (s : Serves Answers IsRefusal old new before after)
+  (clean : model.is_clean new.keeper) where
     pub serves_clients : (x : Standing) → StandsSo model old.keeper x → ServesClients model (root_of old.base) x old.keeper new.keeper before after
     serves_clients x stands =
         let turns = in_turn old new s.exchanges s.leads clean x stands in
@@ -99,7 +101,8 @@ module _ {K W : Type 0} (model : Model K) where
     refused = λ were. were;
   }
 
-  pub none_in_row : (kept : KeeperService K W) → model.is_clean kept.keeper → (x : Standing) → StandsSo model kept.keeper x → (count : ℕ) (Done : Type 0) → ¬ Done
+  pub none_in_row : (kept : KeeperService K W) → model.is_clean kept.keeper → (x : Standing) → StandsSo model kept.keeper x → (count : ℕ) (Done : Type 0)
+      → ¬ Done
       → ServesInRow model (root_of kept.base) x kept.keeper kept.keeper count Done
   unfolding serves_clients
   none_in_row kept clean x stands count Done none = record {

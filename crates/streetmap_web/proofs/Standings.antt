@@ -32,7 +32,8 @@ fault_closes asked faults.Damaged = or_true asked
 fault_closes asked faults.Reopen = or_true asked
 
 -- an answer, with its bytes and whether the connection closes after it
-pub sent_of : (request : RequestValue) (p : ResponseValue) (text : Text) (closing : Bool) → closing ≡ closes_with request.closes p → text ≡ response_text closing request.bare p
+pub sent_of : (request : RequestValue) (p : ResponseValue) (text : Text) (closing : Bool) → closing ≡ closes_with request.closes p
+    → text ≡ response_text closing request.bare p
     → sent_so text closing ≡ sent_as request p
 sent_of request p text closing ends is = ap (λ (t : Text). sent_so t closing) is ∙ ap (λ (c : Bool). sent_so (response_text c request.bare p) c) ends
 
@@ -62,8 +63,10 @@ module _ {K : Type 0} (model : Model K) (root : Text) (request : RequestValue) (
   same_ask at ask Is result roots asks says =
       subst (λ (a : AskValue). Responds model root a Is old new result) asks (subst (λ (r : Text). Responds model r ask Is old new result) roots says)
 
-  pub response_sent : (at : Text) (ask : AskValue) (response : Response) (r : Answer × Bool) → at ≡ root → ask ≡ request.ask → Responds model at ask IsResponse old new (Ok response)
-      → r.1 ≡ closes_with request.closes (response_value response) → answer_text r.0 ≡ response_text r.1 request.bare (response_value response) → Sends model root request old new (Ok r)
+  pub response_sent : (at : Text) (ask : AskValue) (response : Response) (r : Answer × Bool) → at ≡ root → ask ≡ request.ask
+      → Responds model at ask IsResponse old new (Ok response)
+      → r.1 ≡ closes_with request.closes (response_value response) → answer_text r.0 ≡ response_text r.1 request.bare (response_value response)
+      → Sends model root request old new (Ok r)
   response_sent at ask response r roots asks says closes text =
       let it = same_ask at ask IsResponse (Ok response) roots asks says in
       let sent : sent_so (answer_text r.0) r.1 ≡ sent_as request (response_value response) = sent_of request (response_value response) (answer_text r.0) r.1 closes text in
@@ -82,7 +85,8 @@ module _ {K : Type 0} (model : Model K) (root : Text) (request : RequestValue) (
       }
 
   -- a fault that is still to be answered
-  pub fault_unsent : (at : Text) (ask : AskValue) (fault : Fault) → at ≡ root → ask ≡ request.ask → Responds model at ask IsResponse old new (Err fault) → Sends model root request old new (Err fault)
+  pub fault_unsent : (at : Text) (ask : AskValue) (fault : Fault) → at ≡ root → ask ≡ request.ask → Responds model at ask IsResponse old new (Err fault)
+      → Sends model root request old new (Err fault)
   fault_unsent at ask fault roots asks says =
       let it = same_ask at ask IsResponse (Err fault) roots asks says in
       record { calls = it.calls; in_state = it.in_state; shut = it.shut; any = it.any; to_batch = it.to_batch }
@@ -104,7 +108,8 @@ module _ {K : Type 0} (model : Model K) (root : Text) (request : RequestValue) (
         ]
 
     -- a fault of a keeper of which nothing is known
-    fault_shown : (asks_state request.ask ≡ true) × IsSome (model.cause new) → Sends model root request old new (Err fault) → AnswersAsk model root unknown request (sent_so text true) old new
+    fault_shown : (asks_state request.ask ≡ true) × IsSome (model.cause new) → Sends model root request old new (Err fault)
+        → AnswersAsk model root unknown request (sent_so text true) old new
     fault_shown any says = (
       of_keeper (fault_response (Keeper fault)),
       record {
@@ -118,7 +123,8 @@ module _ {K : Type 0} (model : Model K) (root : Text) (request : RequestValue) (
       },
     )
 
-  ok_shown : (b : Bool) (r : Answer × Bool) → asks_state request.ask ≡ b → Sends model root request old new (Ok r) → AnswersAsk model root unknown request (sent_so (answer_text r.0) r.1) old new
+  ok_shown : (b : Bool) (r : Answer × Bool) → asks_state request.ask ≡ b → Sends model root request old new (Ok r)
+      → AnswersAsk model root unknown request (sent_so (answer_text r.0) r.1) old new
   ok_shown false r plain says = (
     as_asked,
     record {
@@ -254,7 +260,8 @@ module _ {K : Type 0} (model : Model K) (root : Text) (request : RequestValue) (
     batch_answered = ok_batch r says;
   }
 
-  pub err_answered : (fault : Fault) (text : Text) → Sends model root request old new (Err fault) → text ≡ response_text true request.bare (fault_response (Keeper fault))
+  pub err_answered : (fault : Fault) (text : Text) → Sends model root request old new (Err fault)
+      → text ≡ response_text true request.bare (fault_response (Keeper fault))
       → Answers model root request (sent_so text true) old new
   err_answered fault text says is = record {
     calls = says.calls;

@@ -1,3 +1,4 @@
+use Rattle.std.proofs.Common.{refl, sym, ap, ◌∙◌}
 use Rattle.streetmap_http.specs.FramingView.{head_value}
 use Rattle.streetmap_routes.specs.BaseView.{root_of}
 use Rattle.streetmap_web.specs.Response.{request_of}

@@ -9,7 +9,8 @@ use Rattle.streetmap_web.proofs.requests.answer_request.Goals as goal
 pub returns-in-Broken : goal.returns-in-Broken
 returns-in-Broken g c =
     let says = split_as c.split_request.result.0 (Broken c.in-Broken.bare c.in-Broken.fault) c.split_request.result.1.now c.args.request.now c.in-Broken.is c.split_request.ensures in
-    broken_answers g.K.Keeper.model (root_of c.args.base.now) c.args.request.now (answer_text c.refused.result) c.in-Broken.bare c.in-Broken.fault c.args.keeper.now says.0 c.refused.ensures
+    broken_answers g.K.Keeper.model (root_of c.args.base.now) c.args.request.now (answer_text c.refused.result) c.in-Broken.bare c.in-Broken.fault
+    c.args.keeper.now says.0 c.refused.ensures
 
 pub returns-in-Request : goal.returns-in-Request
 returns-in-Request g c =

@@ -13,7 +13,8 @@ returns-in-Ok g c =
     let root = c.args.root.now in
     let all = λ (summaries : List SummaryValue). found Json (compact_text (collections_data root summaries)) in
     found_responds root _ (collections_read root) c.found_collections.result c.or_starved.result (all (summary_values c.as_slice.result.now)) c.in-Ok.ensures
-    c.found_collections.ensures c.or_starved.ensures.ok c.or_starved.ensures.err (λ s is. ap all (ap summary_values c.as_slice.ensures.value ∙ is)) (λ e. absurd (omega (arith, e)))
+    c.found_collections.ensures c.or_starved.ensures.ok c.or_starved.ensures.err (λ s is. ap all (ap summary_values c.as_slice.ensures.value ∙ is))
+    (λ e. absurd (omega (arith, e)))
 
 pub returns-in-Err : goal.returns-in-Err
 returns-in-Err g c = failed_responds _ _ (collections_read c.args.root.now) c.in-Err.fault c.in-Err.ensures

@@ -8,7 +8,8 @@ pub returns-in-Ok : goal.returns-in-Ok
 returns-in-Ok g c =
     let root = c.args.root.now in
     let name = c.args.name.now in
-    found_responds root _ (feature_reads root name c.args.id.now) c.found_feature.result c.or_starved.result (found_feature root name c.in-Ok.feature) c.in-Ok.ensures
+    found_responds root _ (feature_reads root name c.args.id.now) c.found_feature.result c.or_starved.result (found_feature root name c.in-Ok.feature)
+    c.in-Ok.ensures
     c.found_feature.ensures c.or_starved.ensures.ok c.or_starved.ensures.err (λ s is. ap (found_feature root name) is) (feature_well root name c.in-Ok.feature)
 
 pub returns-in-Err : goal.returns-in-Err

@@ -12,7 +12,8 @@ returns-in-Ok g c =
     let root = c.args.root.now in
     let name = c.args.name.now in
     let query = query_value c.args.query.now in
-    found_responds root _ (page_reads root name query) c.found_page.result c.or_starved.result (found_page root name query (option_map page_value c.in-Ok.page)) c.in-Ok.ensures
+    found_responds root _ (page_reads root name query) c.found_page.result c.or_starved.result
+    (found_page root name query (option_map page_value c.in-Ok.page)) c.in-Ok.ensures
     c.found_page.ensures c.or_starved.ensures.ok c.or_starved.ensures.err (λ s is. ap (found_page root name query) is) (page_well root name query _)
 
 pub returns-in-Err : goal.returns-in-Err
