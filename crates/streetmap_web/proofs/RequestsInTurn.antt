@@ -72,7 +72,7 @@ module _ {K W : Type 0} (model : Model K) where
       }
 
   module _ (old new : KeeperService K W) (before after : List (Slot TcpStream)) (s : Serves Answers IsRefusal old new before after)
-  (clean : model.is_clean new.keeper) where
+      (clean : model.is_clean new.keeper) where
     pub serves_clients : (x : Standing) → StandsSo model old.keeper x → ServesClients model (root_of old.base) x old.keeper new.keeper before after
     serves_clients x stands =
         let turns = in_turn old new s.exchanges s.leads clean x stands in
