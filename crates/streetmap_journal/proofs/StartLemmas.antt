@@ -87,7 +87,7 @@ first_found (Some bytes) head (Some serial) text first is =
 -- ---- what is there when it goes on
 
 module _ (s : State) (sound : IsState s) (after : ℕ) (found : Matched) (bytes : List ℕ)
-    (matches : Matches s after (Some bytes) found (λ _. Unit {0}))
+    (matches : Matches s after (Some bytes) found)
     (few : after ≤ batch_count s) where
   abbrev front : List ℕ
   front = text_of_lines (lines_from s after found.count)

@@ -1,7 +1,7 @@
 use Rattle.std.proofs.Common.{◌≡◌, Some, sym, ap, ◌∙◌}
 use Rattle.std.specs.Option.{option_map}
 use Rattle.streetmap_ledger.specs.KeptView.{keyed_batch}
-use Rattle.streetmap_ledger.proofs.Calls.{read_made, read_lost, read_failed}
+use Rattle.streetmap_ledger.proofs.Calls.{read_made}
 use Rattle.streetmap_replay.specs.Journal.{kept_text}
 use Rattle.streetmap_journal.proofs.OneLineFurther.{kept_line_is}
 use Rattle.streetmap_journal.proofs.completing.kept_line.Goals as goal
@@ -10,11 +10,5 @@ pub returns-in-Ok : goal.returns-in-Ok
 returns-in-Ok g c = read_made c.in-Ok-Some.ensures (λ s e is. kept_line_is s c.args.serial (keyed_batch c.in-Ok-Some.kept) c.as_slice.result.now c.in-Ok.line.items
     (ap (option_map keyed_batch) (sym c.in-Ok-Some.field-0-is) ∙ is) c.as_slice.ensures.value c.in-Ok.ensures)
 
-pub returns-in-Err : goal.returns-in-Err
-returns-in-Err g c = read_lost c.in-Ok-Some.ensures
-
 pub returns-in-Ok-None : goal.returns-in-Ok-None
 returns-in-Ok-None g c = read_made c.in-Ok-None.ensures (λ s e is. sym (ap (option_map keyed_batch) (sym c.in-Ok-None.field-0-is) ∙ is))
-
-pub returns-in-Err-batch : goal.returns-in-Err-batch
-returns-in-Err-batch g c = read_failed c.in-Err-batch.ensures

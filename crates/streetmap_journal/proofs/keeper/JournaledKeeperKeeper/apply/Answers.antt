@@ -1,4 +1,6 @@
-use Rattle.std.proofs.Common.{Some, refl}
+use Rattle.std.proofs.Common.{Some, Result, Err, refl}
+use Rattle.streetmap_ledger.specs.declared.reply.Fault.{Fault}
+use Rattle.streetmap_ledger.specs.declared.reply.Reply.{Reply}
 use Rattle.streetmap_batch.specs.BatchView.{batch_value}
 use Rattle.streetmap_replay.proofs.CallsInTurn.{call_from, call_after}
 use Rattle.streetmap_journal.specs.Telling.{IsFor, IsWholeUnless, ReachesUnless}
@@ -18,9 +20,9 @@ returns-in-Err g c =
       writes = λ h s e.
           let before = rw c.in-Some.is at e.1 in
           let b = batch_value c.args.batch.now in
-          writes_over model W.contents W.told W.is_kept W.fails _ _ s b _
-          (not_asked model c.args.self.now.keeper c.complete.new.keeper s b c.in-Err.fault (says.reads.stays h s e.0))
-          (says.told before.0, λ tells. says.holds h s e.0 (before.1 tells));
+          let after : IsFor W.contents W.told W.is_kept c.complete.new.journal s = (says.told before.0, λ tells. says.holds h s e.0 (before.1 tells)) in
+          writes_over model W.contents W.told W.is_kept W.fails c.args.self.now (record c.args.self.now { keeper = c.complete.new.keeper; journal = Some c.complete.new.journal }) s b (Err c.in-Err.fault)
+          (not_asked model c.args.self.now.keeper c.complete.new.keeper s b c.in-Err.fault (says.reads.stays h s e.0)) after;
     }
 
 pub returns-in-Ok : goal.returns-in-Ok
@@ -50,7 +52,7 @@ returns-in-Ok g c =
           let it = says.reads.stays was s e.0 in
           let before = rw c.in-Some.is at e.1 in
           let completed : IsFor W.contents W.told W.is_kept mid s = (says.told before.0, λ tells. says.holds was s e.0 (before.1 tells)) in
-          writes_over model W.contents W.told W.is_kept W.fails _ _ s b c.apply_and_note.result
+          writes_over model W.contents W.told W.is_kept W.fails c.args.self.now (record c.args.self.now { keeper = c.apply_and_note.new.keeper; journal = Some last }) s b c.apply_and_note.result
           (writes_from model c.args.self.now.keeper c.complete.new.keeper c.apply_and_note.new.keeper s b c.apply_and_note.result (model.fails_later _ _ _ says.reads.calls.spared noted.call.spared) (noted.writes h s it))
           (for_after W.contents W.told W.is_kept s b c.apply_and_note.result mid last noted.untouched (noted.noted h s it completed) completed);
     }
@@ -62,7 +64,7 @@ returns-in-None g c =
     let b = batch_value c.args.batch.now in
     let journal = c.args.self.now.journal in
     let says = c.apply.ensures in
-    let applies = λ r. model.applies c.args.self.now.keeper b r c.apply.new.self in
+    let applies : Result Reply Fault → Type 0 = λ r. model.applies c.args.self.now.keeper b r c.apply.new.self in
     record {
       applied = (
         c.args.self.now.keeper,
@@ -70,6 +72,6 @@ returns-in-None g c =
         with_reply applies (ReachesUnless W.fails journal journal) c.apply.result (rw c.in-None.is tt) (of_reply applies c.apply.result says.applied),
       );
       call = call_over model W.contents W.told W.is_kept W.fails says.call;
-      writes = λ h s e. writes_over model W.contents W.told W.is_kept W.fails _ _ s b c.apply.result (says.writes h s e.0)
+      writes = λ h s e. writes_over model W.contents W.told W.is_kept W.fails c.args.self.now (record c.args.self.now { keeper = c.apply.new.self }) s b c.apply.result (says.writes h s e.0)
           (none_for W.contents W.told W.is_kept journal (state_by s b c.apply.result) c.in-None.is);
     }
