@@ -444,3 +444,17 @@ module _ {K T : Type 0} {model : Model K} {a b : K} where
   end_reads (Err (Stopped Damaged)) (inr f) reads = absurd f
   end_reads (Err (Stopped Reopen)) (inl f) reads = absurd f
   end_reads (Err (Stopped Reopen)) (inr f) reads = absurd f
+
+-- the features of a page, as they were handed on
+pub page_part : (later : Bool) (fs gs : List FeatureValue) → fs ≡ gs → part_text later (map feature_value fs) ≡ part_text later gs
+page_part later fs gs h = ap (part_text later) (map-id fs ∙ h)
+
+-- whether features stand before the next page: some did before this one, or it has some
+pub some_before : (b b' x : Bool) → b ≡ true → b' ≡ b → (b || x) ≡ b'
+some_before true b' x h k = sym k
+some_before false b' x h k = absurd cc
+
+pub some_here : (b b' empty : Bool) (fs : List FeatureValue) (n : ℕ) → b ≡ false → length fs ≡ n → empty ≡ (n == 0) → b' ≡ not empty → (b || is_any fs) ≡ b'
+some_here true b' empty fs n h len e k = absurd cc
+some_here false b' empty [] n h len e k = sym (k ∙ ap not (e ∙ ap (λ m. m == 0) (sym len)))
+some_here false b' empty (f ∷ fs) n h len e k = let some : (length (f ∷ fs) == 0) ≡ false = grind (arith, nat_tests) in sym (k ∙ ap not (e ∙ ap (λ m. m == 0) (sym len) ∙ some))
