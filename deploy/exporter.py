@@ -148,6 +148,8 @@ class Requests:
         self.seconds = Histogram(
             "streetmap_request_seconds", "times of nginx", buckets=BUCKETS, registry=own
         )
+        # Prometheus may ask twice at once, and each line is counted once.
+        self.turn = threading.Lock()
         self.file: BinaryIO | None = None
         # What was read of a line that had not ended.
         self.begun = b""
@@ -157,11 +159,14 @@ class Requests:
 
     def read(self) -> None:
         """Counts the lines that were added, also to a file that took the place of another."""
-        with contextlib.suppress(OSError):
+        with self.turn, contextlib.suppress(OSError):
             self.read_on()
             there = self.path.stat()
             if self.file is None or not os.path.samestat(os.fstat(self.file.fileno()), there):
-                self.file, self.begun = self.path.open("rb"), b""
+                new = self.path.open("rb")
+                if self.file is not None:
+                    self.file.close()
+                self.file, self.begun = new, b""
                 self.read_on()
 
     def read_on(self) -> None:
