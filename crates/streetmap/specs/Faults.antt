@@ -1,4 +1,4 @@
--- What the program ends with where a file, a text or a stream fails.
+-- What the program ends with if a file, a text or a stream fails.
 use Rattle.std.specs.Prelude.{Result, Ok, Err}
 use Rattle.std.specs.declared.io.ErrorKind.{ErrorKind}
 use Rattle.std.specs.declared.io.ErrorKind.TheVariants as kinds
@@ -49,7 +49,7 @@ abbrev pub cause_of_store : StoreError → OpenCause
 cause_of_store (errors.SqliteFailure code) = cause_of_code code
 cause_of_store _ = causes.Other
 
--- why a file is not opened, by the error of a look at it or at its folder
+-- why a file is not opened, by the error of opening it or its folder
 abbrev pub cause_of_file : ErrorKind → OpenCause
 cause_of_file kinds.NotFound = causes.NoFolder
 cause_of_file kinds.NotADirectory = causes.NoFolder
@@ -63,14 +63,14 @@ cause_of_port kinds.AddrInUse = ports.Taken
 cause_of_port kinds.PermissionDenied = ports.NoRight
 cause_of_port _ = ports.Other
 
--- where no file is made
+-- if no file is made
 abbrev pub fault_of_create : CreateFault → ProgramFault
 fault_of_create creation.NotOurs = NotOurs
 fault_of_create creation.Taken = Taken
 fault_of_create (creation.Device error) = NotOpened (cause_of_store error)
 fault_of_create creation.Memory = Memory
 
--- where a file is not opened
+-- if a file is not opened
 abbrev pub fault_of_open : OpenFault → ProgramFault
 fault_of_open opening.NotOurs = NotOurs
 fault_of_open opening.NewFormat = NewFormat
@@ -78,19 +78,19 @@ fault_of_open opening.Damaged = Damaged
 fault_of_open (opening.Device error) = NotOpened (cause_of_store error)
 fault_of_open opening.Memory = Memory
 
--- where a keeper does not answer
+-- if a keeper does not answer
 abbrev pub fault_of_keeper : KeeperFault → ProgramFault
 fault_of_keeper keeper.Memory = Memory
 fault_of_keeper keeper.Damaged = Damaged
 fault_of_keeper keeper.Device = Device
 fault_of_keeper keeper.Reopen = Device
 
--- where a journal cannot be opened
+-- if a journal cannot be opened
 abbrev pub fault_of_journal : ErrorKind → ProgramFault
 fault_of_journal kinds.OutOfMemory = Memory
 fault_of_journal kind = NoJournal
 
--- where a journal is not begun
+-- if a journal is not begun
 abbrev pub fault_of_start : StartFault → ProgramFault
 fault_of_start starting.Ahead = JournalAhead
 fault_of_start (starting.Other serial) = NotItsJournal serial
@@ -98,32 +98,32 @@ fault_of_start (starting.NotOpened error) = fault_of_journal (error_kind error)
 fault_of_start starting.NotRead = ReadFailed
 fault_of_start (starting.Stopped fault) = fault_of_keeper fault
 
--- where a replay does not come to its end
+-- if a replay does not end well
 abbrev pub fault_of_replay : ReplayStop → ProgramFault
 fault_of_replay (replay.Kept fault) = fault_of_keeper fault
 fault_of_replay (replay.Fresh fault) = fault_of_keeper fault
 fault_of_replay replay.Memory = Memory
 
--- where the rows of a file are not told to be a state's
+-- if the rows of a file are not a state's
 abbrev pub fault_of_check : CheckFault → ProgramFault
 fault_of_check checking.Damaged = Damaged
 fault_of_check (checking.Device error) = Device
 fault_of_check checking.Memory = Memory
 
--- where a stream of requests ended so
+-- after a stream of requests
 abbrev pub end_of_stream : End → Result (Unit {0}) ProgramFault
 end_of_stream stream.Ended = Ok tt
 end_of_stream stream.Truncated = Ok tt
 end_of_stream stream.ReadFailed = Err ReadFailed
 end_of_stream stream.WriteFailed = Err WriteFailed
 
--- where a text cannot be had
+-- if a text cannot be read
 abbrev pub fault_of_text : ErrorKind → ProgramFault
 fault_of_text kinds.NotFound = NoText
 fault_of_text kinds.OutOfMemory = Memory
 fault_of_text _ = ReadFailed
 
--- where lines of batches were followed so far
+-- after lines of batches were followed
 abbrev pub end_of_lines : Followed → FollowEnd → Result (Unit {0}) ProgramFault
 end_of_lines it following.All = Ok tt
 end_of_lines it _ = Err (Follow it)

@@ -1,2 +1,4 @@
 pub mod Faults
 pub mod Counted
+pub mod Kept
+pub mod Piped

@@ -9,7 +9,7 @@ use streetmap_memory::PlainKeeper;
 use streetmap_replay::{ReplayFault, check_replay};
 use streetmap_store::TableKeeper;
 
-/// Tells how many collections, features and batches there are, where the rows are those of a state.
+/// Prints how many collections, features and batches there are, if the rows are those of a state.
 pub(crate) fn check<S: Alter + Drop>(
     rt: &HostRuntime,
     keeper: TableKeeper<S>,

@@ -1,4 +1,4 @@
-//! What the program ends with where the words, a file, a text or a stream fails.
+//! What the program ends with if its arguments, a file, a text or a stream fails.
 ghost use Rattle.std.specs.Prelude.{◌≡◌, ◌≢◌};
 ghost use Rattle.std.specs.IoError.{error_kind};
 ghost use Rattle.streetmap.specs.Faults.{fault_of_create, fault_of_open, fault_of_check};
@@ -67,7 +67,7 @@ pub(crate) fn of_start(fault: &StartFault) -> ProgramFault
     }
 }
 
-/// How the program ends where a stream of requests ended so.
+/// How the program ends after a stream of requests.
 pub(crate) fn of_stream(end: End) -> Result<(), ProgramFault>
     ensures { result ≡ end_of_stream end }
 {
@@ -89,7 +89,7 @@ fn of_store(error: &StoreError) -> OpenCause
     }
 }
 
-/// Why a file is not opened, by the error of a look at it or at its folder.
+/// Why a file is not opened, by the error of opening it or its folder.
 pub(crate) fn of_file(error: &Error) -> OpenCause
     ensures { result ≡ cause_of_file (error_kind error.now) }
 {
@@ -147,7 +147,7 @@ pub(crate) fn of_keeper(fault: Fault) -> ProgramFault
     }
 }
 
-/// The fault of rows that are not told to be a state's.
+/// The fault of rows that are not a state's.
 pub(crate) fn of_check(fault: &CheckFault) -> ProgramFault
     ensures { result ≡ fault_of_check fault.now }
 {
@@ -158,7 +158,7 @@ pub(crate) fn of_check(fault: &CheckFault) -> ProgramFault
     }
 }
 
-/// The fault of a replay that does not come to its end.
+/// The fault of a replay that does not end well.
 pub(crate) fn of_replay(stop: ReplayStop) -> ProgramFault
     ensures { result ≡ fault_of_replay stop }
 {
@@ -169,7 +169,7 @@ pub(crate) fn of_replay(stop: ReplayStop) -> ProgramFault
     }
 }
 
-/// How the program ends where lines of batches were followed so far.
+/// How the program ends after lines of batches were followed.
 pub(crate) fn of_followed(followed: Followed) -> Result<(), ProgramFault>
     ensures { result ≡ end_of_followed followed }
 {

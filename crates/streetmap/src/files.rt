@@ -1,6 +1,7 @@
-//! The keeper of a file: here alone its store is named.
+//! What the commands do with a file: whether it exists, and over which keeper they work.
 use crate::exchange::read_batch;
 use crate::same::{parts, refuse_same};
+use crate::served::{pipe_file, serve_file};
 use crate::tasks::{Task, Work};
 use crate::{fault, loading};
 use sqlite::Unknown;
@@ -11,12 +12,12 @@ use streetmap_faults::{OpenCause, ProgramFault};
 use streetmap_placing::Numbers;
 use streetmap_routes::Base;
 
-/// Whether there is a file of that name.
+/// Whether a file of that name exists.
 fn is_there(rt: &HostRuntime, path: &str) -> Result<bool, ProgramFault> {
     exists(rt, path).map_err(|error| ProgramFault::NotOpened(fault::of_file(&error)))
 }
 
-/// Refuses a file that is not there.
+/// Refuses a file that does not exist.
 fn refuse_missing(rt: &HostRuntime, path: &str) -> Result<(), ProgramFault> {
     if is_there(rt, path)? {
         Ok(())
@@ -25,7 +26,7 @@ fn refuse_missing(rt: &HostRuntime, path: &str) -> Result<(), ProgramFault> {
     }
 }
 
-/// Why a file is not opened, by a look at it, or at its folder if it is not there.
+/// Why a file is not opened: the file is examined, or its folder if it does not exist.
 fn cause_at(rt: &HostRuntime, path: &str) -> OpenCause {
     match OpenOptions::new().read(true).write(true).open(rt, path) {
         Ok(_) => OpenCause::Other,
@@ -38,14 +39,14 @@ fn cause_at(rt: &HostRuntime, path: &str) -> OpenCause {
 }
 
 /// The fault of a file that is not opened, with its cause if the store does not know it.
-fn with_cause(rt: &HostRuntime, path: &str, fault: ProgramFault) -> ProgramFault {
+pub(crate) fn with_cause(rt: &HostRuntime, path: &str, fault: ProgramFault) -> ProgramFault {
     match fault {
         ProgramFault::NotOpened(OpenCause::Other) => ProgramFault::NotOpened(cause_at(rt, path)),
         fault => fault,
     }
 }
 
-/// Makes an empty file where there is none.
+/// Makes an empty file if there is none.
 fn make(rt: &HostRuntime, path: &str) -> Result<(), ProgramFault> {
     match streetmap_store::create(rt, path, Unknown) {
         Ok(_keeper) => Ok(()),
@@ -62,7 +63,7 @@ pub(crate) fn create(rt: &HostRuntime, path: &str) -> Result<(), ProgramFault> {
     }
 }
 
-/// Does something over the keeper of a file that is there.
+/// Does something over the keeper of a file that exists.
 fn run_over(rt: &HostRuntime, path: &str, task: Task<'_>) -> Result<(), ProgramFault> {
     match streetmap_store::open(rt, path, Unknown) {
         Ok(keeper) => task.run(rt, keeper),
@@ -73,7 +74,7 @@ fn run_over(rt: &HostRuntime, path: &str, task: Task<'_>) -> Result<(), ProgramF
 /// Serves the requests of standard input over a file.
 pub(crate) fn pipe(rt: &HostRuntime, path: &str, base: Base) -> Result<(), ProgramFault> {
     refuse_missing(rt, path)?;
-    run_over(rt, path, Task::Pipe(base))
+    fault::of_stream(pipe_file(rt, path, Unknown, &base)?.end)
 }
 
 /// Writes a collection of a file on standard output.
@@ -91,13 +92,13 @@ pub(crate) fn export(
     run_over(rt, path, Task::Work(work))
 }
 
-/// Prints the kept batches of a file behind a serial.
+/// Prints the kept batches of a file after a serial.
 pub(crate) fn print_batches(rt: &HostRuntime, path: &str, after: u32) -> Result<(), ProgramFault> {
     refuse_missing(rt, path)?;
     run_over(rt, path, Task::Work(Work::Batches { after }))
 }
 
-/// The bytes of a file; 0 if it is not there.
+/// The bytes of a file; 0 if it does not exist.
 fn length_of(rt: &HostRuntime, path: &str) -> u64 {
     metadata(rt, path).map_or(0, |found| found.len())
 }
@@ -124,15 +125,10 @@ pub(crate) fn serve(
         refuse_same(rt, path, asked.path)?;
     }
     tell_size(rt, path);
-    let task = Task::Serve {
-        connections,
-        base,
-        journal,
-    };
-    run_over(rt, path, task)
+    serve_file(rt, path, Unknown, connections, base, journal)?.ended
 }
 
-/// Reads all rows of a file; before that its kept batches are replayed, where that is asked for.
+/// Reads all rows of a file; before that its kept batches are replayed, if that is asked for.
 pub(crate) fn check(rt: &HostRuntime, path: &str, replay: bool) -> Result<(), ProgramFault> {
     refuse_missing(rt, path)?;
     if replay {
@@ -176,7 +172,7 @@ pub(crate) fn apply(rt: &HostRuntime, path: &str, text: Option<&str>) -> Result<
     run_over(rt, path, Task::Work(Work::Apply { text }))
 }
 
-/// Looks whether a text is there, where one is named, and is another than the file.
+/// Checks that a text exists, if one is named, and is another than the file.
 fn look_for(rt: &HostRuntime, file: &str, text: Option<&str>) -> Result<(), ProgramFault> {
     let Some(path) = text else {
         return Ok(());

@@ -1,6 +1,8 @@
 //! The journal beside a file that is served: how it is begun, and what it is written to.
-ghost use Rattle.std.specs.Prelude.{◌≡◌, ◌≤◌, true};
+ghost use Rattle.std.specs.Prelude.{◌≡◌, ◌≤◌, true, IfOk, IsOk};
+ghost use Rattle.streetmap_journal.specs.Telling.{WriterIsTold};
 ghost use Rattle.streetmap.specs.Counted.{HasFailed};
+ghost use Rattle.streetmap.specs.Kept.{IsKept};
 
 use crate::fault;
 use std::fs::{File, OpenOptions};
@@ -16,21 +18,21 @@ use streetmap_text_lines::{NotWritten, write_bytes};
 pub(crate) struct JournalFile {
     /// The file, open for appending.
     file: File,
-    /// Where it is told that lines are missing, and that they no longer are.
+    /// Where it is reported that lines are missing, and that they no longer are.
     messages: Stderr,
     /// Whether lines are synchronised before answers.
     syncs: bool,
-    /// The serial from which on it was told that lines are missing.
+    /// The serial from which on lines were reported missing.
     told: Option<u64>,
-    /// Whether all that was written was synchronised, where that is asked for. Of this and of the
-    /// next field the contract speaks, and no code reads them.
+    /// Whether all that was written was synchronised, if that is asked for. The contract speaks of
+    /// this and the next field, and no code reads them.
     is_kept: bool,
-    /// How many writes and synchronisings failed: as many at least, where it is the most of 64
+    /// How many writes and synchronisations failed: that many at least, if it is the most of 64
     /// bits.
     failures: u64,
 }
 
-/// A failure more.
+/// One failure more.
 fn one_more(failures: u64) -> u64
     ensures grows { failures ≤ result }
     ensures failed { HasFailed failures result }
@@ -140,9 +142,14 @@ pub(crate) fn begin<K: KeepsBatches>(
     rt: &HostRuntime,
     keeper: &mut K,
     asked: JournalAsked<'_>,
-) -> Result<Journal<JournalFile>, ProgramFault> {
+) -> Result<Journal<JournalFile>, ProgramFault>
+    ensures kept { IsKept K.model keeper.old keeper.new (IsOk result) }
+    ensures told { IfOk result (λ journal. WriterIsTold ⟦<JournalFile as JournalWriter>⟧.told
+        ⟦<JournalFile as JournalWriter>⟧.is_kept journal) }
+{
     let mut place = JournalPath { rt, asked };
-    start_journal(rt.alloc(), keeper, asked.after as u64, &mut place).map_err(
-        |refused| fault::of_start(&refused),
-    )
+    match start_journal(rt.alloc(), keeper, asked.after as u64, &mut place) {
+        Ok(journal) => Ok(journal),
+        Err(refused) => Err(fault::of_start(&refused)),
+    }
 }

@@ -17,22 +17,21 @@ use streetmap_placing::{Fractions, Numbers};
 const DEGREES: &str = "All coordinates lie within 360 of 0: are they degrees? \
     Streetmap wants metres or so; see --scale.";
 
-/// What a load under way is told to: lines on standard error.
+/// What a load under way reports to: lines on standard error.
 #[derive(Drop)]
 struct LoadLines<'a, W> {
     rt: &'a HostRuntime,
     pace: Pace,
     /// Where lines of features at fault go.
     faults: W,
-    /// Where lines of how far the load is go: none are written where there is nothing.
+    /// Where lines of progress go, if they are written.
     progress: Option<ProgressOutput<W>>,
-    /// How many features were passed over.
+    /// How many features were skipped.
     passed_over: &'a mut u64,
 }
 
 impl<'a> LoadLines<'a, Stderr> {
-    /// Lines on standard error, those of how far the load is where it is asked for, or where that
-    /// is a terminal.
+    /// Lines on standard error, those of progress if they are asked for, or if that is a terminal.
     fn new(
         rt: &'a HostRuntime,
         asked: LoadAsked<'_>,
@@ -91,8 +90,8 @@ fn shift_of(asked: LoadAsked<'_>) -> Result<Option<Shift>, ProgramFault> {
     }
 }
 
-/// How the numbers of features are to be read. A scale that is none, or is 0 or less, and a shift
-/// that is none are usage faults.
+/// How the numbers of features are to be read. A scale that is not a number above 0, and a shift
+/// that is not two numbers, are usage faults.
 pub(crate) fn numbers_of(asked: LoadAsked<'_>) -> Result<Numbers, ProgramFault> {
     let rounding = if asked.rounds {
         Rounding::Nearest
@@ -141,8 +140,8 @@ fn opened_times(rt: &HostRuntime, asked: LoadAsked<'_>) -> Result<HeldTimes, Pro
     Ok(HeldTimes { property })
 }
 
-/// The property that times of features are held to where faults are passed over: that of the
-/// opening, or of the collection that is there.
+/// The property that times of features are held to if faults are skipped: that of the opening, or
+/// of the collection that exists.
 fn times_of<K: Keeper>(
     rt: &HostRuntime,
     sink: &mut KeeperSink<K>,
@@ -174,7 +173,7 @@ fn warn_of_degrees<K: Keeper>(rt: &HostRuntime, keeper: &mut K, asked: LoadAsked
     }
 }
 
-/// What the load came to is printed, where it came to its end, or why it ended before.
+/// Prints the result of a load if it reached its end; else returns why it ended before.
 fn end(
     rt: &HostRuntime,
     asked: LoadAsked<'_>,
@@ -248,7 +247,7 @@ fn load_from<K: Keeper, R: Read + Drop>(
     done
 }
 
-/// Sends the features of an input where it is asked for.
+/// Loads or prints the features of an input, as asked for.
 fn send<K: Keeper, R: Read + Drop>(
     rt: &HostRuntime,
     sink: &mut KeeperSink<K>,

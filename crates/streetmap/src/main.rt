@@ -2,11 +2,12 @@
 //! and exported, or read and changed by lines.
 //!
 //! Modules, in the order of reading: `files` (the keeper of a file), `tasks` (what the commands do
-//! over it), and one for each group of commands: `serving` (`serve`, `pipe`), with `journal` below
-//! it, `exchange` (`import`, `export`), with `texts` and `progress` below it, `loading` (`load`),
-//! `batches` (`batches`, `apply`), `checking` (`check`), `lines` (`lines`), `help` (help).
-//! `fault` turns faults of the crates below into that of the program, and `report` prints them. The
-//! command line, what is printed for a fault, and what the commands do in turn, stand in those crates.
+//! over it), and one for each group of commands: `served` (`serve`, `pipe`), with `serving` and
+//! `journal` below it, `exchange` (`import`, `export`), with `texts` and `progress` below it,
+//! `loading` (`load`), `batches` (`batches`, `apply`), `checking` (`check`), `lines` (`lines`),
+//! `help` (help). `fault` turns faults of the crates below into that of the program, and `report`
+//! prints them. The command line, what is printed for a fault, and what the commands do in turn are
+//! in those crates.
 #![tactic(auto)]
 
 mod batches;
@@ -21,6 +22,7 @@ mod loading;
 mod progress;
 mod report;
 mod same;
+mod served;
 mod serving;
 mod tasks;
 mod texts;
@@ -31,7 +33,7 @@ use streetmap_command::{Command, VERSION, read_command};
 use streetmap_faults::ProgramFault;
 use streetmap_routes::Base;
 
-/// The words of the command line, of which the first is the program's name.
+/// The arguments of the command line, the first of which is the program's name.
 fn words_of(rt: &HostRuntime) -> Result<Vec<String>, ProgramFault> {
     let mut words = Vec::new(rt.alloc());
     for word in env::args(rt).map_err(|error| fault::of_words(&error))? {
@@ -40,12 +42,12 @@ fn words_of(rt: &HostRuntime) -> Result<Vec<String>, ProgramFault> {
     Ok(words)
 }
 
-/// Does what the words ask for.
+/// Does what the arguments ask for.
 fn run(rt: &HostRuntime, words: &[String]) -> Result<(), ProgramFault> {
     perform(rt, read_command(rt.alloc(), words)?)
 }
 
-/// Does what a command asks for. A base of links is judged before the file is looked for.
+/// Does what a command asks for. A base of links is checked before the file is.
 fn perform(rt: &HostRuntime, command: Command<'_>) -> Result<(), ProgramFault> {
     match command {
         Command::Help(topic) => help::print(rt, topic),

@@ -12,8 +12,8 @@ pub(crate) struct ProgressOutput<W> {
     overwrites: bool,
 }
 
-/// Standard error, if it is asked for how far a command is, or if that is a terminal. There each line
-/// is written over the one before, unless the command prints on a terminal as well.
+/// Standard error, if progress is asked for, or if that is a terminal. There each line is written
+/// over the one before, unless the command prints on a terminal as well.
 pub(crate) fn output(
     rt: &HostRuntime,
     is_asked: bool,
@@ -45,10 +45,10 @@ impl<W: Write> ProgressOutput<W> {
     }
 }
 
-/// Writes a line for each thousand features of an import or an export, where there is an output.
+/// Writes a line for each thousand features of an import or an export, if there is an output.
 #[derive(Drop)]
 pub(crate) struct ProgressLines<W> {
-    /// Where the lines go: none are written where there is nothing.
+    /// Where the lines go, if they are written.
     pub(crate) output: Option<ProgressOutput<W>>,
 }
 
@@ -75,9 +75,9 @@ impl<W: Write> Progress for ProgressLines<W> {
 /// When a load began, and how long its text is.
 #[derive(Clone, Copy, Drop)]
 pub(crate) struct Pace {
-    /// Nothing where the clock could not be read.
+    /// None if the clock could not be read.
     began: Option<Instant>,
-    /// In bytes; 0 where that is not known.
+    /// In bytes; 0 if that is not known.
     length: u64,
 }
 

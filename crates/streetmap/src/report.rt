@@ -5,9 +5,9 @@ use streetmap_command::{is_explained, usage_sentence};
 use streetmap_faults::{ProgramFault, Sentence};
 use streetmap_loading::{End, TextFault};
 
-/// Prints the line of a fault. A sentence on it follows if that is asked for, if standard error is a
-/// terminal, and always for a text that is no sequence of features. Features that were passed over,
-/// a collection that is another in a replay, and a store that failed while it was served have their
+/// Prints the line of a fault. A sentence on it follows if that is asked for, if standard error is
+/// a terminal, and always for a text that is no sequence of features. Features that were skipped,
+/// a collection that differs in a replay, and a store that failed while it was served have their
 /// lines already. A line that cannot be written is left out.
 pub(crate) fn print(rt: &HostRuntime, words: &[String], fault: ProgramFault) {
     if !matches!(

@@ -20,7 +20,7 @@ pub(crate) fn parts(path: &str) -> (&str, &str) {
     }
 }
 
-/// Refuses a path that names the file, or the log beside it, also where the log is not there yet:
+/// Refuses a path that names the file, or the log beside it, also if the log does not exist yet:
 /// while the file is in use nothing else of the program may open these.
 pub(crate) fn refuse_same(rt: &HostRuntime, file: &str, path: &str) -> Result<(), ProgramFault> {
     let log = format!(in rt.alloc(); "{file}-wal")?;

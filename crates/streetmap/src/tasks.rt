@@ -1,26 +1,17 @@
-//! What the commands do over the keeper of a file, whatever store it stands on.
-use crate::{batches, checking, exchange, loading, serving};
+//! What the commands do over the keeper of a file, whatever store it has.
+use crate::{batches, checking, exchange, loading};
 use sqlite::Alter;
 use streetmap_batch::Batch;
-use streetmap_command::{Connections, JournalAsked, LoadAsked};
+use streetmap_command::LoadAsked;
 use streetmap_faults::ProgramFault;
 use streetmap_index::IndexedKeeper;
-use streetmap_ledger::KeepsBatches;
+use streetmap_ledger::{KeepsBatches, Outlined};
 use streetmap_loading::Load;
-use streetmap_routes::Base;
 use streetmap_store::TableKeeper;
 
 /// What is done over the keeper of a file.
 #[derive(Drop)]
 pub(crate) enum Task<'a> {
-    /// The requests of standard input are served on standard output.
-    Pipe(Base),
-    /// Connections are served, and what is accepted is written to a journal.
-    Serve {
-        connections: Connections,
-        base: Base,
-        journal: Option<JournalAsked<'a>>,
-    },
     /// All rows are read, and it is printed how many there are.
     Check,
     /// What can be done over any keeper.
@@ -32,39 +23,27 @@ pub(crate) enum Task<'a> {
 pub(crate) enum Work<'a> {
     /// The batch that a text was read into is applied, and its reply is printed.
     Import(Batch),
-    /// A collection is written on standard output; with `progress` lines on standard error tell how
-    /// far it is.
+    /// A collection is written on standard output; with `progress` lines on standard error report
+    /// how far it is.
     Export { collection: &'a str, progress: bool },
     /// The kept batches are replayed, and compared with what the file shows.
     Replay,
     /// The features of a text are put into a collection by batches.
     Load { load: Load, asked: LoadAsked<'a> },
-    /// The kept batches behind a serial are printed.
+    /// The kept batches after a serial are printed.
     Batches { after: u32 },
     /// The lines of a text, or of standard input, are applied.
     Apply { text: Option<&'a str> },
 }
 
 impl Task<'_> {
-    /// Does it over a keeper, with an index in memory where features are asked for.
+    /// Does it over a keeper, with an index in memory if features are asked for.
     pub(crate) fn run<S: Alter + Drop>(
         self,
         rt: &HostRuntime,
         keeper: TableKeeper<S>,
     ) -> Result<(), ProgramFault> {
         match self {
-            Task::Pipe(base) => serving::pipe(rt, IndexedKeeper::new(rt.alloc(), keeper), base),
-            Task::Serve {
-                connections,
-                base,
-                journal,
-            } => serving::serve(
-                rt,
-                IndexedKeeper::new(rt.alloc(), keeper),
-                connections,
-                base,
-                journal,
-            ),
             Task::Check => checking::check(rt, keeper),
             Task::Work(work) => work.run(rt, keeper),
         }
@@ -72,8 +51,12 @@ impl Task<'_> {
 }
 
 impl Work<'_> {
-    /// Does it over a keeper, with an index in memory where features are asked for.
-    fn run<K: KeepsBatches + Drop>(self, rt: &HostRuntime, keeper: K) -> Result<(), ProgramFault> {
+    /// Does it over a keeper, with an index in memory if features are asked for.
+    fn run<K: KeepsBatches + Outlined + Drop>(
+        self,
+        rt: &HostRuntime,
+        keeper: K,
+    ) -> Result<(), ProgramFault> {
         let mut keeper = keeper;
         match self {
             Work::Import(batch) => exchange::apply_batch(rt, &mut keeper, &batch),

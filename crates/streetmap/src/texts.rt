@@ -11,7 +11,7 @@ use streetmap_faults::ProgramFault;
 /// text that is too large is seen to be so, and is not read to its end.
 const MOST_READ: u64 = 8_388_609;
 
-/// The bytes of a text, or the first of them where it is too large.
+/// The bytes of a text, or the first of them if it is too large.
 fn read_first<R: Read + Drop>(alloc: Global, reader: R) -> Result<Vec<u8>, ProgramFault>
     ensures { IfOk result (λ text.
         IfSome (R.remaining reader) (λ all. text.items ≡ take 8388609 all)) }
@@ -24,7 +24,7 @@ fn read_first<R: Read + Drop>(alloc: Global, reader: R) -> Result<Vec<u8>, Progr
     }
 }
 
-/// Reads the text of a file, or its first bytes where it is too large.
+/// Reads the text of a file, or its first bytes if it is too large.
 pub(crate) fn read(rt: &HostRuntime, path: &str) -> Result<Vec<u8>, ProgramFault> {
     match File::open(rt, path) {
         Ok(file) => read_first(rt.alloc(), file),

@@ -15,6 +15,9 @@ use Rattle.streetmap_feature_text.specs.Written.{feature_data}
 use Rattle.streetmap_feature_text.proofs.WrittenParts.{collection_text_is}
 use Rattle.streetmap_query.specs.QueryValue.{QueryValue}
 use Rattle.streetmap_batch.specs.Text.{Text}
+use Rattle.streetmap_ledger.specs.Model.{Model}
+use Rattle.streetmap_replay.specs.Calls.{AreReads}
+use Rattle.streetmap_replay.proofs.CallsInTurn.{then_lost}
 use Rattle.streetmap_ledger.specs.State.{State, Collection}
 use Rattle.streetmap_ledger.specs.WellFormed.{IsState}
 use Rattle.streetmap_ledger.specs.Pages.{PageValue, selected, page_over, page_in}
@@ -24,7 +27,7 @@ use Rattle.streetmap_ledger.specs.declared.reply.Fault.TheVariants.{Memory, Devi
 use Rattle.streetmap_exchange.specs.declared.fault.ExportFault.{ExportFault}
 use Rattle.streetmap_exchange.specs.declared.fault.ExportFault.TheVariants.{NoCollection, Stopped}
 use Rattle.streetmap_exchange.specs.declared.fault.ExportFault.TheVariants.{WriteFailed, FlushFailed}
-use Rattle.streetmap_exchange.specs.ExportFaults.{IsWriteFault, IsEndFault}
+use Rattle.streetmap_exchange.specs.ExportFaults.{IsWriteFault, IsEndFault, export_answer}
 use Rattle.streetmap_exchange.specs.Exports.{export_text, features_in, WritesAll, WritesSome}
 use Rattle.streetmap_exchange.specs.Exports.{WritesLess, WritesSomeIf, Exports, ShowsPart}
 use Rattle.streetmap_exchange.specs.Exports.{part_query, part_text}
@@ -288,8 +291,8 @@ breaks_off_less s name old a b later page u w =
     (less_longer a b part l.0 w)))
 
 -- the page is not written yet, so not all of the text is
-pub stands_less : (s : State) (name : Text) (old a : Option (List ℕ)) (later : Bool) (page : PageValue) → Underway s name old a later page → WritesLess (features_in s name) old a
-stands_less s name old a later page u =
+pub less_written : (s : State) (name : Text) (old a : Option (List ℕ)) (later : Bool) (page : PageValue) → Underway s name old a later page → WritesLess (features_in s name) old a
+less_written s name old a later page u =
     let l = left_of s name old a later page u in
     let part = part_text later page.features in
     let some : 0 < length (part ++ l.0) = omega (arith, length-append part l.0, l.1.some) in
@@ -311,10 +314,10 @@ ends_less s name old a b c later page u none w v =
     (part_text later page.features ++ closing) u.written both))
 
 -- the page is not written yet
-pub stands_still : (s : State) (name : Text) (old a : Option (List ℕ)) (later : Bool) (page : PageValue) → Underway s name old a later page → WritesSome (features_in s name) old a
-stands_still s name old a later page u = breaks_off s name old a a later page u ([], refl, Appends-nil a)
+pub still_written : (s : State) (name : Text) (old a : Option (List ℕ)) (later : Bool) (page : PageValue) → Underway s name old a later page → WritesSome (features_in s name) old a
+still_written s name old a later page u = breaks_off s name old a a later page u ([], refl, Appends-nil a)
 
--- a beginning of what stands before the pages is written
+-- a beginning of what comes before the pages is written
 pub begins_early : (s : State) (name : Text) (old new : Option (List ℕ)) (page : PageValue) →
     page_in s name (part_query None) ≡ Some page → AppendsBeginning old new opening →
     WritesSome (features_in s name) old new
@@ -337,9 +340,9 @@ begins_less s name old new page h w =
     (less_longer old new opening (part_text false fs ++ closing) w))
 
 -- the page is written, and no other
-pub stands_between : (s : State) (name : Text) (old a b : Option (List ℕ)) (later : Bool) (page : PageValue) → Underway s name old a later page
+pub part_written : (s : State) (name : Text) (old a b : Option (List ℕ)) (later : Bool) (page : PageValue) → Underway s name old a later page
     → Appends a b (part_text later page.features) → WritesSome (features_in s name) old b
-stands_between s name old a b later page u w =
+part_written s name old a b later page u w =
     breaks_off s name old a b later page u (beginning_all a b (part_text later page.features) w)
 
 -- ---- how an export ends
@@ -353,80 +356,94 @@ none_if None old = Keeps-refl old
 none_if (Some fs) old = ([], refl, Appends-nil old)
 
 -- by a write that failed
-write_ends-by : (T : Type 0) (s : State) (name : Text) (e : ExportFault) (old new : Option (List ℕ)) (stands : State → Type 0) → IsWriteFault e → WritesSome (features_in s name) old new
-    → (e ≡ WriteFailed → WritesLess (features_in s name) old new) → stands s → Exports {T = T} s name (Err e) old new stands
-write_ends-by T s name NoCollection old new stands f w less h = absurd f
-write_ends-by T s name WriteFailed old new stands f w less h = (less refl, h)
-write_ends-by T s name FlushFailed old new stands f w less h = absurd f
-write_ends-by T s name (Stopped Memory) old new stands f w less h = (some_if (features_in s name) old new w, h)
-write_ends-by T s name (Stopped Device) old new stands f w less h = absurd f
-write_ends-by T s name (Stopped Damaged) old new stands f w less h = absurd f
-write_ends-by T s name (Stopped Reopen) old new stands f w less h = absurd f
+write_ends-by : (T : Type 0) (s : State) (name : Text) (e : ExportFault) (old new : Option (List ℕ)) → IsWriteFault e → WritesSome (features_in s name) old new
+    → (e ≡ WriteFailed → WritesLess (features_in s name) old new) → Exports {T = T} s name (Err e) old new
+write_ends-by T s name NoCollection old new f w less = absurd f
+write_ends-by T s name WriteFailed old new f w less = less refl
+write_ends-by T s name FlushFailed old new f w less = absurd f
+write_ends-by T s name (Stopped fault) old new f w less = some_if (features_in s name) old new w
 
--- or by a flush behind it
-end_ends-by : (T : Type 0) (s : State) (name : Text) (e : ExportFault) (old new : Option (List ℕ)) (stands : State → Type 0) → IsEndFault e → WritesSome (features_in s name) old new
-    → (e ≡ WriteFailed → WritesLess (features_in s name) old new) → (e ≡ FlushFailed → WritesAll (features_in s name) old new) → stands s → Exports {T = T} s name (Err e) old new stands
-end_ends-by T s name FlushFailed old new stands f w less whole h = (whole refl, h)
-end_ends-by T s name NoCollection old new stands (inl f) w less whole h = absurd f
-end_ends-by T s name NoCollection old new stands (inr f) w less whole h = absurd f
-end_ends-by T s name WriteFailed old new stands f w less whole h = (less refl, h)
-end_ends-by T s name (Stopped Memory) old new stands f w less whole h = (some_if (features_in s name) old new w, h)
-end_ends-by T s name (Stopped Device) old new stands (inl f) w less whole h = absurd f
-end_ends-by T s name (Stopped Device) old new stands (inr f) w less whole h = absurd f
-end_ends-by T s name (Stopped Damaged) old new stands (inl f) w less whole h = absurd f
-end_ends-by T s name (Stopped Damaged) old new stands (inr f) w less whole h = absurd f
-end_ends-by T s name (Stopped Reopen) old new stands (inl f) w less whole h = absurd f
-end_ends-by T s name (Stopped Reopen) old new stands (inr f) w less whole h = absurd f
+-- or by a flush after it
+end_ends-by : (T : Type 0) (s : State) (name : Text) (e : ExportFault) (old new : Option (List ℕ)) → IsEndFault e → WritesSome (features_in s name) old new
+    → (e ≡ WriteFailed → WritesLess (features_in s name) old new) → (e ≡ FlushFailed → WritesAll (features_in s name) old new) → Exports {T = T} s name (Err e) old new
+end_ends-by T s name FlushFailed old new f w less whole = whole refl
+end_ends-by T s name NoCollection old new (inl f) w less whole = absurd f
+end_ends-by T s name NoCollection old new (inr f) w less whole = absurd f
+end_ends-by T s name WriteFailed old new f w less whole = less refl
+end_ends-by T s name (Stopped fault) old new f w less whole = some_if (features_in s name) old new w
 
 is_there : (o : Option Collection) (after : Option Text) (old new : Option (List ℕ)) → option_map (λ (c : Collection). page_over (part_query after) (values c.features)) o ≡ None → WritesSome (option_map (λ (c : Collection). values c.features) o) old new → ⊥
 is_there None after old new h w = w
 is_there (Some c) after old new h w = cc
 
-pub write_ends : {T : Type 0} (s : State) (name : Text) (r : Result T ExportFault) (e : ExportFault) (old new : Option (List ℕ)) (stands : State → Type 0) → r ≡ Err e → IsWriteFault e → WritesSome (features_in s name) old new
-    → (e ≡ WriteFailed → WritesLess (features_in s name) old new) → stands s → Exports s name r old new stands
-write_ends {T} s name r e old new stands is f w less h = subst (λ (x : Result T ExportFault). Exports s name x old new stands) (sym is) (write_ends-by T s name e old new stands f w less h)
+pub write_ends : {T : Type 0} (s : State) (name : Text) (r : Result T ExportFault) (e : ExportFault) (old new : Option (List ℕ)) → r ≡ Err e → IsWriteFault e → WritesSome (features_in s name) old new
+    → (e ≡ WriteFailed → WritesLess (features_in s name) old new) → Exports s name r old new
+write_ends {T} s name r e old new is f w less = subst (λ (x : Result T ExportFault). Exports s name x old new) (sym is) (write_ends-by T s name e old new f w less)
 
--- by a page that was not shown, behind others
-page_ends-by : (T : Type 0) (s : State) (name : Text) (after : Option Text) (e : ExportFault) (old new : Option (List ℕ)) (stands : State → Type 0) → ShowsPart s name after (Err e) stands → WritesSome (features_in s name) old new → Exports {T = T} s name (Err e) old new stands
-page_ends-by T s name after NoCollection old new stands h w = absurd (is_there (get s.collections name) after old new h.0 w)
-page_ends-by T s name after WriteFailed old new stands h w = absurd h
-page_ends-by T s name after FlushFailed old new stands h w = absurd h
-page_ends-by T s name after (Stopped Memory) old new stands h w = (some_if (features_in s name) old new w, h)
-page_ends-by T s name after (Stopped Device) old new stands h w = some_if (features_in s name) old new w
-page_ends-by T s name after (Stopped Damaged) old new stands h w = absurd h
-page_ends-by T s name after (Stopped Reopen) old new stands h w = absurd h
+-- by a page that was not shown, after others
+page_ends-by : (T : Type 0) (s : State) (name : Text) (after : Option Text) (e : ExportFault) (old new : Option (List ℕ)) → ShowsPart s name after (Err e) → WritesSome (features_in s name) old new → Exports {T = T} s name (Err e) old new
+page_ends-by T s name after NoCollection old new h w = absurd (is_there (get s.collections name) after old new h w)
+page_ends-by T s name after WriteFailed old new h w = absurd h
+page_ends-by T s name after FlushFailed old new h w = absurd h
+page_ends-by T s name after (Stopped fault) old new h w = some_if (features_in s name) old new w
 
-pub page_ends : {T : Type 0} (s : State) (name : Text) (after : Option Text) (r : Result T ExportFault) (e : ExportFault) (old new : Option (List ℕ)) (stands : State → Type 0) → r ≡ Err e → ShowsPart s name after (Err e) stands → WritesSome (features_in s name) old new → Exports s name r old new stands
-page_ends {T} s name after r e old new stands is h w = subst (λ (x : Result T ExportFault). Exports s name x old new stands) (sym is) (page_ends-by T s name after e old new stands h w)
+pub page_ends : {T : Type 0} (s : State) (name : Text) (after : Option Text) (r : Result T ExportFault) (e : ExportFault) (old new : Option (List ℕ)) → r ≡ Err e → ShowsPart s name after (Err e) → WritesSome (features_in s name) old new → Exports s name r old new
+page_ends {T} s name after r e old new is h w = subst (λ (x : Result T ExportFault). Exports s name x old new) (sym is) (page_ends-by T s name after e old new h w)
 
 not_there : (o : Option Collection) (after : Option Text) → option_map (λ (c : Collection). page_over (part_query after) (values c.features)) o ≡ None → option_map (λ (c : Collection). values c.features) o ≡ None
 not_there None after h = refl
 not_there (Some c) after h = cc
 
 -- by the first page
-first_ends-by : (T : Type 0) (s : State) (name : Text) (e : ExportFault) (old : Option (List ℕ)) (stands : State → Type 0) → ShowsPart s name None (Err e) stands → Exports {T = T} s name (Err e) old old stands
-first_ends-by T s name NoCollection old stands h = (not_there (get s.collections name) None h.0, Keeps-refl old, h.1)
-first_ends-by T s name WriteFailed old stands h = absurd h
-first_ends-by T s name FlushFailed old stands h = absurd h
-first_ends-by T s name (Stopped Memory) old stands h = (none_if (features_in s name) old, h)
-first_ends-by T s name (Stopped Device) old stands h = none_if (features_in s name) old
-first_ends-by T s name (Stopped Damaged) old stands h = absurd h
-first_ends-by T s name (Stopped Reopen) old stands h = absurd h
+first_ends-by : (T : Type 0) (s : State) (name : Text) (e : ExportFault) (old : Option (List ℕ)) → ShowsPart s name None (Err e) → Exports {T = T} s name (Err e) old old
+first_ends-by T s name NoCollection old h = (not_there (get s.collections name) None h, Keeps-refl old)
+first_ends-by T s name WriteFailed old h = absurd h
+first_ends-by T s name FlushFailed old h = absurd h
+first_ends-by T s name (Stopped fault) old h = none_if (features_in s name) old
 
-pub first_ends : {T : Type 0} (s : State) (name : Text) (r : Result T ExportFault) (e : ExportFault) (old : Option (List ℕ)) (stands : State → Type 0) → r ≡ Err e → ShowsPart s name None (Err e) stands → Exports s name r old old stands
-first_ends {T} s name r e old stands is h = subst (λ (x : Result T ExportFault). Exports s name x old old stands) (sym is) (first_ends-by T s name e old stands h)
+pub first_ends : {T : Type 0} (s : State) (name : Text) (r : Result T ExportFault) (e : ExportFault) (old : Option (List ℕ)) → r ≡ Err e → ShowsPart s name None (Err e) → Exports s name r old old
+first_ends {T} s name r e old is h = subst (λ (x : Result T ExportFault). Exports s name x old old) (sym is) (first_ends-by T s name e old h)
 
--- by what stands behind the features
-pub end_exports : {T : Type 0} (s : State) (name : Text) (old a b c : Option (List ℕ)) (later : Bool) (page : PageValue) (r : Result T ExportFault) (stands : State → Type 0) → Underway s name old a later page → page.next ≡ None
+-- by what comes after the features
+pub end_exports : {T : Type 0} (s : State) (name : Text) (old a b c : Option (List ℕ)) (later : Bool) (page : PageValue) (r : Result T ExportFault) → Underway s name old a later page → page.next ≡ None
     → Appends a b (part_text later page.features) → OnOk r (Appends b c closing)
     → OnErr r (AppendsBeginning b c closing) → (r ≡ Err WriteFailed → AppendsLess b c closing)
-    → (r ≡ Err FlushFailed → Appends b c closing) → IfErr r IsEndFault → stands s
-    → Exports s name r old c stands
-end_exports s name old a b c later page (Ok done) stands u none w ok err less whole f h = (finished s name old a b c later page u none w ok, h)
-end_exports {T} s name old a b c later page (Err e) stands u none w ok err less whole f h =
-    end_ends-by T s name e old c stands f (ends_early s name old a b c later page u none w err)
+    → (r ≡ Err FlushFailed → Appends b c closing) → IfErr r IsEndFault
+    → Exports s name r old c
+end_exports s name old a b c later page (Ok done) u none w ok err less whole f = finished s name old a b c later page u none w ok
+end_exports {T} s name old a b c later page (Err e) u none w ok err less whole f =
+    end_ends-by T s name e old c f (ends_early s name old a b c later page u none w err)
     (λ is. ends_less s name old a b c later page u none w (less (ap (λ x. Err x) is)))
-    (λ is. finished s name old a b c later page u none w (whole (ap (λ x. Err x) is))) h
+    (λ is. finished s name old a b c later page u none w (whole (ap (λ x. Err x) is)))
+
+-- ---- the keeper
+
+module _ {K T : Type 0} {model : Model K} {a b : K} where
+  -- a write failed
+  pub write_reads : (r : Result T ExportFault) (e : ExportFault) → r ≡ Err e → IsWriteFault e → AreReads model a b (Some (Ok tt)) → AreReads model a b (export_answer r)
+  write_reads r e is f reads = subst (λ (x : Result T ExportFault). AreReads model a b (export_answer x)) (sym is) (by_fault e f) where
+    by_fault : (e : ExportFault) → IsWriteFault e → AreReads model a b (export_answer {T = T} (Err e))
+    by_fault NoCollection f = reads
+    by_fault WriteFailed f = reads
+    by_fault FlushFailed f = reads
+    by_fault (Stopped Memory) f = then_lost reads
+    by_fault (Stopped Device) f = absurd f
+    by_fault (Stopped Damaged) f = absurd f
+    by_fault (Stopped Reopen) f = absurd f
+
+  -- or not, or a flush did
+  pub end_reads : (r : Result T ExportFault) → IfErr r IsEndFault → AreReads model a b (Some (Ok tt)) → AreReads model a b (export_answer r)
+  end_reads (Ok done) f reads = reads
+  end_reads (Err NoCollection) f reads = reads
+  end_reads (Err WriteFailed) f reads = reads
+  end_reads (Err FlushFailed) f reads = reads
+  end_reads (Err (Stopped Memory)) f reads = then_lost reads
+  end_reads (Err (Stopped Device)) (inl f) reads = absurd f
+  end_reads (Err (Stopped Device)) (inr f) reads = absurd f
+  end_reads (Err (Stopped Damaged)) (inl f) reads = absurd f
+  end_reads (Err (Stopped Damaged)) (inr f) reads = absurd f
+  end_reads (Err (Stopped Reopen)) (inl f) reads = absurd f
+  end_reads (Err (Stopped Reopen)) (inr f) reads = absurd f
 
 -- the features of a page, as they were handed on
 pub page_part : (later : Bool) (fs gs : List FeatureValue) → fs ≡ gs → part_text later (map feature_value fs) ≡ part_text later gs

@@ -1,13 +1,12 @@
 -- The lines up to a serial are written.
 use Rattle.std.proofs.Common.{◌≡◌, ℕ, suc, ◌+◌, ◌-◌, ◌≤◌, max, List, [], ◌++◌, length}
-use Rattle.std.proofs.Common.{Option, Some, Err, sym, ap, subst, ◌∙◌, arith}
+use Rattle.std.proofs.Common.{Option, Some, Ok, Err, sym, ap, subst, ◌∙◌, arith}
 use Rattle.std.specs.Prelude.{slice_get}
 use Rattle.std.specs.Io.KnownBytes.{Appends}
 use Rattle.std.proofs.KnownBytes.{Appends-nil, Appends-trans}
-use Rattle.streetmap_ledger.specs.Keep.{Looks}
+use Rattle.streetmap_ledger.specs.Model.{Model}
 use Rattle.streetmap_ledger.specs.State.{State}
 use Rattle.streetmap_ledger.specs.WellFormed.{IsState}
-use Rattle.streetmap_ledger.specs.declared.reply.Fault.{Fault}
 use Rattle.streetmap_ledger.specs.declared.reply.Fault.TheVariants.{Memory, Device, Damaged, Reopen}
 use Rattle.streetmap_text_lines.specs.Written.{AppendsBeginning}
 use Rattle.streetmap_text_lines.proofs.WriteLemmas.{beginning_longer, beginning_behind}
@@ -17,7 +16,9 @@ use Rattle.streetmap_ledger.specs.Kept.{batches_behind, AreNext}
 use Rattle.streetmap_ledger.proofs.Nexts.{nexts_split, last_next}
 use Rattle.streetmap_ledger.proofs.Serials.{found_under}
 use Rattle.streetmap_exchange.specs.Printed.{lines_text}
-use Rattle.streetmap_exchange.specs.Stops.{StaysBy, IsWriteStop}
+use Rattle.streetmap_exchange.specs.Stops.{IsWriteStop, lines_answer}
+use Rattle.streetmap_replay.specs.Calls.{AreReads}
+use Rattle.streetmap_replay.proofs.CallsInTurn.{no_fault_read, then_lost}
 use Rattle.streetmap_exchange.specs.declared.lines_stop.LinesStop.{LinesStop}
 use Rattle.streetmap_exchange.specs.declared.lines_stop.LinesStop.TheVariants.{Stopped, WriteFailed}
 use Rattle.streetmap_exchange.proofs.LineLemmas.{lines_append}
@@ -130,22 +131,12 @@ module _ (s : State) (sound : IsState s) (after last : ℕ) (old now : Option (L
           (subst (AppendsBeginning old later) (sym texts_up_to)
           (beginning_behind old now later _ _ it.written wrote)))
 
--- ---- stops
-
--- a fault of the keeper in between
-pub look_stops : {T : Type 0} (s : State) (Is : T → Type 0) (fault : Fault) (stands : State
-    → Type 0)
-    → Looks s Is (Err fault) stands → StaysBy s (Stopped fault) stands
-look_stops s Is Memory stands h = h
-look_stops s Is Device stands h = h
-look_stops s Is Damaged stands h = h
-look_stops s Is Reopen stands h = h
+-- ---- the keeper
 
 -- a write that failed
-pub write_stops : (s : State) (stop : LinesStop) (stands : State → Type 0)
-    → IsWriteStop stop → stands s → StaysBy s stop stands
-write_stops s (Stopped Memory) stands is h = h
-write_stops s (Stopped Device) stands is h = absurd is
-write_stops s (Stopped Damaged) stands is h = absurd is
-write_stops s (Stopped Reopen) stands is h = absurd is
-write_stops s WriteFailed stands is h = h
+pub write_reads : {K : Type 0} {model : Model K} {a b : K} (stop : LinesStop) → IsWriteStop stop → AreReads model a b (Some (Ok tt)) → AreReads model a b (lines_answer {T = ℕ} (Err stop))
+write_reads (Stopped Memory) is reads = then_lost reads
+write_reads (Stopped Device) is reads = absurd is
+write_reads (Stopped Damaged) is reads = absurd is
+write_reads (Stopped Reopen) is reads = absurd is
+write_reads WriteFailed is reads = no_fault_read reads

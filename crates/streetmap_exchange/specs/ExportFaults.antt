@@ -1,10 +1,9 @@
 -- Why an export ends early: the names and sentences of the refusals, and the faults of its parts.
-use Rattle.std.specs.Prelude.{◌≡◌, ◌⊎◌, Option, None, Result, Ok, Err, codes, ⊤}
+use Rattle.std.specs.Prelude.{◌⊎◌, Some, Result, Ok, Err, codes, ⊤}
 use Rattle.streetmap_batch.specs.Text.{Text}
-use Rattle.streetmap_ledger.specs.Keep.{ShutsBy}
 use Rattle.streetmap_ledger.specs.Refusals.{fault_code, fault_description}
-use Rattle.streetmap_ledger.specs.declared.reply.Cause.{Cause}
 use Rattle.streetmap_ledger.specs.declared.reply.Fault.TheVariants.{Memory}
+use Rattle.streetmap_replay.specs.Calls.{LastAnswer, fails_by}
 use Rattle.streetmap_exchange.specs.declared.fault.ExportFault.{ExportFault}
 use Rattle.streetmap_exchange.specs.declared.fault.ExportFault.TheVariants.{NoCollection, Stopped}
 use Rattle.streetmap_exchange.specs.declared.fault.ExportFault.TheVariants.{WriteFailed}
@@ -43,10 +42,10 @@ IsFlushFault FlushFailed = ⊤
 abbrev pub IsEndFault : ExportFault → Type 0
 IsEndFault fault = IsWriteFault fault ⊎ IsFlushFault fault
 
--- a closed keeper returns `Reopen` and no other does; `Device` and `Damaged` close it
-abbrev pub ExportShuts : {T : Type 0} → Result T ExportFault → Option Cause → Option Cause → Type 0
-ExportShuts (Ok x) old new = (old ≡ None) × (new ≡ None)
-ExportShuts (Err NoCollection) old new = (old ≡ None) × (new ≡ None)
-ExportShuts (Err (Stopped fault)) old new = ShutsBy {T = Unit {0}} (Err fault) old new
-ExportShuts (Err WriteFailed) old new = (old ≡ None) × (new ≡ None)
-ExportShuts (Err FlushFailed) old new = (old ≡ None) × (new ≡ None)
+-- the keeper's answer: its fault, or `Memory`, or no fault
+abbrev pub export_answer : {T : Type 0} → Result T ExportFault → LastAnswer
+export_answer (Ok x) = Some (Ok tt)
+export_answer (Err NoCollection) = Some (Ok tt)
+export_answer (Err (Stopped fault)) = fails_by fault
+export_answer (Err WriteFailed) = Some (Ok tt)
+export_answer (Err FlushFailed) = Some (Ok tt)

@@ -13,7 +13,6 @@ use Rattle.streetmap_ledger.specs.State.{State, Collection}
 use Rattle.streetmap_ledger.specs.Pages.{page_in}
 use Rattle.streetmap_ledger.specs.PageView.{page_value}
 use Rattle.streetmap_ledger.specs.declared.page.Page.{Page}
-use Rattle.streetmap_ledger.specs.declared.reply.Fault.TheVariants.{Memory, Device, Damaged, Reopen}
 use Rattle.streetmap_text_lines.specs.Written.{AppendsBeginning, AppendsLess}
 use Rattle.streetmap_exchange.specs.declared.fault.ExportFault.{ExportFault}
 use Rattle.streetmap_exchange.specs.declared.fault.ExportFault.TheVariants.{NoCollection, Stopped}
@@ -46,19 +45,14 @@ abbrev pub WritesSomeIf : Option (List FeatureValue) → Option (List ℕ) → O
 WritesSomeIf None old new = Keeps old new
 WritesSomeIf (Some fs) old new = AppendsBeginning old new (export_text fs)
 
--- an export from a keeper that represented this state: what was written, and the state stays
+-- what an export from a keeper that represented this state wrote
 abbrev pub Exports : {T : Type 0} → State → Text → Result T ExportFault → Option (List ℕ)
-    → Option (List ℕ) → (State → Type 0) → Type 0
-Exports s name (Ok done) old new stands = WritesAll (features_in s name) old new × stands s
-Exports s name (Err NoCollection) old new stands = (features_in s name ≡ None) × Keeps old new
-    × stands s
-Exports s name (Err WriteFailed) old new stands = WritesLess (features_in s name) old new × stands s
-Exports s name (Err FlushFailed) old new stands = WritesAll (features_in s name) old new × stands s
-Exports s name (Err (Stopped Memory)) old new stands = WritesSomeIf (features_in s name) old new
-    × stands s
-Exports s name (Err (Stopped Device)) old new stands = WritesSomeIf (features_in s name) old new
-Exports s name (Err (Stopped Damaged)) old new stands = ⊥
-Exports s name (Err (Stopped Reopen)) old new stands = ⊥
+    → Option (List ℕ) → Type 0
+Exports s name (Ok done) old new = WritesAll (features_in s name) old new
+Exports s name (Err NoCollection) old new = (features_in s name ≡ None) × Keeps old new
+Exports s name (Err WriteFailed) old new = WritesLess (features_in s name) old new
+Exports s name (Err FlushFailed) old new = WritesAll (features_in s name) old new
+Exports s name (Err (Stopped fault)) old new = WritesSomeIf (features_in s name) old new
 
 -- ---- its pages
 
@@ -67,18 +61,13 @@ abbrev pub part_query : Option Text → QueryValue
 part_query after = record { bbox = None; datetime = None; limit = 1000; after = after }
 
 -- a read of that page in this state
-abbrev pub ShowsPart : State → Text → Option Text → Result Page ExportFault → (State → Type 0)
-    → Type 0
-ShowsPart s name after (Ok page) stands = (page_in s name (part_query after)
-    ≡ Some (page_value page)) × stands s
-ShowsPart s name after (Err NoCollection) stands = (page_in s name (part_query after) ≡ None)
-    × stands s
-ShowsPart s name after (Err WriteFailed) stands = ⊥
-ShowsPart s name after (Err FlushFailed) stands = ⊥
-ShowsPart s name after (Err (Stopped Memory)) stands = stands s
-ShowsPart s name after (Err (Stopped Device)) stands = Unit {0}
-ShowsPart s name after (Err (Stopped Damaged)) stands = ⊥
-ShowsPart s name after (Err (Stopped Reopen)) stands = ⊥
+abbrev pub ShowsPart : State → Text → Option Text → Result Page ExportFault → Type 0
+ShowsPart s name after (Ok page) =
+    page_in s name (part_query after) ≡ Some (page_value page)
+ShowsPart s name after (Err NoCollection) = page_in s name (part_query after) ≡ None
+ShowsPart s name after (Err WriteFailed) = ⊥
+ShowsPart s name after (Err FlushFailed) = ⊥
+ShowsPart s name after (Err (Stopped fault)) = Unit {0}
 
 -- ---- its text in parts
 

@@ -1,5 +1,5 @@
 -- The effect of an import into a keeper.
-use Rattle.std.specs.Prelude.{◌≡◌, Option, None, Some, Result, Ok, Err, String, string_bytes}
+use Rattle.std.specs.Prelude.{◌≡◌, None, Some, Result, Ok, Err, String, string_bytes}
 use Rattle.std.specs.Prelude.{IsOkAnd}
 use Rattle.std.specs.declared.alloc.Global.{Global}
 use Rattle.serde_json.specs.Written.{compact_text}
@@ -7,12 +7,13 @@ use Rattle.streetmap_batch.specs.Text.{Text}
 use Rattle.streetmap_batch.specs.BatchValue.{BatchValue}
 use Rattle.streetmap_ledger.specs.State.{State}
 use Rattle.streetmap_ledger.specs.Batches.{act}
-use Rattle.streetmap_ledger.specs.Keep.{Acts, ApplyLeaves, LeavesOnly, ShutsBy}
-use Rattle.streetmap_ledger.specs.declared.reply.Cause.{Cause}
+use Rattle.streetmap_ledger.specs.Keep.{Writes}
+use Rattle.streetmap_ledger.specs.Model.{Model}
 use Rattle.streetmap_ledger.specs.declared.reply.Fault.{Fault}
 use Rattle.streetmap_ledger.specs.declared.reply.Reply.{Reply}
 use Rattle.streetmap_ledger.specs.declared.reply.Reply.TheVariants as replies
 use Rattle.streetmap_bodies.specs.Replies.{reply_body}
+use Rattle.streetmap_replay.specs.Calls.{LastAnswer, fails_by}
 use Rattle.streetmap_exchange.specs.ImportFaults.{FailsToRead}
 use Rattle.streetmap_exchange.specs.declared.fault.ImportFault.{ImportFault}
 use Rattle.streetmap_exchange.specs.declared.fault.ImportStop.{ImportStop}
@@ -27,38 +28,28 @@ IsReported key reply told = IsOkAnd told (λ body. string_bytes body
     ≡ compact_text (reply_body key reply))
 
 -- a batch on a keeper that represented this state: its reply is returned, and the keeper represents
--- the state after it
-abbrev pub BatchTells : State → BatchValue → Result (String Global) ImportStop → (State → Type 0)
-    → Type 0
-BatchTells s b (Err (NotRead fault)) stands = ⊥
-BatchTells s b (Err (Stopped fault)) stands = Acts s b (Err fault) stands
-BatchTells s b told stands = IsReported b.key (act s b).reply told × stands (act s b).state
-
--- what a crash can leave then
-abbrev pub BatchLeaves : State → BatchValue → Result (String Global) ImportStop
-    → (Option State → Type 0) → Type 0
-BatchLeaves s b (Err (NotRead fault)) left = ⊥
-BatchLeaves s b (Err (Stopped fault)) left = ApplyLeaves s b (Err fault) left
-BatchLeaves s b told left = LeavesOnly left (Some (act s b).state)
+-- the state after it; or the keeper answered with a fault, as to a batch
+abbrev pub ImportsBatch : {K : Type 0} → Model K → (old new : K) → State → BatchValue
+    → Result (String Global) ImportStop → Type 0
+ImportsBatch model old new s b (Err (NotRead fault)) = ⊥
+ImportsBatch model old new s b (Err (Stopped fault)) = Writes model old new s b (Err fault)
+ImportsBatch model old new s b told =
+    IsReported b.key (act s b).reply told × model.represents new (act s b).state
 
 -- for a text that reads as this: its batch does what a batch does, or its fault is returned and the
 -- state stays
-abbrev pub Imports : State → Result BatchValue ImportFault → Result (String Global) ImportStop
-    → (State → Type 0) → Type 0
-Imports s read (Err (NotRead fault)) stands = FailsToRead fault read × stands s
-Imports s read told stands = (b : BatchValue) × (read ≡ Ok b) × BatchTells s b told stands
+abbrev pub Imports : {K : Type 0} → Model K → (old new : K) → State
+    → Result BatchValue ImportFault → Result (String Global) ImportStop → Type 0
+Imports model old new s read (Err (NotRead fault)) =
+    FailsToRead fault read × model.represents new s
+Imports model old new s read told =
+    (b : BatchValue) × (read ≡ Ok b) × ImportsBatch model old new s b told
 
--- what a crash can leave then
-abbrev pub ImportLeaves : State → Result BatchValue ImportFault → Result (String Global) ImportStop
-    → (Option State → Type 0) → Type 0
-ImportLeaves s read (Err (NotRead fault)) left = LeavesOnly left (Some s)
-ImportLeaves s read told left = (b : BatchValue) × (read ≡ Ok b) × BatchLeaves s b told left
-
--- a closed keeper only returns `Reopen`; `Device` and `Damaged` close it
-abbrev pub ImportShuts : Result (String Global) ImportStop → Option Cause → Option Cause → Type 0
-ImportShuts (Err (NotRead fault)) old new = new ≡ old
-ImportShuts (Err (Stopped fault)) old new = ShutsBy {T = Unit {0}} (Err fault) old new
-ImportShuts told old new = (old ≡ None) × (new ≡ None)
+-- the keeper's answer; none if it received no request
+abbrev pub import_answer : Result (String Global) ImportStop → LastAnswer
+import_answer (Err (NotRead fault)) = None
+import_answer (Err (Stopped fault)) = fails_by fault
+import_answer told = Some (Ok tt)
 
 -- the keeper received no request and is as it was, or the result is what it replied to the batch
 abbrev pub IsOfReply : (key : Text) → (came : Result Reply Fault → Type 0) → (same : Type 0) →

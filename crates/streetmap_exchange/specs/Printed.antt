@@ -6,7 +6,6 @@ use Rattle.streetmap_ledger.specs.Kept.{KeyedBatch, batch_count, batches_behind}
 use Rattle.streetmap_replay.specs.JournalText.{text_of_lines}
 use Rattle.streetmap_replay.specs.Lines.{Line, numbered, line_bytes}
 use Rattle.streetmap_text_lines.specs.Written.{AppendsBeginning}
-use Rattle.streetmap_exchange.specs.Stops.{StaysBy}
 use Rattle.streetmap_exchange.specs.declared.lines_stop.LinesStop.{LinesStop}
 
 -- the line of a batch: its serial and its text
@@ -22,11 +21,9 @@ abbrev pub lines_text : List KeyedBatch → List ℕ
 lines_text bs = text_of_lines (map line_of bs)
 
 -- the lines of the batches after the serial were written, up to the last serial, or a prefix of
--- them; and the state stays
-abbrev pub WritesLines : State → ℕ → Result ℕ LinesStop
-    → Option (List ℕ) → Option (List ℕ) → (State → Type 0) → Type 0
-WritesLines s after (Ok last) old new stands =
-    Appends old new (lines_text (batches_behind s after))
-    × (last ≡ max after (batch_count s)) × stands s
-WritesLines s after (Err stop) old new stands =
-    AppendsBeginning old new (lines_text (batches_behind s after)) × StaysBy s stop stands
+-- them
+abbrev pub WritesLines : State → ℕ → Result ℕ LinesStop → Option (List ℕ) → Option (List ℕ) → Type 0
+WritesLines s after (Ok last) old new =
+    Appends old new (lines_text (batches_behind s after)) × (last ≡ max after (batch_count s))
+WritesLines s after (Err stop) old new =
+    AppendsBeginning old new (lines_text (batches_behind s after))

@@ -1,11 +1,9 @@
--- Why lines are not written to the end: the names of the faults, and what closed the keeper.
-use Rattle.std.specs.Prelude.{◌≡◌, Option, None, Result, Ok, Err, codes}
+-- Why lines are not written to the end: the names of the faults, and whether it was the keeper.
+use Rattle.std.specs.Prelude.{None, Some, Result, Ok, Err, codes}
 use Rattle.streetmap_batch.specs.Text.{Text}
-use Rattle.streetmap_ledger.specs.Keep.{ShutsBy}
 use Rattle.streetmap_ledger.specs.Refusals.{fault_code}
-use Rattle.streetmap_ledger.specs.State.{State}
-use Rattle.streetmap_ledger.specs.declared.reply.Cause.{Cause}
 use Rattle.streetmap_ledger.specs.declared.reply.Fault.TheVariants.{Memory, Device, Damaged, Reopen}
+use Rattle.streetmap_replay.specs.Calls.{LastAnswer, fails_by}
 use Rattle.streetmap_exchange.specs.declared.lines_stop.LinesStop.{LinesStop}
 use Rattle.streetmap_exchange.specs.declared.lines_stop.LinesStop.TheVariants.{Stopped, WriteFailed}
 
@@ -21,16 +19,8 @@ IsWriteStop (Stopped Damaged) = ⊥
 IsWriteStop (Stopped Reopen) = ⊥
 IsWriteStop WriteFailed = Unit {0}
 
--- a closed keeper returns `Reopen` and no other does; `Device` and `Damaged` close it
-abbrev pub LinesShut : {T : Type 0} → Result T LinesStop → Option Cause → Option Cause → Type 0
-LinesShut (Ok x) old new = (old ≡ None) × (new ≡ None)
-LinesShut (Err (Stopped fault)) old new = ShutsBy {T = Unit {0}} (Err fault) old new
-LinesShut (Err WriteFailed) old new = new ≡ old
-
--- a keeper that represented this state still does, unless its store failed
-abbrev pub StaysBy : State → LinesStop → (State → Type 0) → Type 0
-StaysBy s (Stopped Memory) stands = stands s
-StaysBy s (Stopped Device) stands = Unit {0}
-StaysBy s (Stopped Damaged) stands = ⊥
-StaysBy s (Stopped Reopen) stands = ⊥
-StaysBy s WriteFailed stands = stands s
+-- the keeper's answer: its fault, or `Memory`, or no fault; none if too many rounds were made
+abbrev pub lines_answer : {T : Type 0} → Result T LinesStop → LastAnswer
+lines_answer (Ok x) = Some (Ok tt)
+lines_answer (Err (Stopped fault)) = fails_by fault
+lines_answer (Err WriteFailed) = None

@@ -1,10 +1,8 @@
 //! The lines of the batches after a serial.
-ghost use Rattle.std.specs.Prelude.{◌≡◌, Err, Some};
-ghost use Rattle.streetmap_ledger.specs.Keep.{LeavesOnly};
 ghost use Rattle.streetmap_ledger.specs.State.{State};
-ghost use Rattle.streetmap_ledger.specs.declared.reply.Fault.TheVariants.{Device};
+ghost use Rattle.streetmap_replay.specs.Calls.{AreReads};
 ghost use Rattle.streetmap_exchange.specs.Printed.{WritesLines};
-ghost use Rattle.streetmap_exchange.specs.Stops.{LinesShut};
+ghost use Rattle.streetmap_exchange.specs.Stops.{lines_answer};
 
 use crate::batch_lines::write_lines;
 use crate::lines_stop::LinesStop;
@@ -30,17 +28,9 @@ pub fn write_batches<K: KeepsBatches, W: Write>(
     after: u64,
     writer: &mut W,
 ) -> Result<u64, LinesStop>
-    ensures spared { K.spares keeper.old keeper.new }
-    ensures began_clean { K.is_clean keeper.new → K.is_clean keeper.old }
-    ensures faults { LinesShut result (K.cause keeper.old) (K.cause keeper.new) }
-    ensures writes { K.is_clean keeper.new → (s : State) → K.stands keeper.old s →
-        WritesLines s after result (W.contents writer.old) (W.contents writer.new)
-        (K.stands keeper.new) }
-    ensures device { K.is_clean keeper.new → (s : State) → K.stands keeper.old s →
-        result ≡ Err (LinesStop.Stopped Device) → K.fails keeper.old keeper.new }
-    ensures leaves { K.is_clean keeper.new → (s : State) → K.stands keeper.old s →
-        LeavesOnly (K.may_leave keeper.old) (Some s) →
-        LeavesOnly (K.may_leave keeper.new) (Some s) }
+    ensures reads { AreReads K.model keeper.old keeper.new (lines_answer result) }
+    ensures writes { K.model.is_clean keeper.new → (s : State) → K.model.represents keeper.old s →
+        WritesLines s after result (W.contents writer.old) (W.contents writer.new) }
 {
     let mut last = after;
     for _turn in 0..u64::MAX {

@@ -1,11 +1,10 @@
 //! Collections, written as texts.
-ghost use Rattle.std.specs.Prelude.{◌≡◌, Some, None, IsErrOf};
-ghost use Rattle.streetmap_ledger.specs.Keep.{LeavesOnly, AsBefore};
+ghost use Rattle.std.specs.Prelude.{◌≡◌, Some, None};
 ghost use Rattle.streetmap_ledger.specs.Pages.{page_in};
 ghost use Rattle.streetmap_ledger.specs.PageView.{page_value};
 ghost use Rattle.streetmap_ledger.specs.State.{State};
-ghost use Rattle.streetmap_ledger.specs.declared.reply.Fault.TheVariants.{Reopen};
-ghost use Rattle.streetmap_exchange.specs.ExportFaults.{ExportShuts};
+ghost use Rattle.streetmap_replay.specs.Calls.{AreReads};
+ghost use Rattle.streetmap_exchange.specs.ExportFaults.{export_answer};
 ghost use Rattle.streetmap_exchange.specs.Exports.{Exports, part_query};
 
 use crate::fault::ExportFault;
@@ -24,16 +23,11 @@ fn write_pages<K: Keeper, W: Write, P: Progress>(
     first: Page,
     progress: &mut P,
 ) -> Result<(), ExportFault>
-    requires { K.cause keeper.old ≡ None }
-    ensures began_clean { K.is_clean keeper.new → K.is_clean keeper.old }
-    ensures faults { ExportShuts result (K.cause keeper.old) (K.cause keeper.new) }
-    ensures exports { K.is_clean keeper.new → (s : State) → K.stands keeper.old s
-        → page_in s collection.now (part_query None) ≡ Some (page_value first)
-        → Exports s collection.now result (W.contents writer.old) (W.contents writer.new)
-        (K.stands keeper.new) }
-    ensures leaves { K.is_clean keeper.new → (s : State) → K.stands keeper.old s
-        → LeavesOnly (K.may_leave keeper.old) (Some s)
-        → LeavesOnly (K.may_leave keeper.new) (Some s) }
+    requires { K.model.cause keeper.old ≡ None }
+    ensures reads { AreReads K.model keeper.old keeper.new (export_answer result) }
+    ensures exports { K.model.is_clean keeper.new → (s : State) → K.model.represents keeper.old s →
+        page_in s collection.now (part_query None) ≡ Some (page_value first) →
+        Exports s collection.now result (W.contents writer.old) (W.contents writer.new) }
 {
     write_bytes(writer, b"{\"features\":[")?;
     let mut page = first;
@@ -69,21 +63,12 @@ pub fn export<K: Keeper, W: Write, P: Progress>(
     writer: &mut W,
     progress: &mut P,
 ) -> Result<(), ExportFault>
-    ensures began_clean { K.is_clean keeper.new → K.is_clean keeper.old }
-    // A closed keeper returns `Reopen` and no other does; `Device` and `Damaged` close it.
-    ensures faults { ExportShuts result (K.cause keeper.old) (K.cause keeper.new) }
-    // What is written is the text of the collection, or a prefix of it, and the state stays. It is
-    // less than the text if a write failed, and the text if only a flush did.
-    ensures exports { K.is_clean keeper.new → (s : State) → K.stands keeper.old s
-        → Exports s collection.now result (W.contents writer.old) (W.contents writer.new)
-        (K.stands keeper.new) }
-    // A crash can leave only the same state.
-    ensures leaves { K.is_clean keeper.new → (s : State) → K.stands keeper.old s
-        → LeavesOnly (K.may_leave keeper.old) (Some s)
-        → LeavesOnly (K.may_leave keeper.new) (Some s) }
-    ensures reopen { IsErrOf result (ExportFault.Stopped Reopen)
-        → AsBefore (K.stands keeper.old) (K.stands keeper.new) (K.may_leave keeper.old)
-        (K.may_leave keeper.new) }
+    // The state stays, and a fault of the keeper is returned.
+    ensures reads { AreReads K.model keeper.old keeper.new (export_answer result) }
+    // What is written is the text of the collection, or a prefix of it. It is less than the text if
+    // a write failed, and the text if only a flush did.
+    ensures exports { K.model.is_clean keeper.new → (s : State) → K.model.represents keeper.old s →
+        Exports s collection.now result (W.contents writer.old) (W.contents writer.new) }
 {
     let first = page_behind(keeper, collection, None)?;
     write_pages(alloc, keeper, collection, writer, first, progress)

@@ -1,15 +1,13 @@
 //! Texts of features, imported into a keeper.
-ghost use Rattle.std.specs.Prelude.{◌≡◌, ◌≤◌, ◌+◌, [], Some, Ok, IfOk, IfErr, IsErrOf};
+ghost use Rattle.std.specs.Prelude.{◌≡◌, ◌≤◌, ◌+◌, [], Ok, IfOk, IfErr};
 ghost use Rattle.std.specs.Prelude.{string_bytes, string_len, string_capacity};
 ghost use Rattle.streetmap_batch.specs.BatchValue.{BatchValue};
 ghost use Rattle.streetmap_batch.specs.BatchView.{batch_value};
-ghost use Rattle.streetmap_ledger.specs.Keep.{LeavesOnly, AsBefore};
 ghost use Rattle.streetmap_ledger.specs.State.{State};
-ghost use Rattle.streetmap_ledger.specs.declared.reply.Fault.TheVariants.{Reopen};
+ghost use Rattle.streetmap_replay.specs.Calls.{AreCalls};
 ghost use Rattle.streetmap_exchange.specs.Imports.{import_of};
-ghost use Rattle.streetmap_exchange.specs.KeeperImports.{IsReported, IsOfReply, BatchTells};
-ghost use Rattle.streetmap_exchange.specs.KeeperImports.{BatchLeaves, Imports, ImportLeaves};
-ghost use Rattle.streetmap_exchange.specs.KeeperImports.{ImportShuts};
+ghost use Rattle.streetmap_exchange.specs.KeeperImports.{IsReported, IsOfReply, ImportsBatch};
+ghost use Rattle.streetmap_exchange.specs.KeeperImports.{Imports, import_answer};
 
 use crate::fault::{ImportFault, ImportStop};
 use crate::importing::import_batch;
@@ -52,18 +50,11 @@ fn apply<K: Keeper>(keeper: &mut K, batch: &Batch, body: String) -> Result<Strin
     requires empty { string_bytes body ≡ [] }
     requires wide { string_len body + 320 ≤ string_capacity body }
     ensures told { IsOfReply (batch_value batch.now).key
-        (λ r. K.applies keeper.old (batch_value batch.now) r keeper.new)
+        (λ r. K.model.applies keeper.old (batch_value batch.now) r keeper.new)
         (keeper.new ≡ keeper.old) result }
-    ensures began_clean { K.is_clean keeper.new → K.is_clean keeper.old }
-    ensures faults { ImportShuts result (K.cause keeper.old) (K.cause keeper.new) }
-    ensures acts { K.is_clean keeper.new → (s : State) → K.stands keeper.old s →
-        BatchTells s (batch_value batch.now) result (K.stands keeper.new) }
-    ensures leaves { K.is_clean keeper.new → (s : State) → K.stands keeper.old s →
-        LeavesOnly (K.may_leave keeper.old) (Some s) →
-        BatchLeaves s (batch_value batch.now) result (K.may_leave keeper.new) }
-    ensures reopen { IsErrOf result (ImportStop.Stopped Reopen) →
-        AsBefore (K.stands keeper.old) (K.stands keeper.new)
-        (K.may_leave keeper.old) (K.may_leave keeper.new) }
+    ensures calls { AreCalls K.model keeper.old keeper.new (import_answer result) }
+    ensures imports { K.model.is_clean keeper.new → (s : State) → K.model.represents keeper.old s →
+        ImportsBatch K.model keeper.old keeper.new s (batch_value batch.now) result }
 {
     match keeper.apply(batch) {
         Ok(reply) => tell(body, batch, reply),
@@ -86,22 +77,12 @@ pub fn apply_import<K: Keeper>(
 ) -> Result<String, ImportStop>
     // The keeper received no request and is as it was, or what is returned is what it replied.
     ensures told { IsOfReply (batch_value batch.now).key
-        (λ r. K.applies keeper.old (batch_value batch.now) r keeper.new)
+        (λ r. K.model.applies keeper.old (batch_value batch.now) r keeper.new)
         (keeper.new ≡ keeper.old) result }
-    ensures began_clean { K.is_clean keeper.new → K.is_clean keeper.old }
-    // A closed keeper that receives the batch returns `Reopen` and no other does; `Device` and
-    // `Damaged` close it.
-    ensures faults { ImportShuts result (K.cause keeper.old) (K.cause keeper.new) }
+    ensures calls { AreCalls K.model keeper.old keeper.new (import_answer result) }
     // What is returned, and the state afterwards, are those of the batch.
-    ensures imports { K.is_clean keeper.new → (s : State) → K.stands keeper.old s →
-        Imports s (Ok (batch_value batch.now)) result (K.stands keeper.new) }
-    // A crash can leave only the state after the batch, if there was a reply to it.
-    ensures leaves { K.is_clean keeper.new → (s : State) → K.stands keeper.old s →
-        LeavesOnly (K.may_leave keeper.old) (Some s) →
-        ImportLeaves s (Ok (batch_value batch.now)) result (K.may_leave keeper.new) }
-    ensures reopen { IsErrOf result (ImportStop.Stopped Reopen) →
-        AsBefore (K.stands keeper.old) (K.stands keeper.new)
-        (K.may_leave keeper.old) (K.may_leave keeper.new) }
+    ensures imports { K.model.is_clean keeper.new → (s : State) → K.model.represents keeper.old s →
+        Imports K.model keeper.old keeper.new s (Ok (batch_value batch.now)) result }
 {
     let body = room(alloc)?;
     apply(keeper, batch, body)
@@ -125,24 +106,14 @@ pub fn import<K: Keeper, P: Progress>(
 ) -> Result<String, ImportStop>
     // The keeper received no request and is as it was, or what is returned is what it replied to
     // the batch that the text means.
-    ensures told { (b : BatchValue) → import_of replace key.now collection.now text.now ≡ Ok b
-        → IsOfReply b.key (λ r. K.applies keeper.old b r keeper.new) (keeper.new
-        ≡ keeper.old) result }
-    ensures began_clean { K.is_clean keeper.new → K.is_clean keeper.old }
-    // A closed keeper that receives the batch returns `Reopen` and no other does; `Device` and
-    // `Damaged` close it.
-    ensures faults { ImportShuts result (K.cause keeper.old) (K.cause keeper.new) }
+    ensures told { (b : BatchValue) → import_of replace key.now collection.now text.now ≡ Ok b →
+        IsOfReply b.key (λ r. K.model.applies keeper.old b r keeper.new)
+        (keeper.new ≡ keeper.old) result }
+    ensures calls { AreCalls K.model keeper.old keeper.new (import_answer result) }
     // What is returned, and the state afterwards, are those of the batch that the text means.
-    ensures imports { K.is_clean keeper.new → (s : State) → K.stands keeper.old s →
-        Imports s (import_of replace key.now collection.now text.now) result (K.stands keeper.new) }
-    // A crash can leave only the state after the batch, if there was a reply to it.
-    ensures leaves { K.is_clean keeper.new → (s : State) → K.stands keeper.old s →
-        LeavesOnly (K.may_leave keeper.old) (Some s) →
-        ImportLeaves s (import_of replace key.now collection.now text.now)
-        result (K.may_leave keeper.new) }
-    ensures reopen { IsErrOf result (ImportStop.Stopped Reopen) →
-        AsBefore (K.stands keeper.old) (K.stands keeper.new)
-        (K.may_leave keeper.old) (K.may_leave keeper.new) }
+    ensures imports { K.model.is_clean keeper.new → (s : State) → K.model.represents keeper.old s →
+        Imports K.model keeper.old keeper.new s
+        (import_of replace key.now collection.now text.now) result }
 {
     let batch = import_batch(alloc, text, key, collection, replace, progress)?;
     apply_import(alloc, keeper, &batch)

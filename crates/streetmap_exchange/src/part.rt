@@ -1,13 +1,12 @@
 //! Parts of an export: its pages, and their texts.
-ghost use Rattle.std.specs.Prelude.{◌≡◌, ◌++◌, Err, OnOk, OnErr, IfErr, IsErrOf, map, string_bytes};
+ghost use Rattle.std.specs.Prelude.{◌≡◌, ◌++◌, Err, OnOk, OnErr, IfErr, map, string_bytes};
 ghost use Rattle.std.specs.Prelude.{codes};
 ghost use Rattle.std.specs.Io.KnownBytes.{Appends};
 ghost use Rattle.streetmap_geojson.specs.FeatureView.{feature_value};
-ghost use Rattle.streetmap_ledger.specs.Keep.{LeavesOnly, AsBefore};
 ghost use Rattle.streetmap_ledger.specs.PageView.{page_value};
 ghost use Rattle.streetmap_ledger.specs.State.{State};
-ghost use Rattle.streetmap_ledger.specs.declared.reply.Fault.TheVariants.{Reopen};
-ghost use Rattle.streetmap_exchange.specs.ExportFaults.{IsWriteFault, IsEndFault, ExportShuts};
+ghost use Rattle.streetmap_replay.specs.Calls.{AreReads};
+ghost use Rattle.streetmap_exchange.specs.ExportFaults.{IsWriteFault, IsEndFault, export_answer};
 ghost use Rattle.streetmap_text_lines.specs.Written.{AppendsBeginning, AppendsLess};
 ghost use Rattle.streetmap_exchange.specs.Exports.{ShowsPart, part_text};
 
@@ -26,16 +25,9 @@ pub(crate) fn page_behind<K: Keeper>(
     collection: &str,
     after: Option<Id>,
 ) -> Result<Page, ExportFault>
-    ensures began_clean { K.is_clean keeper.new → K.is_clean keeper.old }
-    ensures faults { ExportShuts result (K.cause keeper.old) (K.cause keeper.new) }
-    ensures shows { K.is_clean keeper.new → (s : State) → K.stands keeper.old s
-        → ShowsPart s collection.now after result (K.stands keeper.new) }
-    ensures leaves { K.is_clean keeper.new → (s : State) → K.stands keeper.old s
-        → LeavesOnly (K.may_leave keeper.old) (Some s)
-        → LeavesOnly (K.may_leave keeper.new) (Some s) }
-    ensures reopen { IsErrOf result (ExportFault.Stopped Reopen)
-        → AsBefore (K.stands keeper.old) (K.stands keeper.new) (K.may_leave keeper.old)
-        (K.may_leave keeper.new) }
+    ensures reads { AreReads K.model keeper.old keeper.new (export_answer result) }
+    ensures shows { K.model.is_clean keeper.new → (s : State) → K.model.represents keeper.old s →
+        ShowsPart s collection.now after result }
 {
     let query = Query {
         bbox: None,

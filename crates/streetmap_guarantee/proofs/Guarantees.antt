@@ -3,10 +3,9 @@ use Rattle.std.proofs.Common.{List, [], map, Option, Some, sym, subst}
 use Rattle.std.specs.Prelude.{All}
 use Rattle.streetmap_batch.specs.Text.{Text}
 use Rattle.streetmap_ledger.specs.State.{State}
-use Rattle.streetmap_ledger.specs.Keep.{LeavesOnly}
+use Rattle.streetmap_ledger.specs.Model.{Model}
 use Rattle.streetmap_connections.specs.History.{History, Exchange}
 use Rattle.streetmap_connections.specs.Interleaving.{IsInterleaving}
-use Rattle.streetmap_web.specs.Sight.{Sight}
 use Rattle.streetmap_web.specs.Standing.{of_state}
 use Rattle.streetmap_web.specs.Exchanges as web
 use Rattle.streetmap_web.specs.Coming.{ComesAll}
@@ -17,22 +16,23 @@ use Rattle.streetmap_guarantee.specs.Guarantee.{Guarantee, IsInOrder, RefusesFor
 use Rattle.streetmap_guarantee.specs.Town.{GuaranteeOfTown}
 use Rattle.streetmap_connections.specs.Timeline.{Timeline}
 use Rattle.streetmap_guarantee.proofs.Histories.{history_of, last_server, exchanges_are, is_sequential, history_acts, page_of_state}
-use Rattle.streetmap_guarantee.proofs.Crashes.{kept_alone, kept_after_all, kept_of}
+use Rattle.streetmap_guarantee.proofs.Crashes.{keeper_after_all, has_kept}
 
 -- an image that a crash leaves holds a state that it may leave
 abbrev pub LeavesStates : {Image : Type 0} → (Image → State → Type 0) → (Image → Type 0) → (Option State → Type 0) → Type 0
 LeavesStates {Image} holds leaves may_leave = (image : Image) → leaves image → (t : State) × holds image t × may_leave (Some t)
 
-module _ {K Image : Type 0} (sight : Sight K) (holds : Image → State → Type 0) (leaves : Image → Type 0) (root : Text) (s : State) (old new : K)
-    (only : LeavesOnly (sight.may_leave old) (Some s)) (states : LeavesStates holds leaves (sight.may_leave new)) where
-  pub is_guaranteed : (connections : List History) (es : List Exchange) (ws : List web.HttpExchange) → All IsInOrder connections → All RefusesForMemory connections
-      → IsInterleaving (map exchanges_of connections) es → AnsweredInTurn root (of_state s) es ws → ComesAll sight root (of_state s) old ws new
+module _ {K Image : Type 0} (model : Model K) (holds : Image → State → Type 0) (leaves : Image → Type 0) (root : Text) (s : State) (old new : K)
+    (stands : model.represents old s) (states : LeavesStates holds leaves (model.may_leave new)) where
+  pub is_guaranteed : (connections : List History) (es : List Exchange) (ws : List web.HttpExchange) → All IsInOrder connections
+      → All RefusesForMemory connections
+      → IsInterleaving (map exchanges_of connections) es → AnsweredInTurn root (of_state s) es ws → ComesAll model root (of_state s) old ws new
       → Guarantee holds leaves root s connections
   is_guaranteed connections es ws in_order refused interleaved answered comes =
       let history : List Event = history_of root (serving s) es ws in
       let server = last_server (serving s) ws in
       let sequential : IsSequential root (serving s) history server = is_sequential root (serving s) es ws answered in
-      let kept = kept_after_all sight root (serving s) old new ws comes (kept_alone (sight.may_leave old) s only) in
+      let keeper = keeper_after_all model root (serving s) old new ws comes stands in
       record {
         history = history;
         in_order = in_order;
@@ -41,16 +41,18 @@ module _ {K Image : Type 0} (sight : Sight K) (holds : Image → State → Type 
         server = server;
         sequential = sequential;
         pages = λ before later e name q is asks ok.
-            page_of_state root (serving s) server before later e name q (subst (λ (l : List Event). IsSequential root (serving s) l server) is sequential) asks ok;
+            page_of_state root (serving s) server before later e name q (subst (λ (l : List Event). IsSequential root (serving s) l server) is sequential)
+            asks ok;
         acts = history_acts root (serving s) server history sequential;
         survives = λ image left.
             let it = states image left in
-            (it.0, it.1, kept_of (sight.may_leave new) server it.0 kept it.2);
+            (it.0, it.1, has_kept model new server it.0 keeper it.2);
       }
 
   -- and in real time
-  pub is_guaranteed_in_time : (connections : List History) (es : List Exchange) (ws : List web.HttpExchange) → All IsInOrder connections → All RefusesForMemory connections
-      → IsInterleaving (map exchanges_of connections) es → AnsweredInTurn root (of_state s) es ws → ComesAll sight root (of_state s) old ws new
+  pub is_guaranteed_in_time : (connections : List History) (es : List Exchange) (ws : List web.HttpExchange) → All IsInOrder connections
+      → All RefusesForMemory connections
+      → IsInterleaving (map exchanges_of connections) es → AnsweredInTurn root (of_state s) es ws → ComesAll model root (of_state s) old ws new
       → Timeline [] es connections → GuaranteeOfTown holds leaves root s connections
   unfolding is_guaranteed
   is_guaranteed_in_time connections es ws in_order refused interleaved answered comes timeline = record {

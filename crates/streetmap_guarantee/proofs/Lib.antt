@@ -6,4 +6,3 @@ pub mod Clients
 pub mod Streams
 pub mod RealTime
 pub mod Restarts
-pub mod Nothing

@@ -7,15 +7,14 @@ use Rattle.std.proofs.lemmas.List.Concat.{flat_map-append}
 use Rattle.std.proofs.lemmas.List.Elements.{All-nil, All-cons, All-append}
 use Rattle.streetmap_batch.specs.Text.{Text}
 use Rattle.streetmap_ledger.specs.State.{State}
-use Rattle.streetmap_ledger.specs.Keep.{LeavesOnly}
+use Rattle.streetmap_ledger.specs.Model.{Model}
 use Rattle.streetmap_connections.specs.History.{History, Exchange, FitsStream, LeavesOpen, requests_of, texts_of}
 use Rattle.streetmap_connections.specs.Interleaving as interleaving
 use Rattle.streetmap_connections.specs.Interleaving.{IsInterleaving, Merges}
-use Rattle.streetmap_web.specs.Sight.{Sight}
 use Rattle.streetmap_web.specs.Standing.{Standing, of_state}
 use Rattle.streetmap_web.specs.Exchanges as web
-use Rattle.streetmap_web.specs.Exchanges.{HttpExchange, GoOn, ServesExchanges, last_of}
-use Rattle.streetmap_web.specs.Coming.{around}
+use Rattle.streetmap_web.specs.Exchanges.{HttpExchange, GoOn}
+use Rattle.streetmap_web.specs.ServedStream.{around, ServesExchanges, last_of}
 use Rattle.streetmap_web.specs.Refusing.{IsRefusal}
 use Rattle.streetmap_web.specs.ServingClients.{AnsweredInTurn}
 use Rattle.streetmap_web.specs.StreamEnds.{EndsSo}
@@ -27,11 +26,13 @@ use Rattle.streetmap_guarantee.specs.Streams.{GuaranteeOfStream}
 use Rattle.streetmap_guarantee.proofs.Guarantees.{LeavesStates, is_guaranteed}
 
 answered_all : (root : Text) (x : Standing) (ws last : List HttpExchange) → GoOn root x ws
-    → (let y = web.standing_after_all x ws in AnsweredInTurn root y (exchanges_at root y last) last) → AnsweredInTurn root x (exchanges_at root x (ws ++ last)) (ws ++ last)
+    → (let y = web.standing_after_all x ws in AnsweredInTurn root y (exchanges_at root y last) last)
+    → AnsweredInTurn root x (exchanges_at root x (ws ++ last)) (ws ++ last)
 answered_all root x [] last go h = h
 answered_all root x (w ∷ ws) last go h = (is_answer root x w go.0, answered_all root (web.standing_after x w) ws last go.2 h)
 
-exchanges-append : (root : Text) (x : Standing) (ws last : List HttpExchange) → exchanges_at root x (ws ++ last) ≡ exchanges_at root x ws ++ exchanges_at root (web.standing_after_all x ws) last
+exchanges-append : (root : Text) (x : Standing) (ws last : List HttpExchange)
+    → exchanges_at root x (ws ++ last) ≡ exchanges_at root x ws ++ exchanges_at root (web.standing_after_all x ws) last
 exchanges-append root x [] last = refl
 exchanges-append root x (w ∷ ws) last = ap (λ (es : List Exchange). exchange_at root x w ∷ es) (exchanges-append root (web.standing_after x w) ws last)
 
@@ -45,7 +46,8 @@ texts_are root x (w ∷ ws) = ap (λ (t : Text). web.answer_bytes root x w ++ t)
 
 all_open : (root : Text) (x : Standing) (ws : List HttpExchange) → GoOn root x ws → All LeavesOpen (exchanges_at root x ws)
 all_open root x [] go = All-nil LeavesOpen
-all_open root x (w ∷ ws) go = All-cons LeavesOpen (exchange_at root x w) (exchanges_at root (web.standing_after x w) ws) go.1 (all_open root (web.standing_after x w) ws go.2)
+all_open root x (w ∷ ws) go =
+    All-cons LeavesOpen (exchange_at root x w) (exchanges_at root (web.standing_after x w) ws) go.1 (all_open root (web.standing_after x w) ws go.2)
 
 -- one list alone
 merges_alone : {A : Type 0} (xs : List A) → Merges xs [] xs
@@ -57,17 +59,17 @@ interleaves_alone xs = interleaving.more (merges_alone xs) interleaving.none
 
 -- ---- the whole stream
 
-module _ {K Image : Type 0} (sight : Sight K) (holds : Image → State → Type 0) (leaves : Image → Type 0) (root : Text) (s : State) (old new : K)
-    (only : LeavesOnly (sight.may_leave old) (Some s)) (states : LeavesStates holds leaves (sight.may_leave new)) where
+module _ {K Image : Type 0} (model : Model K) (holds : Image → State → Type 0) (leaves : Image → Type 0) (root : Text) (s : State) (old new : K)
+    (stands : model.represents old s) (states : LeavesStates holds leaves (model.may_leave new)) where
   pub stream_is_guaranteed : (input rest before now : Option Text) (end : End) (count : ℕ)
-      → ServesExchanges root end count (of_state s) (around sight root (of_state s) input rest before now old new)
+      → ServesExchanges model root end count (of_state s) (around input rest before now) old new
       → GuaranteeOfStream holds leaves root s end input rest before now
   stream_is_guaranteed input rest before now end count it =
       let x = of_state s in
       let ws = it.exchanges in
       let y = web.standing_after_all x ws in
-      let last = last_of it.turn root y _ it.ends in
-      let ending : IsLast root y _ (end_of it.turn) last = is_last root y _ it.turn it.ends it.closed in
+      let last = last_of model it.turn root y _ new it.ends in
+      let ending : IsLast root y _ (end_of it.turn) last = is_last root y _ model new it.turn it.ends it.closed in
       let front = exchanges_at root x ws in
       let back = exchanges_at root y last in
       let es = exchanges_at root x (ws ++ last) in
@@ -103,7 +105,7 @@ module _ {K Image : Type 0} (sight : Sight K) (holds : Image → State → Type 
         read = subst (Consumes input ending.left) (sym requests) (Consumes-trans input it.middle ending.left _ _ it.read ending.read);
         written = Appends-trans before it.written now _ _ it.answered ending.written;
         ends = subst (λ (e : End). EndsSo e (closes_last root y last) ending.unsent ending.left rest) (sym it.end_is) ending.ends;
-        guarantee = is_guaranteed sight holds leaves root s old new only states (h ∷ []) es (ws ++ last)
+        guarantee = is_guaranteed model holds leaves root s old new stands states (h ∷ []) es (ws ++ last)
             (All-cons IsInOrder h [] ∣ fits ∣₁ (All-nil IsInOrder)) (All-cons RefusesForMemory h [] (All-nil (λ r. IsRefusal r.bytes r.text)) (All-nil RefusesForMemory)) (interleaves_alone es)
             (answered_all root x ws last it.go_on ending.answered) it.comes;
       }

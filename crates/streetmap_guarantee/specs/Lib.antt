@@ -7,4 +7,3 @@ pub mod Runs
 pub mod Town
 pub mod Restarts
 pub mod Images
-pub mod Leaving

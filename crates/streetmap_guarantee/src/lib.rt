@@ -5,24 +5,21 @@
 //! server that handles one request at a time (`specs/Histories`), and whatever a crash leaves holds
 //! the state that this server has kept.
 //!
-//! The program's keepers are such ones (`keepers`): what a crash leaves of two files is said for
-//! `TableKeeper`, and an index in memory and a journal change nothing of it. `open_indexed` opens
-//! files for them, and `warm` has an index learn before it is asked.
+//! The program's keepers are such ones (`streetmap_ledger::Durable`): what a crash leaves of two
+//! files is said for `streetmap_store::TableKeeper`, and an index in memory and a journal change
+//! nothing of it. `open_indexed` opens files for them, and `warm` has an index learn before it is
+//! asked.
 //!
-//! Modules, in the order of reading: `durable`, `town`, `stream`, `batches`; `keepers`, `opening`,
-//! `warming`.
+//! Modules, in the order of reading: `town`, `stream`, `batches`; `opening`, `warming`.
 #![tactic(auto)]
 
 mod batches;
-mod durable;
-mod keepers;
 mod opening;
 mod stream;
 mod town;
 mod warming;
 
 pub use batches::run_batches;
-pub use durable::Durable;
 pub use opening::{ServedFile, open_indexed};
 pub use stream::pipe;
 pub use town::serve_town;

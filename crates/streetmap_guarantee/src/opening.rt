@@ -23,9 +23,9 @@ pub fn open_indexed<S: Start>(
     path: &str,
     start: S,
 ) -> Result<ServedFile<S>, (OpenFault, FilesLeft<S>)>
-    ensures opened { IfOk result (λ keeper. ⟦<ServedFile<S> as Keeper>⟧.is_clean keeper →
+    ensures opened { IfOk result (λ keeper. ⟦<ServedFile<S> as Keeper>⟧.model.is_clean keeper →
         (s : State) → HoldsTables (image_at S.Start) s →
-        ⟦<ServedFile<S> as Keeper>⟧.stands keeper s) }
+        ⟦<ServedFile<S> as Keeper>⟧.model.represents keeper s) }
 {
     match open(rt, path, start) {
         Ok(keeper) => Ok(IndexedKeeper::new(rt.alloc(), keeper)),

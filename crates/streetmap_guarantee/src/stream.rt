@@ -1,12 +1,12 @@
 //! A stream of requests.
-ghost use Rattle.std.specs.Prelude.{◌≡◌};
 ghost use Rattle.streetmap_ledger.specs.State.{State};
 ghost use Rattle.streetmap_routes.specs.BaseView.{root_of};
+ghost use Rattle.streetmap_web.specs.Standing.{ByCalls};
 ghost use Rattle.streetmap_guarantee.specs.Streams.{GuaranteeOfStream};
 
-use crate::durable::Durable;
 use std::alloc::Global;
 use std::io::{BufRead, Write};
+use streetmap_ledger::Durable;
 use streetmap_routes::Base;
 use streetmap_web::{Served, serve};
 
@@ -19,13 +19,12 @@ pub fn pipe<K: Durable, R: BufRead, W: Write>(
     reader: &mut R,
     writer: &mut W,
 ) -> Served
-    ensures guarantee { K.is_clean keeper.new → (s : State) →
-        K.stands keeper.old s →
+    ensures guarantee { K.model.is_clean keeper.new → (s : State) →
+        K.model.represents keeper.old s →
         GuaranteeOfStream K.holds (K.leaves keeper.new) (root_of base.now) s result.end
         (R.remaining reader.old) (R.remaining reader.new)
         (W.contents writer.old) (W.contents writer.new) }
-    ensures spared { K.spares keeper.old keeper.new }
-    ensures began_clean { K.is_clean keeper.new → K.is_clean keeper.old }
+    ensures calls { ByCalls K.model keeper.old keeper.new }
 {
     serve(alloc, keeper, base, reader, writer)
 }

@@ -7,12 +7,12 @@ ghost use Rattle.streetmap_web.specs.Watching.{IsOver};
 ghost use Rattle.streetmap_guarantee.specs.Town.{GuaranteeOfTown};
 ghost use Rattle.streetmap_guarantee.specs.Connections.{history_of};
 
-use crate::durable::Durable;
 use mio::net::TcpStream;
 use std::io::Write;
 use std::net::{Net, TcpListener};
 use std::time::Clock;
 use streetmap_connections::{Clients, ServeFault};
+use streetmap_ledger::Durable;
 use streetmap_web::{KeeperService, serve_clients};
 
 /// Serves the clients of a listener over a keeper, many at once, until `count` of them ended
@@ -31,15 +31,16 @@ pub fn serve_town<R: Net + Clock, K: Durable, W: Write>(
     service: &mut KeeperService<K, W>,
 ) -> Result<(), ServeFault>
     requires { clients_of clients.old ≡ [] }
-    ensures guarantee { K.is_clean service.new.keeper → (s : State) →
-        K.stands service.old.keeper s →
+    ensures guarantee { K.model.is_clean service.new.keeper → (s : State) →
+        K.model.represents service.old.keeper s →
         GuaranteeOfTown K.holds (K.leaves service.new.keeper) (root_of service.old.base) s
         (map history_of (clients_of clients.new)) }
     ensures counted { IsOk result → count ≤ length (ended_of clients.new) }
     ensures few { length (clients_of clients.new) ≤ count }
     ensures over { IsErrOf result ServeFault.Over → IsOver service.new.watch }
-    ensures spared { K.spares service.old.keeper service.new.keeper }
-    ensures began_clean { K.is_clean service.new.keeper → K.is_clean service.old.keeper }
+    ensures spared { K.model.spares service.old.keeper service.new.keeper }
+    ensures began_clean { K.model.is_clean service.new.keeper →
+        K.model.is_clean service.old.keeper }
 {
     serve_clients(rt, listener, count, clients, service)
 }

@@ -1,4 +1,3 @@
-pub mod Calls
 pub mod Known
 pub mod Replies
 pub mod Steps
@@ -6,3 +5,4 @@ pub mod Following
 pub mod Listing
 pub mod Runs
 pub mod Told
+pub mod Over

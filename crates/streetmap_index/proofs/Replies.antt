@@ -6,14 +6,17 @@ use Rattle.streetmap_batch.specs.BatchValue.{EditValue, BatchValue}
 use Rattle.streetmap_batch.specs.BatchText.{batch_text}
 use Rattle.streetmap_ledger.specs.State.{State, AcceptedBatch, step, ◌>>=◌}
 use Rattle.streetmap_ledger.specs.Batches.{Outcome, placed, edited, fresh, by_key, act, most_batches}
-use Rattle.streetmap_ledger.specs.Keep.{Acts}
+use Rattle.streetmap_ledger.specs.Model.{Model}
+use Rattle.streetmap_ledger.specs.Keep.{Writes}
 use Rattle.streetmap_ledger.specs.declared.reply.Fault.{Fault}
 use Rattle.streetmap_ledger.specs.declared.reply.Fault.TheVariants.{Memory, Device, Damaged, Reopen}
 use Rattle.streetmap_ledger.specs.declared.reply.Counts.{Counts}
 use Rattle.streetmap_ledger.specs.declared.reply.Refusal.{Refusal}
 use Rattle.streetmap_ledger.specs.declared.reply.Reply.TheVariants.{Accepted, Repeated, Refused}
-use Rattle.streetmap_index.specs.Index.{IsOutlinedIf, IsIndexOf, IsHeeded}
+use Rattle.streetmap_index.specs.Index.{IsOutlinedIf, IsIndexOf, IsNoted}
+use Rattle.streetmap_index.specs.Indexed.{indexed}
 use Rattle.streetmap_index.specs.declared.index.Index.{Index}
+use Rattle.streetmap_index.specs.declared.keeper.IndexedKeeper.{IndexedKeeper}
 use Rattle.streetmap_ledger.proofs.Repeat.{either}
 
 -- the edits were done in order, and the outcome has their collections
@@ -64,12 +67,13 @@ followed_batch s b counts serial index is followed =
     let done = (act_tells s b).accepted counts serial is in
     same_collections index done.done (act s b).state done.collections (followed done.done done.is)
 
--- a fault of a batch, on a keeper whose index heeds it
-pub heeded_acts : (s : State) (b : BatchValue) (fault : Fault) (old new : Index) (P : State → Type 0) → IsHeeded fault old new → IsIndexOf old s → Acts s b (Err fault) P → Acts s b (Err fault) (λ t. P t × IsIndexOf new t)
-heeded_acts s b Memory old new P heeded index h = (h, subst (λ (m : Index). IsIndexOf m s) (sym heeded) index)
-heeded_acts s b Device old new P heeded index h = tt
-heeded_acts s b Damaged old new P heeded index h = absurd h
-heeded_acts s b Reopen old new P heeded index h = absurd h
+-- a fault of a batch, on a keeper whose index takes note of it
+pub noted_writes : {K : Type 0} (model : Model K) (old new : IndexedKeeper K) (s : State) (b : BatchValue) (fault : Fault) → IsNoted fault old.index new.index → IsIndexOf old.index s
+    → Writes model old.keeper new.keeper s b (Err fault) → Writes (indexed model) old new s b (Err fault)
+noted_writes model old new s b Memory noted index h = (h, subst (λ (m : Index). IsIndexOf m s) (sym noted) index)
+noted_writes model old new s b Device noted index h = h
+noted_writes model old new s b Damaged noted index h = h
+noted_writes model old new s b Reopen noted index h = h
 
 -- ---- edits one by one
 first_by : (at : ℕ) (s t : State) (e : EditValue) (es : List EditValue) (r : Result State Refusal) → step s e ≡ r → (placed at r >>= λ u. edited (at + 1) u es) ≡ Ok t → (u : State) × (step s e ≡ Ok u) × (edited (at + 1) u es ≡ Ok t)

@@ -104,7 +104,7 @@ run_there s name first last c gs there holds is =
 
 -- ---- runs one behind the other
 
-pub taken_behind : (s : State) (name : Text) (front behind : List KeptOutline) (old mid new : PageFold) → TakesRun s name front old mid true → TakesRun s name behind mid new true → TakesRun s name (front ++ behind) old new true
+pub taken_behind : (s : State) (name : Text) (front behind : List KeptOutline) (old mid new : PageFold) → TakesRun name front old mid s true → TakesRun name behind mid new s true → TakesRun name (front ++ behind) old new s true
 taken_behind s name front behind old mid new before here t c q met fs there pairs held =
     let parts = parted c.features front behind fs pairs in
     subst (IsFoldOf q new) (append_assoc met parts.firsts parts.others ∙ ap (λ l. met ++ l) parts.whole)

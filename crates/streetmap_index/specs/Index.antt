@@ -22,42 +22,47 @@ pub record IsOutlined (o : OutlinedCollection) (c : Collection) : Type 0 where
   pub time : option_map string_bytes o.time ≡ c.time
   pub outlines : AreListedChunksOf o.outlines c.features
 
--- and the collection is there
+-- and the collection exists
 abbrev pub IsOutlinedIf : OutlinedCollection → Option Collection → Type 0
 IsOutlinedIf o None = ⊥
 IsOutlinedIf o (Some c) = IsOutlined o c
+
+-- this is found in a state that has the collection as it is known
+abbrev pub IfOutlined : {T : Type 0} → OutlinedCollection → Text → (State → T → Type 0) → State → T
+    → Type 0
+IfOutlined o name Is s found = IsOutlinedIf o (get s.collections name) → Is s found
 
 -- what an index knows under a name
 abbrev pub known_under : Text → List (String Global × OutlinedCollection)
     → Option OutlinedCollection
 known_under name known = lookup (λ key. is_eq (text_cmp name (string_bytes key))) known
 
--- each collection that is known is there, and as it is known
+-- each collection that is known exists, and is as it is known
 abbrev pub AreKnown : List (String Global × OutlinedCollection) → State → Type 0
 AreKnown known s = (name : Text) (o : OutlinedCollection) → known_under name known ≡ Some o
     → IsOutlinedIf o (get s.collections name)
 
--- each collection that is there is known
+-- each collection that exists is known
 abbrev pub KnowsAll : List (String Global × OutlinedCollection) → State → Type 0
 KnowsAll known s = (name : Text) (c : Collection) → get s.collections name ≡ Some c
     → IsSome (known_under name known)
 
--- what an index knows is so, and it knows all where it says that
+-- what an index knows is so, and it knows all if it says that
 abbrev pub IsIndexOf : Index → State → Type 0
 IsIndexOf index s = AreKnown index.known.entries s
     × (IsTrue index.is_whole → KnowsAll index.known.entries s)
 
 -- what was learnt of a collection, if it was, is so
-abbrev pub Learns : State → Text → Option OutlinedCollection → Type 0
-Learns s name None = Unit {0}
-Learns s name (Some o) = IsOutlinedIf o (get s.collections name)
+abbrev pub Learns : Text → State → Option OutlinedCollection → Type 0
+Learns name s None = Unit {0}
+Learns name s (Some o) = IsOutlinedIf o (get s.collections name)
 
 -- if it has this title, and the times of its features are read from this property
-abbrev pub LearnsUnder : State → Text → String Global → Option (String Global)
+abbrev pub LearnsUnder : Text → String Global → Option (String Global) → State
     → Option OutlinedCollection → Type 0
-LearnsUnder s name title property o =
+LearnsUnder name title property s o =
     (c : Collection) → get s.collections name ≡ Some c → string_bytes title ≡ c.title
-    → option_map string_bytes property ≡ c.time → Learns s name o
+    → option_map string_bytes property ≡ c.time → Learns name s o
 
 -- the collection that an edit is of
 abbrev pub collection_of : EditValue → Text
@@ -66,9 +71,9 @@ collection_of (edit.insert name f) = name
 collection_of (edit.replace name f) = name
 collection_of (edit.delete name id) = name
 
--- where memory was refused the index stays, and a fault that shuts the keeper leaves nothing known
-abbrev pub IsHeeded : Fault → Index → Index → Type 0
-IsHeeded Memory old new = new ≡ old
-IsHeeded Device old new = new.known.entries ≡ []
-IsHeeded Damaged old new = new.known.entries ≡ []
-IsHeeded Reopen old new = new.known.entries ≡ []
+-- if memory ran out the index stays, and a fault that shuts the keeper leaves nothing known
+abbrev pub IsNoted : Fault → Index → Index → Type 0
+IsNoted Memory old new = new ≡ old
+IsNoted Device old new = new.known.entries ≡ []
+IsNoted Damaged old new = new.known.entries ≡ []
+IsNoted Reopen old new = new.known.entries ≡ []

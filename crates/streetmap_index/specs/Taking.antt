@@ -27,23 +27,23 @@ abbrev pub HaveIds : List KeptOutline → List FeatureValue → Type 0
 HaveIds os fs = map (λ (o : KeptOutline). string_bytes o.id) os
     ≡ map (λ (f : FeatureValue). f.id) fs
 
--- if all were taken, the features with these outlines were met behind those met before
-abbrev pub TakesRun : State → Text → List KeptOutline → PageFold → PageFold → Bool → Type 0
-TakesRun s name os old new taken =
+-- if all were taken, the features with these outlines were met after those met before
+abbrev pub TakesRun : Text → List KeptOutline → PageFold → PageFold → State → Bool → Type 0
+TakesRun name os old new s taken =
     IsTrue taken → (c : Collection) (q : QueryValue) (met fs : List FeatureValue)
     → get s.collections name ≡ Some c → Pairs c.features os fs → IsFoldOf q old met
     → IsFoldOf q new (met ++ fs)
 
--- if all were taken, the features with a chunk's outlines were met behind those met before
-abbrev pub TakesOutlined : State → Text → QueryValue → Chunk → PageFold → PageFold → Bool → Type 0
-TakesOutlined s name q chunk old new taken =
+-- if all were taken, the features with a chunk's outlines were met after those met before
+abbrev pub TakesOutlined : Text → QueryValue → Chunk → PageFold → PageFold → State → Bool → Type 0
+TakesOutlined name q chunk old new s taken =
     IsTrue taken → (c : Collection) (met fs : List FeatureValue) → get s.collections name ≡ Some c
     → IsBounded chunk → Pairs c.features chunk.outlines.items fs → HoldsCandidates q old met
     → HoldsCandidates q new (met ++ fs)
 
--- if the outlines are those of the collection's features, this is the page, if it is there
-abbrev pub IsOutlinedPage : State → Text → QueryValue → Chunks → Option Page → Type 0
-IsOutlinedPage s name q outlines None = Unit {0}
-IsOutlinedPage s name q outlines (Some page) =
+-- if the outlines are those of the collection's features, this is the page, if there is one
+abbrev pub IsOutlinedPage : Text → QueryValue → Chunks → State → Option Page → Type 0
+IsOutlinedPage name q outlines s None = Unit {0}
+IsOutlinedPage name q outlines s (Some page) =
     (c : Collection) → get s.collections name ≡ Some c → AreListedChunksOf outlines c.features
     → page_value page ≡ page_over q (values c.features)

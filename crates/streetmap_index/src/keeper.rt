@@ -1,25 +1,25 @@
 //! A keeper with an index.
-ghost use Rattle.std.specs.Prelude.{◌≡◌, Some, None, IsErr, IsErrOf};
+ghost use Rattle.std.specs.Prelude.{◌≡◌};
 ghost use Rattle.streetmap_ledger.specs.State.{State};
-ghost use Rattle.streetmap_ledger.specs.Keep.{Looks, Shows, Tells, Lists, LeavesOnly, ShutsBy};
-ghost use Rattle.streetmap_ledger.specs.Keep.{AsBefore};
-ghost use Rattle.streetmap_index.specs.Index.{IsIndexOf, IsHeeded};
+ghost use Rattle.streetmap_ledger.specs.Keep.{IsRead, IsPageOf, IsSummaryOf, AreSummaries};
+ghost use Rattle.streetmap_index.specs.Index.{IsIndexOf, IsNoted};
+ghost use Rattle.streetmap_index.specs.Indexed.{indexed};
 
 use crate::index::Index;
 use crate::learning::learn;
 use crate::page::page_with;
-use crate::telling::{collection_with, collections_with};
+use crate::summaries::{collection_with, collections_with};
 use std::alloc::Global;
 use streetmap_geojson::Feature;
 use streetmap_ledger::{
-    Batch, Fault, FeatureOutline, Keeper, KeepsBatches, KeptBatch, Page, Reply, Summary,
+    Batch, Durable, Fault, Keeper, KeepsBatches, KeptBatch, Outlined, Page, Reply, Summary,
 };
 use streetmap_query::Query;
 
-/// A keeper that answers pages and tells of collections of another one by what it knows of the
-/// features, and reads few of them. What it knows of a collection it learns at the first look, and
-/// keeps right by each batch. Where memory for that is refused the other keeper answers, and
-/// nothing is learnt at the next looks.
+/// A keeper that answers pages and summaries of collections of another one by what it knows of the
+/// features, and reads few of them. It learns a collection when it is first read, and keeps what it
+/// knows right at each batch. If memory runs out for that, the other keeper answers, and the next
+/// reads learn nothing.
 #[derive(Drop)]
 pub struct IndexedKeeper<K> {
     alloc: Global,
@@ -27,7 +27,7 @@ pub struct IndexedKeeper<K> {
     index: Index,
 }
 
-impl<K: Keeper> IndexedKeeper<K> {
+impl<K: Outlined> IndexedKeeper<K> {
     /// A keeper over this one, which knows of no collection yet.
     pub fn new(alloc: Global, keeper: K) -> Self
         ensures keeper { result.keeper ≡ keeper }
@@ -40,10 +40,10 @@ impl<K: Keeper> IndexedKeeper<K> {
         }
     }
 
-    /// Forgets all, where a fault shut the keeper.
-    fn heed(&mut self, fault: Fault)
+    /// Forgets all, if a fault shut the keeper.
+    fn note_fault(&mut self, fault: Fault)
         ensures keeper { self.new.keeper ≡ self.old.keeper }
-        ensures heeded { IsHeeded fault self.old.index self.new.index }
+        ensures noted { IsNoted fault self.old.index self.new.index }
     {
         match fault {
             Fault::Memory => {}
@@ -51,24 +51,9 @@ impl<K: Keeper> IndexedKeeper<K> {
         }
     }
 
-    /// Learns of a collection that is not known, where memory for it is there.
+    /// Learns a collection that is not known, if there is memory for it.
     fn learn(&mut self, collection: &str) -> Result<(), Fault>
-        ensures spared { K.spares self.old.keeper self.new.keeper }
-        ensures began_clean { K.is_clean self.new.keeper → K.is_clean self.old.keeper }
-        ensures faults { ShutsBy result (K.cause self.old.keeper) (K.cause self.new.keeper) }
-        ensures device { K.is_clean self.new.keeper → (s : State) →
-            K.stands self.old.keeper s →
-            IsErrOf result Fault.Device → K.fails self.old.keeper self.new.keeper }
-        ensures learns { K.is_clean self.new.keeper → (s : State) → K.stands self.old.keeper s
-            → IsIndexOf self.old.index s → Looks s (λ _. IsIndexOf self.new.index s) result
-            (K.stands self.new.keeper) }
-        ensures leaves { K.is_clean self.new.keeper → (s : State) → K.stands self.old.keeper s
-            → LeavesOnly (K.may_leave self.old.keeper) (Some s)
-            → LeavesOnly (K.may_leave self.new.keeper) (Some s) }
-        ensures reopen { IsErrOf result Fault.Reopen
-            → AsBefore (K.stands self.old.keeper) (K.stands self.new.keeper)
-            (K.may_leave self.old.keeper) (K.may_leave self.new.keeper) }
-        ensures unlearnt { IsErr result → self.new.index ≡ self.old.index }
+        ensures { IsRead (indexed K.model) self.old self.new result (λ _ _. Unit {0}) }
     {
         match learn(self.alloc, &mut self.keeper, collection) {
             Ok(Some(outlined)) => {
@@ -86,22 +71,8 @@ impl<K: Keeper> IndexedKeeper<K> {
 
     /// The page of a collection by what is known of it, or else the keeper's own.
     fn page_known(&mut self, collection: &str, query: &Query) -> Result<Option<Page>, Fault>
-        ensures spared { K.spares self.old.keeper self.new.keeper }
-        ensures began_clean { K.is_clean self.new.keeper → K.is_clean self.old.keeper }
-        ensures faults { ShutsBy result (K.cause self.old.keeper) (K.cause self.new.keeper) }
-        ensures device { K.is_clean self.new.keeper → (s : State) →
-            K.stands self.old.keeper s →
-            IsErrOf result Fault.Device → K.fails self.old.keeper self.new.keeper }
-        ensures shows { K.is_clean self.new.keeper → (s : State) → K.stands self.old.keeper s
-            → IsIndexOf self.old.index s → Shows s collection.now query.now result
-            (K.stands self.new.keeper) }
-        ensures leaves { K.is_clean self.new.keeper → (s : State) → K.stands self.old.keeper s
-            → LeavesOnly (K.may_leave self.old.keeper) (Some s)
-            → LeavesOnly (K.may_leave self.new.keeper) (Some s) }
-        ensures reopen { IsErrOf result Fault.Reopen
-            → AsBefore (K.stands self.old.keeper) (K.stands self.new.keeper)
-            (K.may_leave self.old.keeper) (K.may_leave self.new.keeper) }
-        ensures index { self.new.index ≡ self.old.index }
+        ensures { IsRead (indexed K.model) self.old self.new result
+            (IsPageOf collection.now query.now) }
     {
         match self.index.known.get(collection) {
             Some(outlined) => page_with(self.alloc, &mut self.keeper, collection, outlined, query),
@@ -109,23 +80,10 @@ impl<K: Keeper> IndexedKeeper<K> {
         }
     }
 
-    /// The page of a collection, which is learnt before where it is due.
+    /// The page of a collection, which is learnt before that if it is due.
     fn page_learnt(&mut self, collection: &str, query: &Query) -> Result<Option<Page>, Fault>
-        ensures spared { K.spares self.old.keeper self.new.keeper }
-        ensures began_clean { K.is_clean self.new.keeper → K.is_clean self.old.keeper }
-        ensures faults { ShutsBy result (K.cause self.old.keeper) (K.cause self.new.keeper) }
-        ensures device { K.is_clean self.new.keeper → (s : State) → K.stands self.old.keeper s
-            → IsIndexOf self.old.index s → IsErrOf result Fault.Device
-            → K.fails self.old.keeper self.new.keeper }
-        ensures shows { K.is_clean self.new.keeper → (s : State) → K.stands self.old.keeper s
-            → IsIndexOf self.old.index s → Shows s collection.now query.now result (λ t.
-            K.stands self.new.keeper t × IsIndexOf self.new.index t) }
-        ensures leaves { K.is_clean self.new.keeper → (s : State) → K.stands self.old.keeper s
-            → IsIndexOf self.old.index s → LeavesOnly (K.may_leave self.old.keeper) (Some s)
-            → LeavesOnly (K.may_leave self.new.keeper) (Some s) }
-        ensures reopen { IsErrOf result Fault.Reopen
-            → AsBefore (K.stands self.old.keeper) (K.stands self.new.keeper)
-            (K.may_leave self.old.keeper) (K.may_leave self.new.keeper) }
+        ensures { IsRead (indexed K.model) self.old self.new result
+            (IsPageOf collection.now query.now) }
     {
         if !self.index.is_due(collection) {
             return self.page_known(collection, query);
@@ -136,47 +94,19 @@ impl<K: Keeper> IndexedKeeper<K> {
         }
     }
 
-    /// What is told of a collection by what is known of it, or else the keeper's own answer.
+    /// The summary of a collection by what is known of it, or else the keeper's own.
     fn collection_known(&mut self, id: &str) -> Result<Option<Summary>, Fault>
-        ensures spared { K.spares self.old.keeper self.new.keeper }
-        ensures began_clean { K.is_clean self.new.keeper → K.is_clean self.old.keeper }
-        ensures faults { ShutsBy result (K.cause self.old.keeper) (K.cause self.new.keeper) }
-        ensures device { K.is_clean self.new.keeper → (s : State) →
-            K.stands self.old.keeper s →
-            IsErrOf result Fault.Device → K.fails self.old.keeper self.new.keeper }
-        ensures tells { K.is_clean self.new.keeper → (s : State) → K.stands self.old.keeper s
-            → IsIndexOf self.old.index s → Tells s id.now result (K.stands self.new.keeper) }
-        ensures leaves { K.is_clean self.new.keeper → (s : State) → K.stands self.old.keeper s
-            → LeavesOnly (K.may_leave self.old.keeper) (Some s)
-            → LeavesOnly (K.may_leave self.new.keeper) (Some s) }
-        ensures reopen { IsErrOf result Fault.Reopen
-            → AsBefore (K.stands self.old.keeper) (K.stands self.new.keeper)
-            (K.may_leave self.old.keeper) (K.may_leave self.new.keeper) }
-        ensures index { self.new.index ≡ self.old.index }
+        ensures { IsRead (indexed K.model) self.old self.new result (IsSummaryOf id.now) }
     {
         match self.index.known.get(id) {
-            Some(outlined) => collection_with(self.alloc, &mut self.keeper, id, outlined),
+            Some(outlined) => collection_with(self.alloc, &self.keeper, id, outlined),
             None => self.keeper.collection(id),
         }
     }
 
-    /// What is told of a collection, which is learnt before where it is due.
+    /// The summary of a collection, which is learnt before that if it is due.
     fn collection_learnt(&mut self, id: &str) -> Result<Option<Summary>, Fault>
-        ensures spared { K.spares self.old.keeper self.new.keeper }
-        ensures began_clean { K.is_clean self.new.keeper → K.is_clean self.old.keeper }
-        ensures faults { ShutsBy result (K.cause self.old.keeper) (K.cause self.new.keeper) }
-        ensures device { K.is_clean self.new.keeper → (s : State) → K.stands self.old.keeper s
-            → IsIndexOf self.old.index s → IsErrOf result Fault.Device
-            → K.fails self.old.keeper self.new.keeper }
-        ensures tells { K.is_clean self.new.keeper → (s : State) → K.stands self.old.keeper s
-            → IsIndexOf self.old.index s → Tells s id.now result (λ t. K.stands self.new.keeper t
-            × IsIndexOf self.new.index t) }
-        ensures leaves { K.is_clean self.new.keeper → (s : State) → K.stands self.old.keeper s
-            → IsIndexOf self.old.index s → LeavesOnly (K.may_leave self.old.keeper) (Some s)
-            → LeavesOnly (K.may_leave self.new.keeper) (Some s) }
-        ensures reopen { IsErrOf result Fault.Reopen
-            → AsBefore (K.stands self.old.keeper) (K.stands self.new.keeper)
-            (K.may_leave self.old.keeper) (K.may_leave self.new.keeper) }
+        ensures { IsRead (indexed K.model) self.old self.new result (IsSummaryOf id.now) }
     {
         if !self.index.is_due(id) {
             return self.collection_known(id);
@@ -187,26 +117,12 @@ impl<K: Keeper> IndexedKeeper<K> {
         }
     }
 
-    /// What is told of all collections: by what is known of them, where all are known.
+    /// The summaries of all collections: by what is known of them, if all are known.
     fn collections_known(&mut self) -> Result<Vec<Summary>, Fault>
-        ensures spared { K.spares self.old.keeper self.new.keeper }
-        ensures began_clean { K.is_clean self.new.keeper → K.is_clean self.old.keeper }
-        ensures faults { ShutsBy result (K.cause self.old.keeper) (K.cause self.new.keeper) }
-        ensures device { K.is_clean self.new.keeper → (s : State) →
-            K.stands self.old.keeper s →
-            IsErrOf result Fault.Device → K.fails self.old.keeper self.new.keeper }
-        ensures lists { K.is_clean self.new.keeper → (s : State) → K.stands self.old.keeper s
-            → IsIndexOf self.old.index s → Lists s result (λ t. K.stands self.new.keeper t
-            × IsIndexOf self.new.index t) }
-        ensures leaves { K.is_clean self.new.keeper → (s : State) → K.stands self.old.keeper s
-            → LeavesOnly (K.may_leave self.old.keeper) (Some s)
-            → LeavesOnly (K.may_leave self.new.keeper) (Some s) }
-        ensures reopen { IsErrOf result Fault.Reopen
-            → AsBefore (K.stands self.old.keeper) (K.stands self.new.keeper)
-            (K.may_leave self.old.keeper) (K.may_leave self.new.keeper) }
+        ensures { IsRead (indexed K.model) self.old self.new result AreSummaries }
     {
         if self.index.is_whole {
-            return collections_with(self.alloc, &mut self.keeper, &self.index.known);
+            return collections_with(self.alloc, &self.keeper, &self.index.known);
         }
         match self.keeper.collections() {
             Ok(summaries) => {
@@ -218,40 +134,14 @@ impl<K: Keeper> IndexedKeeper<K> {
     }
 }
 
-impl<K: Keeper> Keeper for IndexedKeeper<K> {
-    ghost use Rattle.streetmap_index.specs.Index.{IsIndexOf};
+impl<K: Outlined> Keeper for IndexedKeeper<K> {
+    ghost use Rattle.streetmap_index.specs.Indexed.{indexed};
 
-    ghost stands = { λ k s. K.stands k.keeper s × IsIndexOf k.index s };
+    ghost model = { indexed K.model };
 
-    ghost may_leave = { λ k. K.may_leave k.keeper };
-
-    ghost cause = { λ k. K.cause k.keeper };
-
-    ghost is_clean = { λ k. K.is_clean k.keeper };
-
-    ghost applies = { λ k b result after. K.applies k.keeper b result after.keeper };
-
-    ghost spares = { λ k l. K.spares k.keeper l.keeper };
-
-    ghost fails = { λ k l. K.fails k.keeper l.keeper };
-
-    ghost one_state = { λ k s t p q. K.one_state k.keeper s t p.0 q.0 };
-
-    ghost shut_has_none = { λ k s shut stands. K.shut_has_none k.keeper s shut stands.0 };
-
-    ghost may_leave_it = { λ k s stands. K.may_leave_it k.keeper s stands.0 };
-
-    ghost well_formed = { λ k s stands. K.well_formed k.keeper s stands.0 };
-
-    ghost spares_itself = { λ k. K.spares_itself k.keeper };
-
-    ghost spares_then = { λ k l m first next. K.spares_then k.keeper l.keeper m.keeper first next };
-
-    ghost fails_later = { λ k l m first next failed.
-        K.fails_later k.keeper l.keeper m.keeper first next failed };
-
-    ghost fails_still = { λ k l m failed shut next.
-        K.fails_still k.keeper l.keeper m.keeper failed shut next };
+    fn is_open(&self) -> bool {
+        self.keeper.is_open()
+    }
 
     fn apply(&mut self, batch: &Batch) -> Result<Reply, Fault> {
         match self.keeper.apply(batch) {
@@ -261,7 +151,7 @@ impl<K: Keeper> Keeper for IndexedKeeper<K> {
             }
             Ok(reply) => Ok(reply),
             Err(fault) => {
-                self.heed(fault);
+                self.note_fault(fault);
                 Err(fault)
             }
         }
@@ -271,7 +161,7 @@ impl<K: Keeper> Keeper for IndexedKeeper<K> {
         match self.page_learnt(collection, query) {
             Ok(page) => Ok(page),
             Err(fault) => {
-                self.heed(fault);
+                self.note_fault(fault);
                 Err(fault)
             }
         }
@@ -281,36 +171,7 @@ impl<K: Keeper> Keeper for IndexedKeeper<K> {
         match self.keeper.feature(collection, id) {
             Ok(found) => Ok(found),
             Err(fault) => {
-                self.heed(fault);
-                Err(fault)
-            }
-        }
-    }
-
-    fn feature_outlined(
-        &mut self,
-        collection: &str,
-        outline: &FeatureOutline,
-    ) -> Result<Option<Feature>, Fault> {
-        match self.keeper.feature_outlined(collection, outline) {
-            Ok(found) => Ok(found),
-            Err(fault) => {
-                self.heed(fault);
-                Err(fault)
-            }
-        }
-    }
-
-    fn features(
-        &mut self,
-        collection: &str,
-        first: &str,
-        last: &str,
-    ) -> Result<Option<Vec<Feature>>, Fault> {
-        match self.keeper.features(collection, first, last) {
-            Ok(found) => Ok(found),
-            Err(fault) => {
-                self.heed(fault);
+                self.note_fault(fault);
                 Err(fault)
             }
         }
@@ -320,7 +181,7 @@ impl<K: Keeper> Keeper for IndexedKeeper<K> {
         match self.collection_learnt(id) {
             Ok(summary) => Ok(summary),
             Err(fault) => {
-                self.heed(fault);
+                self.note_fault(fault);
                 Err(fault)
             }
         }
@@ -330,29 +191,19 @@ impl<K: Keeper> Keeper for IndexedKeeper<K> {
         match self.collections_known() {
             Ok(summaries) => Ok(summaries),
             Err(fault) => {
-                self.heed(fault);
-                Err(fault)
-            }
-        }
-    }
-
-    fn outlines(&mut self, collection: &str) -> Result<Option<Vec<FeatureOutline>>, Fault> {
-        match self.keeper.outlines(collection) {
-            Ok(outlines) => Ok(outlines),
-            Err(fault) => {
-                self.heed(fault);
+                self.note_fault(fault);
                 Err(fault)
             }
         }
     }
 }
 
-impl<K: KeepsBatches> KeepsBatches for IndexedKeeper<K> {
+impl<K: Outlined + KeepsBatches> KeepsBatches for IndexedKeeper<K> {
     fn batch_count(&mut self) -> Result<u64, Fault> {
         match self.keeper.batch_count() {
             Ok(count) => Ok(count),
             Err(fault) => {
-                self.heed(fault);
+                self.note_fault(fault);
                 Err(fault)
             }
         }
@@ -362,7 +213,7 @@ impl<K: KeepsBatches> KeepsBatches for IndexedKeeper<K> {
         match self.keeper.batch(serial) {
             Ok(batch) => Ok(batch),
             Err(fault) => {
-                self.heed(fault);
+                self.note_fault(fault);
                 Err(fault)
             }
         }
@@ -372,9 +223,20 @@ impl<K: KeepsBatches> KeepsBatches for IndexedKeeper<K> {
         match self.keeper.batches(alloc, after, room) {
             Ok(batches) => Ok(batches),
             Err(fault) => {
-                self.heed(fault);
+                self.note_fault(fault);
                 Err(fault)
             }
         }
     }
+}
+
+impl<K: Outlined + Durable> Durable for IndexedKeeper<K> {
+    ghost image = { K.image };
+
+    ghost leaves = { λ k image. K.leaves k.keeper image };
+
+    ghost holds = { K.holds };
+
+    ghost images_hold_states = { λ first last s image is spared clean left.
+        K.images_hold_states first.keeper last.keeper s image is.0 spared clean left };
 }

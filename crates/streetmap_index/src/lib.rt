@@ -1,4 +1,4 @@
-//! A keeper that answers pages and what is told of collections of any other one from an index in
+//! A keeper that answers pages and summaries of collections of any other one from an index in
 //! memory.
 //!
 //! An index has a collection's title and time property, and the outlines of its features
@@ -6,23 +6,22 @@
 //! page shows, or of which the outline does not show whether the query selects them; and by these
 //! the collection is described.
 //!
-//! What is known of a collection is learnt at the first look at it, and follows each batch that is
-//! accepted. Where memory is refused for that all is forgotten, and nothing is learnt at the next
-//! looks. A fault that shuts the other keeper leaves nothing known. Where a collection is not known
-//! the other keeper answers.
+//! What is known of a collection is learnt when it is first read, and follows each batch that is
+//! accepted. If memory runs out for that, all is forgotten, and the next reads learn nothing. A
+//! fault that shuts the other keeper leaves nothing known. If a collection is not known, the other
+//! keeper answers.
 //!
 //! In the order of reading: `outlined` (what is known of a collection, and how it follows edits),
 //! `learning` (how it is learnt from a keeper), `index` (what is known of some collections),
-//! `asking`, `run` and `page`, `telling`, `keeper`.
+//! `run` and `page`, `summaries`, `keeper`.
 #![tactic(auto)]
 
-mod asking;
 mod index;
 mod keeper;
 mod learning;
 mod outlined;
 mod page;
 mod run;
-mod telling;
+mod summaries;
 
 pub use keeper::IndexedKeeper;

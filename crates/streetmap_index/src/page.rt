@@ -1,25 +1,21 @@
 //! A page by outlines.
 ghost use Rattle.std.specs.Prelude.{◌≡◌, ◌∷◌, ◌++◌, [], List, Some, None, IsTrue, true, false};
-ghost use Rattle.std.specs.Prelude.{IsErrOf};
-ghost use Rattle.std.specs.FinMap.{get};
 ghost use Rattle.streetmap_geojson.specs.FeatureValue.{FeatureValue};
 ghost use Rattle.streetmap_geojson.specs.FeatureInvariant.{IsFeature};
 ghost use Rattle.streetmap_query.specs.Views.{query_value};
-ghost use Rattle.streetmap_ledger.specs.State.{State};
 ghost use Rattle.streetmap_ledger.specs.Pages.{is_candidate as is_candidate_of};
 ghost use Rattle.streetmap_ledger.specs.Folds.{IsFoldOf, HoldsCandidates, IsFull};
-ghost use Rattle.streetmap_ledger.specs.Keep.{Looks, Shows, LeavesOnly, ShutsBy, AsBefore};
+ghost use Rattle.streetmap_ledger.specs.Keep.{IsRead, IsPageOf};
 ghost use Rattle.streetmap_outlines.specs.Chunks.{AreInOrder};
 ghost use Rattle.streetmap_outlines.specs.Outlines.{IsOutlineOf, IsBounded};
-ghost use Rattle.streetmap_index.specs.Index.{IsOutlinedIf};
+ghost use Rattle.streetmap_index.specs.Index.{IfOutlined};
 ghost use Rattle.streetmap_outlines.specs.Selecting.{TakesChunk};
 ghost use Rattle.streetmap_index.specs.Taking.{TakesOutlined, IsOutlinedPage};
 
-use crate::asking::ask;
 use crate::outlined::OutlinedCollection;
 use crate::run::{run_length, take_run};
 use std::alloc::Global;
-use streetmap_ledger::{Fault, Keeper, Page, PageFold};
+use streetmap_ledger::{Fault, Outlined, Page, PageFold};
 use streetmap_outlines::{
     Chunk, Chunks, KeptOutline, all_come_after, comes_after, count_selected, is_candidate,
     is_passed_over, is_selected, is_unmarked, lies_outside, window_of,
@@ -27,11 +23,11 @@ use streetmap_outlines::{
 use streetmap_query::Query;
 
 /// How many features a page reads one by one at most. It shows up to 1,000, and the keeper's own
-/// page is the faster one where many more have to be read to be tested.
+/// page is faster if many more have to be read to be tested.
 const MOST_READ: usize = 2000;
 
-/// Counts the candidate that comes next, where its outline tells that it is selected and the page
-/// does not show it, and answers whether it did.
+/// Counts the next candidate if its outline shows that it is selected and the page does not show
+/// it, and returns whether it did.
 fn count_unread(query: &Query, fold: &mut PageFold<'_>, outline: &KeptOutline) -> bool
     ensures counted { IsTrue result → (fs : List FeatureValue) (f : FeatureValue)
         → IsOutlineOf outline.now f → IsFeature f → IsFoldOf (query_value query.now) fold.old fs
@@ -49,8 +45,8 @@ fn count_unread(query: &Query, fold: &mut PageFold<'_>, outline: &KeptOutline) -
     true
 }
 
-/// Takes the feature that comes next, where its outline tells enough, and answers whether it did.
-/// Otherwise the feature is a candidate, and has to be taken itself.
+/// Takes the next feature if its outline says enough, and returns whether it did. Otherwise the
+/// feature is a candidate, and has to be taken itself.
 fn take_unread(query: &Query, fold: &mut PageFold<'_>, outline: &KeptOutline) -> bool
     ensures taken { IsTrue result → (fs : List FeatureValue) (f : FeatureValue)
         → IsOutlineOf outline.now f → IsFeature f
@@ -63,16 +59,16 @@ fn take_unread(query: &Query, fold: &mut PageFold<'_>, outline: &KeptOutline) ->
     !is_candidate(query, outline) || count_unread(query, fold, outline)
 }
 
-/// Whether a page shows none of the features that come next: those that do not come after the id
-/// asked, and those that do once the page is full.
+/// Whether a page shows none of the next features: those that do not come after the query's id, and
+/// those that do once the page is full.
 fn hides(fold: &PageFold<'_>, behind: bool) -> bool
     ensures { IsTrue result → IsTrue behind → IsFull fold.now }
 {
     !behind || fold.is_full()
 }
 
-/// Counts the features of a chunk, which come next, where the chunk tells how many the query
-/// selects and the page shows none of them, and answers whether it did.
+/// Counts the next features, which are those of a chunk, if the chunk says how many the query
+/// selects and the page shows none of them, and returns whether it did.
 fn count_chunk(query: &Query, fold: &mut PageFold<'_>, chunk: &Chunk) -> bool
     ensures counted { IsTrue result → IsBounded chunk.now →
         AreInOrder chunk.now.outlines.items →
@@ -94,18 +90,18 @@ fn count_chunk(query: &Query, fold: &mut PageFold<'_>, chunk: &Chunk) -> bool
     }
 }
 
-/// How many features a page shows at most behind the next one, where it has read so many: no fewer
-/// where each of these is shown.
+/// How many features a page shows at most after the next one, if it has read this many: no fewer if
+/// each of these is shown.
 fn room_behind(query: &Query, read: usize) -> usize {
     (query.limit as usize)
         .saturating_sub(read)
         .saturating_sub(1)
 }
 
-/// Takes the features with a chunk's outlines, which come next, and answers whether it did: not
-/// where one of them is not there, or one more than `MOST_READ` would have to be read. `read`
+/// Takes the next features, which are those with a chunk's outlines, and returns whether it did:
+/// not if one of them does not exist, or one more than `MOST_READ` would have to be read. `read`
 /// counts those that were read.
-fn take_outlined<K: Keeper>(
+fn take_outlined<K: Outlined>(
     alloc: Global,
     keeper: &mut K,
     collection: &str,
@@ -114,18 +110,9 @@ fn take_outlined<K: Keeper>(
     fold: &mut PageFold<'_>,
     read: &mut usize,
 ) -> Result<bool, Fault>
-    requires is_open { K.cause keeper.old ≡ None }
-    ensures spared { K.spares keeper.old keeper.new }
-    ensures began_clean { K.is_clean keeper.new → K.is_clean keeper.old }
-    ensures faults { ShutsBy result None (K.cause keeper.new) }
-    ensures device { K.is_clean keeper.new → (s : State) → K.stands keeper.old s →
-        IsErrOf result Fault.Device → K.fails keeper.old keeper.new }
-    ensures takes { K.is_clean keeper.new → (s : State) → K.stands keeper.old s
-        → Looks s (TakesOutlined s collection.now (query_value query.now) chunk.now fold.old
-        fold.new) result (K.stands keeper.new) }
-    ensures leaves { K.is_clean keeper.new → (s : State) → K.stands keeper.old s
-        → LeavesOnly (K.may_leave keeper.old) (Some s)
-        → LeavesOnly (K.may_leave keeper.new) (Some s) }
+    requires { K.model.cause keeper.old ≡ None }
+    ensures { IsRead K.model keeper.old keeper.new result
+        (TakesOutlined collection.now (query_value query.now) chunk.now fold.old fold.new) }
 {
     let window = window_of(query);
     let extents = chunk.extents.as_slice();
@@ -156,27 +143,18 @@ fn take_outlined<K: Keeper>(
     Ok(true)
 }
 
-/// The page of an open keeper's collection by the outlines of its features; none where one of these
-/// is not there, or more than `MOST_READ` would have to be read.
-fn page_by_outlines<K: Keeper>(
+/// The page of an open keeper's collection by the outlines of its features; none if one of these
+/// does not exist, or more than `MOST_READ` would have to be read.
+fn page_by_outlines<K: Outlined>(
     alloc: Global,
     keeper: &mut K,
     collection: &str,
     outlines: &Chunks,
     query: &Query,
 ) -> Result<Option<Page>, Fault>
-    requires is_open { K.cause keeper.old ≡ None }
-    ensures spared { K.spares keeper.old keeper.new }
-    ensures began_clean { K.is_clean keeper.new → K.is_clean keeper.old }
-    ensures faults { ShutsBy result None (K.cause keeper.new) }
-    ensures device { K.is_clean keeper.new → (s : State) → K.stands keeper.old s →
-        IsErrOf result Fault.Device → K.fails keeper.old keeper.new }
-    ensures shows { K.is_clean keeper.new → (s : State) → K.stands keeper.old s
-        → Looks s (IsOutlinedPage s collection.now (query_value query.now) outlines.now) result
-        (K.stands keeper.new) }
-    ensures leaves { K.is_clean keeper.new → (s : State) → K.stands keeper.old s
-        → LeavesOnly (K.may_leave keeper.old) (Some s)
-        → LeavesOnly (K.may_leave keeper.new) (Some s) }
+    requires { K.model.cause keeper.old ≡ None }
+    ensures { IsRead K.model keeper.old keeper.new result
+        (IsOutlinedPage collection.now (query_value query.now) outlines.now) }
 {
     let mut fold = PageFold::new(alloc, query);
     let mut read: usize = 0;
@@ -208,36 +186,22 @@ fn page_by_outlines<K: Keeper>(
 }
 
 /// The page of a collection by what is known of it.
-pub fn page_with<K: Keeper>(
+pub fn page_with<K: Outlined>(
     alloc: Global,
     keeper: &mut K,
     collection: &str,
     outlined: &OutlinedCollection,
     query: &Query,
 ) -> Result<Option<Page>, Fault>
-    ensures spared { K.spares keeper.old keeper.new }
-    ensures began_clean { K.is_clean keeper.new → K.is_clean keeper.old }
-    ensures faults { ShutsBy result (K.cause keeper.old) (K.cause keeper.new) }
-    ensures device { K.is_clean keeper.new → (s : State) → K.stands keeper.old s →
-        IsErrOf result Fault.Device → K.fails keeper.old keeper.new }
-    ensures shows { K.is_clean keeper.new → (s : State) → K.stands keeper.old s
-        → IsOutlinedIf outlined.now (get s.collections collection.now)
-        → Shows s collection.now query.now result (K.stands keeper.new) }
-    ensures leaves { K.is_clean keeper.new → (s : State) → K.stands keeper.old s
-        → LeavesOnly (K.may_leave keeper.old) (Some s)
-        → LeavesOnly (K.may_leave keeper.new) (Some s) }
-    ensures reopen { IsErrOf result Fault.Reopen
-        → AsBefore (K.stands keeper.old) (K.stands keeper.new) (K.may_leave keeper.old)
-        (K.may_leave keeper.new) }
+    ensures { IsRead K.model keeper.old keeper.new result
+        (IfOutlined outlined.now collection.now (IsPageOf collection.now query.now)) }
 {
-    match ask(keeper, collection) {
-        Ok(()) => {
-            match page_by_outlines(alloc, keeper, collection, &outlined.outlines, query) {
-                Ok(Some(page)) => Ok(Some(page)),
-                Ok(None) => keeper.page(collection, query),
-                Err(fault) => Err(fault),
-            }
-        }
+    if !keeper.is_open() {
+        return Err(Fault::Reopen);
+    }
+    match page_by_outlines(alloc, keeper, collection, &outlined.outlines, query) {
+        Ok(Some(page)) => Ok(Some(page)),
+        Ok(None) => keeper.page(collection, query),
         Err(fault) => Err(fault),
     }
 }

@@ -1,36 +1,35 @@
-//! Runs of features that a page reads, since their outlines stand beside one another.
+//! Runs of features that a page reads, whose outlines follow one another.
 ghost use Rattle.std.specs.Prelude.{◌≡◌, ◌≤◌, ◌∷◌, ◌++◌, [], List, All, Some, None, IsTrue, IfOk};
-ghost use Rattle.std.specs.Prelude.{IsErrOf, length, take, slice_get, string_bytes};
+ghost use Rattle.std.specs.Prelude.{length, take, slice_get, string_bytes};
 ghost use Rattle.streetmap_geojson.specs.FeatureValue.{FeatureValue};
 ghost use Rattle.streetmap_query.specs.QueryValue.{QueryValue};
 ghost use Rattle.streetmap_query.specs.Views.{query_value};
-ghost use Rattle.streetmap_ledger.specs.State.{State};
 ghost use Rattle.streetmap_ledger.specs.Folds.{IsFoldOf};
-ghost use Rattle.streetmap_ledger.specs.Keep.{Looks, LeavesOnly, ShutsBy};
+ghost use Rattle.streetmap_ledger.specs.Keep.{IsRead};
 ghost use Rattle.streetmap_index.specs.Taking.{IsExamined, HaveIds, TakesRun};
 ghost use Rattle.streetmap_outlines.specs.declared.kept.KeptOutline.{KeptOutline};
 
 use std::alloc::{AllocError, Global};
 use streetmap_geojson::Feature;
-use streetmap_ledger::{Fault, Keeper, PageFold};
+use streetmap_ledger::{Fault, Outlined, PageFold};
 use streetmap_outlines::{KeptOutline, comes_after, is_candidate, is_selected};
 use streetmap_query::Query;
 
-/// How many features are read together at least, where their outlines have rowids. One takes some
-/// 4.5 microseconds alone, and a run takes 14, and 2 more for each: 5 are read sooner alone, and 6
+/// How many features are read together at least, if their outlines have rowids. One takes some 4.5
+/// microseconds alone, and a run takes 14, and 2 more for each: 5 are read sooner alone, and 6
 /// together.
 const SHORTEST_RUN: usize = 6;
 
 /// Whether a page that has room reads the feature with this outline: it examines it, and the
-/// outline does not tell that it is counted alone.
+/// outline does not show that it is only counted.
 fn is_due(query: &Query, outline: &KeptOutline) -> bool
     ensures { IsTrue result → IsExamined (query_value query.now) outline.now }
 {
     is_candidate(query, outline) && (comes_after(query, outline) || !is_selected(query, outline))
 }
 
-/// How many of these outlines, from the first on and so many at most, are of features that a page
-/// reads one behind the other.
+/// How many of these outlines, from the first on and `most` at most, are of features that a page
+/// reads one after the other.
 pub fn run_length(query: &Query, outlines: &[KeptOutline], most: usize) -> usize
     ensures within { result ≤ length outlines.now }
     ensures examined { All (IsExamined (query_value query.now)) (take result outlines.now) }
@@ -54,7 +53,7 @@ fn has_id(outlines: &[KeptOutline], place: usize, feature: &Feature) -> bool
     }
 }
 
-/// Takes the features that come next, and answers whether they are those with these outlines.
+/// Takes the next features, and returns whether they are those with these outlines.
 fn take_all(
     outlines: &[KeptOutline],
     features: Vec<Feature>,
@@ -75,9 +74,9 @@ fn take_all(
     Ok(place == outlines.len())
 }
 
-/// Takes the features with these outlines, which come next, as the keeper has them, and answers
-/// whether they are there, with none between them.
-fn take_between<K: Keeper>(
+/// Takes the next features, which are those with these outlines, as the keeper has them, and
+/// returns whether they exist, with none between them.
+fn take_between<K: Outlined>(
     keeper: &mut K,
     collection: &str,
     outlines: &[KeptOutline],
@@ -85,17 +84,8 @@ fn take_between<K: Keeper>(
     last: &str,
     fold: &mut PageFold<'_>,
 ) -> Result<bool, Fault>
-    ensures spared { K.spares keeper.old keeper.new }
-    ensures began_clean { K.is_clean keeper.new → K.is_clean keeper.old }
-    ensures faults { ShutsBy result (K.cause keeper.old) (K.cause keeper.new) }
-    ensures device { K.is_clean keeper.new → (s : State) → K.stands keeper.old s →
-        IsErrOf result Fault.Device → K.fails keeper.old keeper.new }
-    ensures takes { K.is_clean keeper.new → (s : State) → K.stands keeper.old s
-        → Looks s (TakesRun s collection.now outlines.now fold.old fold.new) result
-        (K.stands keeper.new) }
-    ensures leaves { K.is_clean keeper.new → (s : State) → K.stands keeper.old s
-        → LeavesOnly (K.may_leave keeper.old) (Some s)
-        → LeavesOnly (K.may_leave keeper.new) (Some s) }
+    ensures { IsRead K.model keeper.old keeper.new result
+        (TakesRun collection.now outlines.now fold.old fold.new) }
 {
     match keeper.features(collection, first, last) {
         Ok(Some(features)) => match take_all(outlines, features, fold) {
@@ -107,27 +97,18 @@ fn take_between<K: Keeper>(
     }
 }
 
-/// Takes the feature with this outline, which comes next, as the keeper has it, and answers whether
-/// it is there.
-fn take_one<K: Keeper>(
+/// Takes the next feature, which is the one with this outline, as the keeper has it, and returns
+/// whether it exists.
+fn take_one<K: Outlined>(
     alloc: Global,
     keeper: &mut K,
     collection: &str,
     outline: &KeptOutline,
     fold: &mut PageFold<'_>,
 ) -> Result<bool, Fault>
-    requires { K.cause keeper.old ≡ None }
-    ensures spared { K.spares keeper.old keeper.new }
-    ensures began_clean { K.is_clean keeper.new → K.is_clean keeper.old }
-    ensures faults { ShutsBy result None (K.cause keeper.new) }
-    ensures device { K.is_clean keeper.new → (s : State) → K.stands keeper.old s →
-        IsErrOf result Fault.Device → K.fails keeper.old keeper.new }
-    ensures takes { K.is_clean keeper.new → (s : State) → K.stands keeper.old s
-        → Looks s (TakesRun s collection.now (outline.now ∷ []) fold.old fold.new) result
-        (K.stands keeper.new) }
-    ensures leaves { K.is_clean keeper.new → (s : State) → K.stands keeper.old s
-        → LeavesOnly (K.may_leave keeper.old) (Some s)
-        → LeavesOnly (K.may_leave keeper.new) (Some s) }
+    requires { K.model.cause keeper.old ≡ None }
+    ensures { IsRead K.model keeper.old keeper.new result
+        (TakesRun collection.now (outline.now ∷ []) fold.old fold.new) }
 {
     let Ok(outline) = outline.to_feature_outline(alloc) else {
         return Err(Fault::Memory);
@@ -142,27 +123,18 @@ fn take_one<K: Keeper>(
     }
 }
 
-/// Takes the features with these outlines, which come next, as the keeper has each, and answers
-/// whether they are there.
-fn take_each<K: Keeper>(
+/// Takes the next features, which are those with these outlines, as the keeper has each, and
+/// returns whether they exist.
+fn take_each<K: Outlined>(
     alloc: Global,
     keeper: &mut K,
     collection: &str,
     outlines: &[KeptOutline],
     fold: &mut PageFold<'_>,
 ) -> Result<bool, Fault>
-    requires { K.cause keeper.old ≡ None }
-    ensures spared { K.spares keeper.old keeper.new }
-    ensures began_clean { K.is_clean keeper.new → K.is_clean keeper.old }
-    ensures faults { ShutsBy result None (K.cause keeper.new) }
-    ensures device { K.is_clean keeper.new → (s : State) → K.stands keeper.old s →
-        IsErrOf result Fault.Device → K.fails keeper.old keeper.new }
-    ensures takes { K.is_clean keeper.new → (s : State) → K.stands keeper.old s
-        → Looks s (TakesRun s collection.now outlines.now fold.old fold.new) result
-        (K.stands keeper.new) }
-    ensures leaves { K.is_clean keeper.new → (s : State) → K.stands keeper.old s
-        → LeavesOnly (K.may_leave keeper.old) (Some s)
-        → LeavesOnly (K.may_leave keeper.new) (Some s) }
+    requires { K.model.cause keeper.old ≡ None }
+    ensures { IsRead K.model keeper.old keeper.new result
+        (TakesRun collection.now outlines.now fold.old fold.new) }
 {
     for outline in outlines {
         match take_one(alloc, keeper, collection, outline, fold) {
@@ -174,28 +146,19 @@ fn take_each<K: Keeper>(
     Ok(true)
 }
 
-/// Takes the features with these outlines, which come next, as the keeper has them, and answers
-/// whether they are there: each alone where they are few and their rows are known, else by the ids
+/// Takes the next features, which are those with these outlines, as the keeper has them, and
+/// returns whether they exist: each alone if they are few and their rows are known, else by the ids
 /// of the first and the last.
-pub fn take_run<K: Keeper>(
+pub fn take_run<K: Outlined>(
     alloc: Global,
     keeper: &mut K,
     collection: &str,
     outlines: &[KeptOutline],
     fold: &mut PageFold<'_>,
 ) -> Result<bool, Fault>
-    requires { K.cause keeper.old ≡ None }
-    ensures spared { K.spares keeper.old keeper.new }
-    ensures began_clean { K.is_clean keeper.new → K.is_clean keeper.old }
-    ensures faults { ShutsBy result None (K.cause keeper.new) }
-    ensures device { K.is_clean keeper.new → (s : State) → K.stands keeper.old s →
-        IsErrOf result Fault.Device → K.fails keeper.old keeper.new }
-    ensures takes { K.is_clean keeper.new → (s : State) → K.stands keeper.old s
-        → Looks s (TakesRun s collection.now outlines.now fold.old fold.new) result
-        (K.stands keeper.new) }
-    ensures leaves { K.is_clean keeper.new → (s : State) → K.stands keeper.old s
-        → LeavesOnly (K.may_leave keeper.old) (Some s)
-        → LeavesOnly (K.may_leave keeper.new) (Some s) }
+    requires { K.model.cause keeper.old ≡ None }
+    ensures { IsRead K.model keeper.old keeper.new result
+        (TakesRun collection.now outlines.now fold.old fold.new) }
 {
     match outlines {
         [first, .., last] if outlines.len() >= SHORTEST_RUN || first.rowid.is_none() => {

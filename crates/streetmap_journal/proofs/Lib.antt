@@ -1,6 +1,6 @@
 pub mod OneLineFurther
 pub mod LineBehindBatch
-pub mod LooksInTurn
+pub mod Over
 pub mod LinesSoFar
 pub mod FrontLemmas
 pub mod CutLines

@@ -1,20 +1,17 @@
--- A line that is written behind an accepted batch.
+-- A line that is written after an accepted batch.
 use Rattle.std.proofs.Common.{◌≡◌, ◌≤◌, ◌<◌, ◌+◌, ◌-◌, ◌^◌, ℕ, Bool, true, false, List, []}
 use Rattle.std.proofs.Common.{◌∷◌, ◌++◌}
-use Rattle.std.proofs.Common.{length, Option, None, Some, Err, option_map}
-use Rattle.std.proofs.Common.{refl, sym, ap, subst, ◌∙◌, inl, arith, length-append}
+use Rattle.std.proofs.Common.{length, Option, None, Some, option_map}
+use Rattle.std.proofs.Common.{refl, sym, ap, subst, ◌∙◌, arith, length-append}
 use Rattle.std.specs.Io.KnownBytes.{Keeps}
 use Rattle.std.specs.Prelude.{slice_get}
 use Rattle.streetmap_batch.specs.BatchText.{batch_text}
 use Rattle.streetmap_batch.specs.BatchValue.{BatchValue}
 use Rattle.streetmap_ledger.specs.Batches.{act}
-use Rattle.streetmap_ledger.specs.Keep.{Acts, ApplyLeaves, LeavesOnly}
 use Rattle.streetmap_ledger.specs.Laws.{is_accepted}
 use Rattle.streetmap_ledger.specs.State.{State}
 use Rattle.streetmap_ledger.specs.WellFormed.{IsState}
 use Rattle.streetmap_ledger.specs.declared.reply.Counts.{Counts}
-use Rattle.streetmap_ledger.specs.declared.reply.Fault.{Fault}
-use Rattle.streetmap_ledger.specs.declared.reply.Fault.TheVariants.{Memory, Device, Damaged, Reopen}
 use Rattle.streetmap_ledger.specs.declared.reply.Refusal.{Refusal}
 use Rattle.streetmap_ledger.specs.declared.reply.Reply.TheVariants.{Repeated, Refused}
 use Rattle.streetmap_ledger.specs.Kept.{batch_in}
@@ -27,7 +24,6 @@ use Rattle.streetmap_replay.proofs.ItemsByPlace.{numbered-append, length-numbere
 use Rattle.streetmap_replay.proofs.RepeatedBatches.{act_stays}
 use Rattle.streetmap_journal.specs.Written.{Position, Reaches, IsJournalOf, HoldsJournal}
 use Rattle.streetmap_journal.specs.Written.{PutsBy, PutsLine, NotesBy, NotesLine}
-use Rattle.streetmap_replay.specs.Faults.{StaysBut}
 use Rattle.streetmap_journal.specs.Completing.{IsKeptLine}
 use Rattle.streetmap_journal.proofs.OneLineFurther.{get_last, line_there, no_line_there, line_is}
 use Rattle.streetmap_journal.proofs.OneLineFurther.{no_line_at, put_whole, put_some, grown_reached}
@@ -228,20 +224,3 @@ repeated_stays s b counts serial e = act_stays s b (ap is_accepted e)
 pub refused_stays : (s : State) (b : BatchValue) (why : Refusal) (place : Option ℕ) →
     (act s b).reply ≡ Refused why place → (act s b).state ≡ s
 refused_stays s b why place e = act_stays s b (ap is_accepted e)
-
--- ---- a batch that was not asked for
-
-pub refused_acts : (s : State) (b : BatchValue) (fault : Fault) (stands both : State → Type 0) →
-    (stands s → both s) → StaysBut s fault stands → Acts s b (Err fault) both
-refused_acts s b Memory stands both then h = then h
-refused_acts s b Device stands both then h = tt
-refused_acts s b Damaged stands both then h = h
-refused_acts s b Reopen stands both then h = h
-
-pub refused_leaves : (s : State) (b : BatchValue) (fault : Fault) (stands : State → Type 0)
-    (left : Option State → Type 0) → StaysBut s fault stands → LeavesOnly left (Some s) →
-    ApplyLeaves s b (Err fault) left
-refused_leaves s b Memory stands left h only = only
-refused_leaves s b Device stands left h only = λ o may. inl (only o may)
-refused_leaves s b Damaged stands left h only = h
-refused_leaves s b Reopen stands left h only = h

@@ -3,19 +3,19 @@ use Rattle.std.proofs.Common.{◌≡◌, ◌≤◌, ◌<◌, ◌+◌, ◌^◌, �
 use Rattle.std.proofs.Common.{length, drop, Option, None, Some, IfSome, option_map}
 use Rattle.std.proofs.Common.{refl, sym, ap, subst, ◌∙◌, arith, length-append}
 use Rattle.std.specs.Prelude.{slice_get}
-use Rattle.std.proofs.Common.{Err}
+use Rattle.std.proofs.Common.{Ok}
 use Rattle.std.specs.Io.KnownBytes.{Consumes, Keeps}
 use Rattle.std.proofs.KnownBytes.{Consumes-nil, Consumes-trans}
 use Rattle.streetmap_batch.specs.Text.{Text}
 use Rattle.streetmap_ledger.specs.State.{State}
 use Rattle.streetmap_ledger.specs.WellFormed.{IsState}
 use Rattle.streetmap_ledger.specs.Kept.{KeyedBatch, batch_in}
-use Rattle.streetmap_ledger.specs.Keep.{AsBefore}
-use Rattle.streetmap_ledger.specs.declared.reply.Cause.{Cause}
+use Rattle.streetmap_ledger.specs.Model.{Model}
+use Rattle.streetmap_ledger.specs.Keep.{IsRead}
 use Rattle.streetmap_ledger.specs.declared.reply.Fault.{Fault}
-use Rattle.streetmap_ledger.specs.declared.reply.Fault.TheVariants.{Reopen}
 use Rattle.streetmap_ledger.proofs.Serials.{found_under}
-use Rattle.streetmap_replay.specs.Faults.{StaysBut}
+use Rattle.streetmap_replay.specs.Calls.{fails_by, AreReads}
+use Rattle.streetmap_replay.proofs.CallsInTurn.{read_of, lost_read}
 use Rattle.streetmap_replay.specs.Journal.{journal, kept_text}
 use Rattle.streetmap_replay.specs.JournalText.{journal_lines, text_of_lines}
 use Rattle.streetmap_replay.specs.Lines.{numbered, line_bytes}
@@ -24,11 +24,7 @@ use Rattle.streetmap_replay.proofs.ItemsByPlace.{get_drop, get_low}
 use Rattle.streetmap_replay.proofs.TornLines.{lines-append}
 use Rattle.streetmap_journal.proofs.OneLineFurther.{get_numbered, take_one}
 use Rattle.streetmap_journal.specs.Matching.{line_of, lines_from, serial_behind, EndsBy, RestIs}
-use Rattle.streetmap_journal.specs.Matching.{InputBeginsWith, Matches, IsOwn, StaysAt}
-use Rattle.streetmap_journal.specs.Matching.{LineShuts, EndShuts}
-use Rattle.streetmap_journal.specs.Completing.{StaysUnshut}
-use Rattle.streetmap_journal.proofs.LooksInTurn.{shut_further, reopen_further}
-use Rattle.streetmap_journal.proofs.PartOfLine.{opened_further}
+use Rattle.streetmap_journal.specs.Matching.{InputBeginsWith, Matches, IsOwn, end_answer}
 use Rattle.streetmap_journal.specs.declared.matching.Matched.{Matched}
 use Rattle.streetmap_journal.specs.declared.matching.MatchEnd.{MatchEnd}
 use Rattle.streetmap_journal.specs.declared.matching.MatchEnd.TheVariants.{All, Cut, Other, Ahead}
@@ -126,21 +122,17 @@ module _ (s : State) (sound : IsState s) (after count : ℕ) (line : List ℕ)
 
 -- ---- so far
 
--- so many lines were read, which are those of the journal, and the keeper stays
-pub record SoFar (s : State) (after : ℕ) (old now : Option (List ℕ)) (count bytes : ℕ)
-    (stands : State → Type 0) : Type 0 where
+-- so many lines were read, which are those of the journal
+pub record SoFar (s : State) (after : ℕ) (old now : Option (List ℕ)) (count bytes : ℕ) : Type 0 where
   pub within : count ≤ length (drop after (journal_lines s))
   pub taken : Consumes old now (text_of_lines (lines_from s after count))
   pub size : bytes ≡ length (text_of_lines (lines_from s after count))
-  pub stood : stands s
 
-pub begins : (s : State) (after : ℕ) (old : Option (List ℕ)) (stands : State → Type 0) →
-    stands s → SoFar s after old old 0 0 stands
-begins s after old stands h = record {
+pub begins : (s : State) (after : ℕ) (old : Option (List ℕ)) → SoFar s after old old 0 0
+begins s after old = record {
   within = omega arith;
   taken = Consumes-nil old;
   size = refl;
-  stood = h;
 }
 
 front_of : (old now : Option (List ℕ)) (bytes : List ℕ) → Consumes old now bytes →
@@ -149,7 +141,7 @@ front_of None now bytes h = tt
 front_of (Some xs) None bytes h = absurd h
 front_of (Some xs) (Some ys) bytes h = (ys, h)
 
--- what is behind what was taken
+-- what follows what was taken
 rest_is : (old now : Option (List ℕ)) (front : List ℕ) (P : List ℕ → Type 0) →
     Consumes old now front → IfSome now P → RestIs old front P
 rest_is None now front P h p = tt
@@ -157,8 +149,7 @@ rest_is (Some xs) None front P h p = absurd h
 rest_is (Some xs) (Some ys) front P h p = (ys, h, p)
 
 module _ (s : State) (sound : IsState s) (after : ℕ) (old now later : Option (List ℕ))
-    (count bytes : ℕ) (stood stands : State → Type 0)
-    (it : SoFar s after old now count bytes stood) where
+    (count bytes : ℕ) (it : SoFar s after old now count bytes) where
   abbrev front : List ℕ
   front = text_of_lines (lines_from s after count)
 
@@ -166,9 +157,8 @@ module _ (s : State) (sound : IsState s) (after : ℕ) (old now later : Option (
   serial = serial_behind after count
 
   with_body : (body line : List ℕ) (more : ℕ) → IsLineWith s serial body → line ≡ body ++ 10 ∷ [] →
-      stands s → Consumes now later line → more ≡ bytes + length line →
-      SoFar s after old later (count + 1) more stands
-  with_body body line more is whole there took size =
+      Consumes now later line → more ≡ bytes + length line → SoFar s after old later (count + 1) more
+  with_body body line more is whole took size =
       let grown : text_of_lines (lines_from s after (count + 1)) ≡ front ++ line =
       one_further s sound after count body is ∙ ap (λ (l : List ℕ). front ++ l) (sym whole) in
       let long = length-append front line in
@@ -179,25 +169,21 @@ module _ (s : State) (sound : IsState s) (after : ℕ) (old now later : Option (
         taken = subst (Consumes old later) (sym grown)
             (Consumes-trans old now later front line it.taken took);
         size = omega (arith, size, was, long, all);
-        stood = there;
       }
 
-  pub further : (line : List ℕ) (more : ℕ) → line_of s serial ≡ Some line → stands s →
-      Consumes now later line → more ≡ bytes + length line →
-      SoFar s after old later (count + 1) more stands
-  further line more due there took size =
+  pub further : (line : List ℕ) (more : ℕ) → line_of s serial ≡ Some line → Consumes now later line →
+      more ≡ bytes + length line → SoFar s after old later (count + 1) more
+  further line more due took size =
       let is = due_is s serial line (batch_in s serial) refl due in
-      with_body is.0 line more is.1 is.2 there took size
+      with_body is.0 line more is.1 is.2 took size
 
   pub ended : (end : MatchEnd) → IfSome now (λ rest. EndsBy (line_of s serial) serial rest end) →
-      StaysAt s end stands →
-      Matches s after old (record { count = count; bytes = bytes; end = end }) stands
-  ended end ends stays = record {
+      Matches s after old (record { count = count; bytes = bytes; end = end })
+  ended end ends = record {
     within = it.within;
     front = front_of old now front it.taken;
     size = it.size;
     ends = rest_is old now front (λ rest. EndsBy (line_of s serial) serial rest end) it.taken ends;
-    stays = stays;
   }
 
 -- an end that says nothing of the rest
@@ -213,75 +199,42 @@ stopped due _ fault None = tt
 stopped None _ fault (Some rest) = tt
 stopped (Some line) _ fault (Some rest) = tt
 
--- a keeper that was not the cause of an end stands for its state
-pub own_stays : (s : State) (end : MatchEnd) (stands : State → Type 0) → IsOwn end → stands s →
-    StaysAt s end stands
-own_stays s All stands own h = h
-own_stays s Cut stands own h = h
-own_stays s Other stands own h = h
-own_stays s Ahead stands own h = h
-own_stays s NotRead stands own h = h
-own_stays s (Stopped fault) stands own h =
-    subst (λ (f : Fault). StaysBut s f stands) (sym own) h
+-- ---- the keeper
 
--- ---- what shuts the keeper
-
-module _ {K : Type 0} (cause : K → Option Cause) (old now new : K) where
-  pub end_shuts : (end : MatchEnd) → StaysUnshut cause old now →
-      LineShuts (Err end) (cause now) (cause new) → EndShuts cause end old new
-  end_shuts All opened h = opened_further cause old now new opened h.0 h.1
-  end_shuts Cut opened h = opened_further cause old now new opened h.0 h.1
-  end_shuts Other opened h = opened_further cause old now new opened h.0 h.1
-  end_shuts Ahead opened h = opened_further cause old now new opened h.0 h.1
-  end_shuts NotRead opened h = opened_further cause old now new opened h.0 h.1
-  end_shuts (Stopped fault) opened h = shut_further cause old now new (Unit {0}) fault opened h
-
-  pub end_reopens : (end : MatchEnd) (stands : K → State → Type 0)
-      (leaves : K → Option State → Type 0) → end ≡ Stopped Reopen → StaysUnshut cause old now →
-      LineShuts (Err end) (cause now) (cause new) →
-      AsBefore (stands now) (stands new) (leaves now) (leaves new) →
-      AsBefore (stands old) (stands new) (leaves old) (leaves new)
-  end_reopens All stands leaves is opened h before = absurd cc
-  end_reopens Cut stands leaves is opened h before = absurd cc
-  end_reopens Other stands leaves is opened h before = absurd cc
-  end_reopens Ahead stands leaves is opened h before = absurd cc
-  end_reopens NotRead stands leaves is opened h before = absurd cc
-  end_reopens (Stopped fault) stands leaves is opened h before =
-      let same : fault ≡ Reopen = cc in
-      reopen_further cause old now new (Unit {0}) stands leaves fault same opened h before
+-- it answered, and was not the cause of the end
+pub own_reads : {K T : Type 0} {model : Model K} {a b : K} {x : T} {Is : State → T → Type 0} (end : MatchEnd) → IsRead model a b (Ok x) Is → IsOwn end → AreReads model a b (end_answer end)
+own_reads All read own = read_of read
+own_reads Cut read own = read_of read
+own_reads Other read own = read_of read
+own_reads Ahead read own = read_of read
+own_reads NotRead read own = read_of read
+own_reads {K} {T} {model} {a} {b} (Stopped fault) read own = subst (λ (f : Fault). AreReads model a b (fails_by f)) (sym own) (lost_read read)
 
 -- ---- of the same bytes, and of none
 
-pub matches_kept : (s : State) (after : ℕ) (a b : Option (List ℕ)) (found : Matched)
-    (stands : State → Type 0) → Keeps a b → Matches s after b found stands →
-    Matches s after a found stands
-matches_kept s after None b found stands same h = record {
+pub matches_kept : (s : State) (after : ℕ) (a b : Option (List ℕ)) (found : Matched) → Keeps a b → Matches s after b found → Matches s after a found
+matches_kept s after None b found same h = record {
   within = h.within;
   front = tt;
   size = h.size;
   ends = tt;
-  stays = h.stays;
 }
-matches_kept s after (Some xs) None found stands same h = absurd same
-matches_kept s after (Some xs) (Some ys) found stands same h =
-    subst (λ (bytes : List ℕ). Matches s after (Some bytes) found stands) same h
+matches_kept s after (Some xs) None found same h = absurd same
+matches_kept s after (Some xs) (Some ys) found same h =
+    subst (λ (bytes : List ℕ). Matches s after (Some bytes) found) same h
 
-pub nothing_matches : (s : State) (after : ℕ) (a : Option (List ℕ)) (stands : State → Type 0) →
-    IfSome a (λ bytes. bytes ≡ []) → stands s →
-    Matches s after a (record { count = 0; bytes = 0; end = All }) stands
-nothing_matches s after None stands none h = record {
+pub nothing_matches : (s : State) (after : ℕ) (a : Option (List ℕ)) → IfSome a (λ bytes. bytes ≡ []) → Matches s after a (record { count = 0; bytes = 0; end = All })
+nothing_matches s after None none = record {
   within = omega arith;
   front = tt;
   size = refl;
   ends = tt;
-  stays = h;
 }
-nothing_matches s after (Some bytes) stands none h = record {
+nothing_matches s after (Some bytes) none = record {
   within = omega arith;
   front = (bytes, refl);
   size = refl;
   ends = (bytes, refl, no_rest (line_of s (serial_behind after 0)) bytes none);
-  stays = h;
 }
   where
     no_rest : (due : Option (List ℕ)) (rest : List ℕ) → rest ≡ [] →

@@ -9,13 +9,14 @@ use Rattle.std.specs.Prelude.{slice_get}
 use Rattle.streetmap_batch.specs.Text.{Text}
 use Rattle.streetmap_ledger.specs.State.{State}
 use Rattle.streetmap_ledger.specs.WellFormed.{IsState}
-use Rattle.streetmap_ledger.specs.Kept.{batch_in}
+use Rattle.streetmap_ledger.specs.Kept.{KeyedBatch, batch_in}
 use Rattle.streetmap_replay.specs.Journal.{journal, kept_text}
 use Rattle.streetmap_replay.specs.JournalText.{numbered_after, journal_lines, text_of_lines}
 use Rattle.streetmap_replay.specs.Lines.{Line, numbered, line_bytes}
 use Rattle.streetmap_replay.proofs.AllThere.{journal_is_whole}
 use Rattle.streetmap_replay.proofs.ItemsByPlace.{get_drop, get_low, length-numbered}
 use Rattle.streetmap_replay.proofs.TornLines.{lines-append}
+use Rattle.streetmap_journal.specs.Completing.{IsKeptLine}
 use Rattle.streetmap_journal.specs.Written.{Position, Reaches, lines_between, line_at}
 
 -- ---- items of lists
@@ -206,3 +207,10 @@ grown_reached s t x grown p bytes h =
           (sym (ap (take p.part) rest ∙ torn.0)));
       part = omega (arith, torn.1, wide);
     }
+
+-- ---- the line of a batch that is kept
+
+pub kept_line_is : (s : State) (serial : ℕ) (batch : KeyedBatch) (text line : List ℕ) → Some batch ≡ batch_in s serial → text ≡ kept_text batch → line ≡ line_bytes (numbered serial text) ++ 10 ∷ []
+    → IsKeptLine s serial (Some line)
+kept_line_is s serial batch text line there same made =
+    (kept_text batch, ap (option_map kept_text) (sym there), made ∙ ap (λ (t : Text). line_bytes (numbered serial t) ++ 10 ∷ []) same)

@@ -1,13 +1,10 @@
--- What is written of a line stays, where the writer is told something; and what lacks of a line is
--- written.
+-- What is written of a line stays, if the writer is informed; and what a line lacks is written.
 use Rattle.std.proofs.Common.{◌≡◌, ◌≤◌, ◌<◌, ◌+◌, ◌-◌, ◌^◌, ℕ, min, Bool, true, false, List, Option}
-use Rattle.std.proofs.Common.{None, take, drop, length, sym, ap, subst, ◌∙◌, inl, inr}
+use Rattle.std.proofs.Common.{None, take, drop, length, sym, ap, subst, ◌∙◌}
 use Rattle.std.proofs.Common.{arith}
 use Rattle.std.specs.Io.KnownBytes.{Appends, Keeps}
 use Rattle.std.proofs.KnownBytes.{Appends-kept}
 use Rattle.std.proofs.lemmas.List.{drop-take, length-drop}
-use Rattle.streetmap_ledger.specs.declared.reply.Cause.{Cause}
-use Rattle.streetmap_journal.specs.Completing.{StaysUnshut}
 use Rattle.streetmap_journal.specs.Written.{Position, PutsBy}
 
 pub told_behind : (a b c : Option (List ℕ)) (bytes : List ℕ) → Appends a b bytes → Keeps b c →
@@ -46,9 +43,3 @@ put_told false p q r a b c line after next part keeps h = (
   subst (λ (n : ℕ). Appends a c (drop p.part (take n line))) (sym part)
       (Appends-kept a b c (drop p.part (take q.part line)) h.4 keeps),
 )
-
--- a further look at a keeper that was not shut
-pub opened_further : {K : Type 0} (cause : K → Option Cause) (old now new : K) →
-    StaysUnshut cause old now → cause now ≡ None → cause new ≡ None → StaysUnshut cause old new
-opened_further cause old now new (inl same) is ends = inr (ap cause (sym same) ∙ is, ends)
-opened_further cause old now new (inr both) is ends = inr (both.0, ends)

@@ -16,16 +16,22 @@ use Rattle.streetmap_replay.specs.Journal.{journal}
 use Rattle.streetmap_replay.specs.JournalText.{journal_lines, text_of_lines}
 use Rattle.streetmap_replay.specs.Lines.{Line, numbered, line_bytes, IsJournalLine}
 use Rattle.streetmap_replay.specs.View.{line_with}
-use Rattle.std.proofs.Common.{◌⊎◌, inl, inr, subst}
+use Rattle.std.proofs.Common.{◌⊎◌, inl, inr, subst, Ok, Err}
 use Rattle.std.specs.Io.KnownBytes.{Keeps}
-use Rattle.streetmap_ledger.specs.declared.reply.Fault.TheVariants.{Memory, Device, Damaged, Reopen}
+use Rattle.streetmap_ledger.specs.Model.{Model}
+use Rattle.streetmap_ledger.specs.Keep.{IsRead}
+use Rattle.streetmap_ledger.specs.declared.reply.Fault.{Fault}
+use Rattle.streetmap_replay.specs.Calls.{fails_by, AreReads}
+use Rattle.streetmap_replay.proofs.CallsInTurn.{read_of, lost_read}
 use Rattle.streetmap_journal.proofs.LinesSoFar.{matches_kept}
 use Rattle.streetmap_journal.specs.Matching.{Matches, line_head, lines_from, serial_behind}
-use Rattle.streetmap_journal.specs.Matching.{StaysAt}
+use Rattle.streetmap_journal.specs.Matching.{end_answer}
 use Rattle.streetmap_journal.specs.declared.matching.MatchEnd.{MatchEnd}
 use Rattle.streetmap_journal.specs.declared.matching.MatchEnd.TheVariants as ends
 use Rattle.streetmap_journal.specs.Place.{HasFirst}
-use Rattle.streetmap_journal.specs.Starting.{HasFirstSerial, BeginsAfter, Finds}
+use Rattle.streetmap_journal.specs.Starting.{HasFirstSerial, BeginsAfter, Finds, ChecksEnd, IsOwnFault, start_answer}
+use Rattle.streetmap_journal.specs.declared.starting.StartFault.{StartFault}
+use Rattle.streetmap_journal.specs.declared.starting.StartFault.TheVariants.{Ahead, Other, NotOpened, NotRead, Stopped}
 use Rattle.streetmap_journal.specs.Written.{Position, HoldsJournal, lines_between, line_at}
 use Rattle.streetmap_journal.specs.declared.matching.Matched.{Matched}
 
@@ -81,7 +87,7 @@ first_found (Some bytes) head (Some serial) text first is =
 -- ---- what is there when it goes on
 
 module _ (s : State) (sound : IsState s) (after : ℕ) (found : Matched) (bytes : List ℕ)
-    (matches : Matches s after (Some bytes) found (λ _. Unit {0}))
+    (matches : Matches s after (Some bytes) found)
     (few : after ≤ batch_count s) where
   abbrev front : List ℕ
   front = text_of_lines (lines_from s after found.count)
@@ -133,40 +139,37 @@ module _ (s : State) (sound : IsState s) (after : ℕ) (found : Matched) (bytes 
 
 -- ---- what its lines ended by
 
-stays_any : (s : State) (end : MatchEnd) (stands : State → Type 0) → StaysAt s end stands →
-    StaysAt s end (λ _. Unit {0})
-stays_any s ends.All stands h = tt
-stays_any s ends.Cut stands h = tt
-stays_any s ends.Other stands h = tt
-stays_any s ends.Ahead stands h = tt
-stays_any s ends.NotRead stands h = tt
-stays_any s (ends.Stopped Memory) stands h = tt
-stays_any s (ends.Stopped Device) stands h = tt
-stays_any s (ends.Stopped Damaged) stands h = h
-stays_any s (ends.Stopped Reopen) stands h = h
+pub found_by : (s : State) (asked after : ℕ) (a b : Option (List ℕ)) (found : Matched) → IfSome a (λ bytes. BeginsAfter bytes asked after) → Keeps a b → Matches s after b found
+    → Finds s asked after a found
+found_by s asked after a b found first kept h = record {
+  begins = first;
+  matches = matches_kept s after a b found kept h;
+}
 
-pub found_by : (s : State) (asked after : ℕ) (a b : Option (List ℕ)) (found : Matched)
-    (stands : State → Type 0) → IfSome a (λ bytes. BeginsAfter bytes asked after) → Keeps a b →
-    Matches s after b found stands → Finds s asked after a found
-found_by s asked after a b found stands first kept h =
-    let same = matches_kept s after a b found stands kept h in
-    record {
-      begins = first;
-      matches = record {
-        within = same.within;
-        front = same.front;
-        size = same.size;
-        ends = same.ends;
-        stays = stays_any s found.end stands same.stays;
-      };
-    }
+module _ {K : Type 0} {model : Model K} {a b : K} where
+  -- they are no reason not to begin
+  pub whole_reads : (end : MatchEnd) → (end ≡ ends.All) ⊎ (end ≡ ends.Cut) → AreReads model a b (end_answer end) → AreReads model a b None
+  whole_reads end (inl is) h = subst (λ (e : MatchEnd). AreReads model a b (end_answer e)) is h
+  whole_reads end (inr is) h = subst (λ (e : MatchEnd). AreReads model a b (end_answer e)) is h
 
-pub stood_at : (s : State) (end : MatchEnd) (stands : State → Type 0) →
-    (end ≡ ends.All) ⊎ (end ≡ ends.Cut) → StaysAt s end stands → stands s
-stood_at s end stands (inl is) h = subst (λ (e : MatchEnd). StaysAt s e stands) is h
-stood_at s end stands (inr is) h = subst (λ (e : MatchEnd). StaysAt s e stands) is h
+  -- they are one
+  pub ended_reads : (W : Type 0) (after : ℕ) (found : Matched) (fault : StartFault) → ChecksEnd after found (Err fault) → AreReads model a b (end_answer found.end)
+      → AreReads model a b (start_answer {W = W} (Err fault))
+  ended_reads W after found (Other serial) is h = subst (λ (e : MatchEnd). AreReads model a b (end_answer e)) is.0 h
+  ended_reads W after found Ahead is h = subst (λ (e : MatchEnd). AreReads model a b (end_answer e)) is h
+  ended_reads W after found NotRead is h = subst (λ (e : MatchEnd). AreReads model a b (end_answer e)) is h
+  ended_reads W after found (Stopped fault) is h = subst (λ (e : MatchEnd). AreReads model a b (end_answer e)) is h
+  ended_reads W after found (NotOpened error) is h = absurd is
 
--- what is written behind the lines that were there
+  -- the keeper answered, and was not the cause of a fault
+  pub own_fault : (W : Type 0) {T : Type 0} {x : T} {Is : State → T → Type 0} (fault : StartFault) → IsOwnFault fault → IsRead model a b (Ok x) Is → AreReads model a b (start_answer {W = W} (Err fault))
+  own_fault W (Stopped fault) own read = subst (λ (f : Fault). AreReads model a b (fails_by f)) (sym own) (lost_read read)
+  own_fault W Ahead own read = absurd own
+  own_fault W (Other serial) own read = absurd own
+  own_fault W NotRead own read = read_of read
+  own_fault W (NotOpened error) own read = read_of read
+
+-- what is written after the lines that were there
 pub resumed_of : (s : State) → IsState s → (asked after : ℕ) (found : Matched)
     (a b c w : Option (List ℕ)) → Finds s asked after a found → after ≤ batch_count s →
     Keeps a b → Keeps b c → HasFirst c w found.bytes → (p : Position) → p.after ≡ after →

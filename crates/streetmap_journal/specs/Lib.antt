@@ -5,3 +5,4 @@ pub mod Place
 pub mod Starting
 pub mod Front
 pub mod Matching
+pub mod Journaled

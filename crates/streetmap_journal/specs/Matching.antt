@@ -6,14 +6,11 @@ use Rattle.std.specs.Io.{StartsWith}
 use Rattle.std.specs.Io.KnownBytes.{Consumes}
 use Rattle.streetmap_ledger.specs.State.{State}
 use Rattle.streetmap_ledger.specs.Kept.{batch_in}
-use Rattle.streetmap_ledger.specs.Keep.{ShutsBy}
-use Rattle.streetmap_ledger.specs.declared.reply.Cause.{Cause}
 use Rattle.streetmap_ledger.specs.declared.reply.Fault.TheVariants.{Memory}
 use Rattle.streetmap_replay.specs.Journal.{kept_text}
 use Rattle.streetmap_replay.specs.JournalText.{journal_lines, text_of_lines}
 use Rattle.streetmap_replay.specs.Lines.{Line, numbered, line_bytes}
-use Rattle.streetmap_replay.specs.Faults.{StaysBut}
-use Rattle.streetmap_journal.specs.Completing.{StaysUnshut}
+use Rattle.streetmap_replay.specs.Calls.{LastAnswer, fails_by}
 use Rattle.streetmap_journal.specs.Front.{are_zeros}
 use Rattle.streetmap_journal.specs.declared.front.Left.{Left}
 use Rattle.streetmap_journal.specs.declared.front.Left.TheVariants as left
@@ -85,31 +82,25 @@ IsUnread Cut = ⊥
 IsUnread Other = ⊥
 IsUnread Ahead = ⊥
 
--- a keeper that represented this state still does, unless its store failed
-abbrev pub StaysAt : State → MatchEnd → (State → Type 0) → Type 0
-StaysAt s (Stopped fault) stands = StaysBut s fault stands
-StaysAt s end stands = stands s
+-- the keeper's fault, if it was the cause of an end, or `Memory`
+abbrev pub end_answer : MatchEnd → LastAnswer
+end_answer (Stopped fault) = fails_by fault
+end_answer end = None
+
+-- the same of the result for a line
+abbrev pub line_answer : Result ℕ MatchEnd → LastAnswer
+line_answer (Ok more) = None
+line_answer (Err end) = end_answer end
 
 -- the line of the batch with this serial was taken off after this number of bytes, or something
 -- else was next
 abbrev pub MatchesLine : State → (serial bytes : ℕ) → (old new : Option (List ℕ)) →
-    Result ℕ MatchEnd → (State → Type 0) → Type 0
-MatchesLine s serial bytes old new (Ok more) stands =
+    Result ℕ MatchEnd → Type 0
+MatchesLine s serial bytes old new (Ok more) =
     (line : List ℕ) × (line_of s serial ≡ Some line) × Consumes old new line
-    × (more ≡ bytes + length line) × stands s
-MatchesLine s serial bytes old new (Err end) stands =
-    IfSome old (λ rest. EndsBy (line_of s serial) serial rest end) × StaysAt s end stands
-
--- what shut the keeper, by the result for a line
-abbrev pub LineShuts : Result ℕ MatchEnd → (old new : Option Cause) → Type 0
-LineShuts (Err (Stopped fault)) old new = ShutsBy {T = Unit {0}} (Err fault) old new
-LineShuts result old new = (old ≡ None) × (new ≡ None)
-
--- what shut the keeper, by an end
-abbrev pub EndShuts : {K : Type 0} → (K → Option Cause) → MatchEnd → (old new : K) → Type 0
-EndShuts cause (Stopped fault) old new =
-    ShutsBy {T = Unit {0}} (Err fault) (cause old) (cause new)
-EndShuts cause end old new = StaysUnshut cause old new
+    × (more ≡ bytes + length line)
+MatchesLine s serial bytes old new (Err end) =
+    IfSome old (λ rest. EndsBy (line_of s serial) serial rest end)
 
 -- that number of lines of a state's journal after a serial
 abbrev pub lines_from : State → ℕ → ℕ → List Line
@@ -130,13 +121,12 @@ RestIs input front P =
 
 -- this number of the first lines are those of the state's journal after a serial, and what follows
 -- them is known by the end
-pub record Matches (s : State) (after : ℕ) (input : Option (List ℕ)) (result : Matched)
-    (stands : State → Type 0) : Type 0 where
-  pub within : result.count ≤ length (drop after (journal_lines s))
-  pub front : InputBeginsWith input (text_of_lines (lines_from s after result.count))
-  pub size : result.bytes ≡ length (text_of_lines (lines_from s after result.count))
-  pub ends :
-      RestIs input (text_of_lines (lines_from s after result.count))
-      (λ rest. EndsBy (line_of s (serial_behind after result.count))
-      (serial_behind after result.count) rest result.end)
-  pub stays : StaysAt s result.end stands
+pub record Matches (s : State) (after : ℕ) (input : Option (List ℕ)) (result : Matched) : Type 0
+  where
+    pub within : result.count ≤ length (drop after (journal_lines s))
+    pub front : InputBeginsWith input (text_of_lines (lines_from s after result.count))
+    pub size : result.bytes ≡ length (text_of_lines (lines_from s after result.count))
+    pub ends :
+        RestIs input (text_of_lines (lines_from s after result.count))
+        (λ rest. EndsBy (line_of s (serial_behind after result.count))
+        (serial_behind after result.count) rest result.end)

@@ -1,13 +1,13 @@
 //! A journal that lacks lines, completed from the batches that a keeper keeps.
-ghost use Rattle.std.specs.Prelude.{◌≡◌, Some, Err, IfErr, IsOk, OnOk, true, false};
+ghost use Rattle.std.specs.Prelude.{◌≡◌, IsOk, true, false};
 ghost use Rattle.std.specs.Option.{option_map};
 ghost use Rattle.std.specs.Io.KnownBytes.{Keeps};
 ghost use Rattle.streetmap_ledger.specs.State.{State};
-ghost use Rattle.streetmap_ledger.specs.Keep.{Looks, LeavesOnly, ShutsBy, AsBefore};
-ghost use Rattle.streetmap_journal.specs.Completing.{IsKeptLine, StaysUnshut, StateStaysBy};
+ghost use Rattle.streetmap_ledger.specs.Keep.{IsRead};
+ghost use Rattle.streetmap_journal.specs.Completing.{IsKeptLine};
 ghost use Rattle.streetmap_journal.specs.Telling.{WriterIsTold};
 ghost use Rattle.streetmap_journal.specs.Written.{position_of, HoldsIn};
-ghost use Rattle.streetmap_replay.specs.Faults.{StaysBut};
+ghost use Rattle.streetmap_replay.specs.Calls.{AreReads, fails_by, fault_in};
 
 use crate::journal::{Journal, JournalWriter, whole_line};
 use std::alloc::Global;
@@ -19,20 +19,8 @@ fn kept_line<K: KeepsBatches>(
     keeper: &mut K,
     serial: u64,
 ) -> Result<Option<Vec<u8>>, Fault>
-    ensures spared { K.spares keeper.old keeper.new }
-    ensures began_clean { K.is_clean keeper.new → K.is_clean keeper.old }
-    ensures faults { ShutsBy result (K.cause keeper.old) (K.cause keeper.new) }
-    ensures finds { K.is_clean keeper.new → (s : State) → K.stands keeper.old s →
-        Looks s (λ line. IsKeptLine s serial (option_map (λ bytes. bytes.items) line)) result
-        (K.stands keeper.new) }
-    ensures device { K.is_clean keeper.new → (s : State) → K.stands keeper.old s →
-        result ≡ Err Fault.Device → K.fails keeper.old keeper.new }
-    ensures leaves { K.is_clean keeper.new → (s : State) → K.stands keeper.old s →
-        LeavesOnly (K.may_leave keeper.old) (Some s) →
-        LeavesOnly (K.may_leave keeper.new) (Some s) }
-    ensures reopen { result ≡ Err Fault.Reopen →
-        AsBefore (K.stands keeper.old) (K.stands keeper.new)
-        (K.may_leave keeper.old) (K.may_leave keeper.new) }
+    ensures { IsRead K.model keeper.old keeper.new result
+        (λ s line. IsKeptLine s serial (option_map (λ bytes. bytes.items) line)) }
 {
     match keeper.batch(serial) {
         Ok(Some(kept)) => match whole_line(alloc, serial, kept.text.as_slice()) {
@@ -46,19 +34,7 @@ fn kept_line<K: KeepsBatches>(
 
 /// The fault if no batch was requested because memory ran out: a shut keeper answers as always.
 pub(crate) fn refuse<K: KeepsBatches>(keeper: &mut K) -> Fault
-    ensures spared { K.spares keeper.old keeper.new }
-    ensures began_clean { K.is_clean keeper.new → K.is_clean keeper.old }
-    ensures faults { ShutsBy {T = Unit {0}} (Err result) (K.cause keeper.old) (K.cause keeper.new) }
-    ensures keeps { K.is_clean keeper.new → (s : State) → K.stands keeper.old s →
-        StaysBut s result (K.stands keeper.new) }
-    ensures device { K.is_clean keeper.new → (s : State) → K.stands keeper.old s →
-        result ≡ Fault.Device → K.fails keeper.old keeper.new }
-    ensures leaves { K.is_clean keeper.new → (s : State) → K.stands keeper.old s →
-        LeavesOnly (K.may_leave keeper.old) (Some s) →
-        LeavesOnly (K.may_leave keeper.new) (Some s) }
-    ensures reopen { result ≡ Fault.Reopen →
-        AsBefore (K.stands keeper.old) (K.stands keeper.new)
-        (K.may_leave keeper.old) (K.may_leave keeper.new) }
+    ensures { AreReads K.model keeper.old keeper.new (fails_by result) }
 {
     match keeper.batch_count() {
         Ok(_) => Fault::Memory,
@@ -111,21 +87,7 @@ pub(crate) fn complete<K: KeepsBatches, W: JournalWriter>(
     keeper: &mut K,
     journal: &mut Journal<W>,
 ) -> Result<(), Fault>
-    ensures spared { K.spares keeper.old keeper.new }
-    ensures began_clean { K.is_clean keeper.new → K.is_clean keeper.old }
-    ensures opened { OnOk result (StaysUnshut K.cause keeper.old keeper.new) }
-    ensures faults { IfErr result (λ fault.
-        ShutsBy {T = Unit {0}} (Err fault) (K.cause keeper.old) (K.cause keeper.new)) }
-    ensures keeps { K.is_clean keeper.new → (s : State) → K.stands keeper.old s →
-        StateStaysBy s result (K.stands keeper.new) }
-    ensures device { K.is_clean keeper.new → (s : State) → K.stands keeper.old s →
-        result ≡ Err Fault.Device → K.fails keeper.old keeper.new }
-    ensures leaves { K.is_clean keeper.new → (s : State) → K.stands keeper.old s →
-        LeavesOnly (K.may_leave keeper.old) (Some s) →
-        LeavesOnly (K.may_leave keeper.new) (Some s) }
-    ensures reopen { result ≡ Err Fault.Reopen →
-        AsBefore (K.stands keeper.old) (K.stands keeper.new)
-        (K.may_leave keeper.old) (K.may_leave keeper.new) }
+    ensures reads { AreReads K.model keeper.old keeper.new (fault_in result) }
     ensures after { journal.new.after ≡ journal.old.after }
     ensures told { WriterIsTold W.told W.is_kept journal.old →
         WriterIsTold W.told W.is_kept journal.new }
@@ -134,7 +96,7 @@ pub(crate) fn complete<K: KeepsBatches, W: JournalWriter>(
     ensures goes { W.goes journal.old.writer journal.new.writer }
     ensures failed { IsOk result → journal.new.is_behind ≡ true →
         W.fails journal.old.writer journal.new.writer }
-    ensures holds { K.is_clean keeper.new → (s : State) → K.stands keeper.old s →
+    ensures holds { K.model.is_clean keeper.new → (s : State) → K.model.represents keeper.old s →
         HoldsIn W.contents journal.old s → HoldsIn W.contents journal.new s }
 {
     for _turn in 0..u64::MAX {

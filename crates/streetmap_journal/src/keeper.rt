@@ -1,17 +1,17 @@
 //! A keeper with a journal.
-ghost use Rattle.std.specs.Prelude.{◌≡◌, [], Some, None, Err, IsErr, IsErrOf, true, false};
+ghost use Rattle.std.specs.Prelude.{◌≡◌, IsErr, IfOk, true, false};
 ghost use Rattle.streetmap_batch.specs.BatchView.{batch_value};
+ghost use Rattle.streetmap_ledger.specs.Batches.{act};
+ghost use Rattle.streetmap_ledger.specs.Keep.{IsCall, Writes};
 ghost use Rattle.streetmap_ledger.specs.State.{State};
-ghost use Rattle.streetmap_ledger.specs.Keep.{Acts, ApplyLeaves, Looks, LeavesOnly, ShutsBy};
-ghost use Rattle.streetmap_ledger.specs.Keep.{AsBefore};
-ghost use Rattle.streetmap_journal.specs.Telling.{IsFor, IsForIf, ReachesUnless};
+ghost use Rattle.streetmap_journal.specs.Telling.{IsFor};
 ghost use Rattle.streetmap_journal.specs.Written.{OfReply};
 
 use crate::completing::{complete, refuse};
 use crate::journal::{Journal, JournalWriter, line_of};
 use std::alloc::Global;
 use streetmap_geojson::Feature;
-use streetmap_ledger::{Batch, Fault, FeatureOutline, Keeper, KeepsBatches, Page, Reply, Summary};
+use streetmap_ledger::{Batch, Durable, Fault, Keeper, KeepsBatches, Page, Reply, Summary};
 use streetmap_query::Query;
 
 /// A keeper that writes each batch that it accepts as a line of a journal, if there is one, after
@@ -30,26 +30,19 @@ fn apply_and_note<K: KeepsBatches, W: JournalWriter>(
     journal: &mut Journal<W>,
     batch: &Batch,
 ) -> Result<Reply, Fault>
-    ensures applied { OfReply (λ r. K.applies keeper.old (batch_value batch.now) r keeper.new)
-        result }
-    ensures spared { K.spares keeper.old keeper.new }
-    ensures began_clean { K.is_clean keeper.new → K.is_clean keeper.old }
-    ensures faults { ShutsBy result (K.cause keeper.old) (K.cause keeper.new) }
-    ensures acts { K.is_clean keeper.new → (s : State) → K.stands keeper.old s →
-        IsFor W.contents W.told W.is_kept journal.old s →
-        Acts s (batch_value batch.now) result (λ t. K.stands keeper.new t
-        × IsFor W.contents W.told W.is_kept journal.new t) }
+    ensures applied { OfReply (λ r.
+        K.model.applies keeper.old (batch_value batch.now) r keeper.new) result }
+    ensures call { IsCall K.model keeper.old keeper.new result }
+    ensures writes { K.model.is_clean keeper.new → (s : State) → K.model.represents keeper.old s →
+        Writes K.model keeper.old keeper.new s (batch_value batch.now) result }
+    // No line is written of a batch that was not answered.
+    ensures untouched { IsErr result → journal.new ≡ journal.old }
+    ensures noted { K.model.is_clean keeper.new → (s : State) → K.model.represents keeper.old s →
+        IsFor W.contents W.told W.is_kept journal.old s → IfOk result (λ _.
+        IsFor W.contents W.told W.is_kept journal.new (act s (batch_value batch.now)).state) }
     ensures goes { W.goes journal.old.writer journal.new.writer }
     ensures failed { journal.old.is_behind ≡ false → journal.new.is_behind ≡ true →
         W.fails journal.old.writer journal.new.writer }
-    ensures device { K.is_clean keeper.new → (s : State) → K.stands keeper.old s →
-        IsErrOf result Fault.Device → K.fails keeper.old keeper.new }
-    ensures leaves { K.is_clean keeper.new → (s : State) → K.stands keeper.old s →
-        LeavesOnly (K.may_leave keeper.old) (Some s) →
-        ApplyLeaves s (batch_value batch.now) result (K.may_leave keeper.new) }
-    ensures reopen { IsErrOf result Fault.Reopen →
-        AsBefore (K.stands keeper.old) (K.stands keeper.new)
-        (K.may_leave keeper.old) (K.may_leave keeper.new) }
 {
     let Ok(line) = line_of(alloc, journal.next, batch) else {
         return Err(refuse(keeper));
@@ -66,42 +59,13 @@ fn apply_and_note<K: KeepsBatches, W: JournalWriter>(
 }
 
 impl<K: KeepsBatches, W: JournalWriter> Keeper for JournaledKeeper<K, W> {
-    ghost stands = { λ k s. K.stands k.keeper s
-        × IsForIf W.contents W.told W.is_kept k.journal s };
+    ghost use Rattle.streetmap_journal.specs.Journaled.{journaled};
 
-    ghost may_leave = { λ k. K.may_leave k.keeper };
+    ghost model = { journaled K.model W.contents W.told W.is_kept W.fails };
 
-    ghost cause = { λ k. K.cause k.keeper };
-
-    ghost is_clean = { λ k. K.is_clean k.keeper };
-
-    // Lines that are missing are looked up first. If one is missing after a reply, a write or a
-    // synchronising of the journal failed in this call.
-    ghost applies = { λ k b result after. (looked : K) × K.spares k.keeper looked
-        × OfReply (λ r. K.applies looked b r after.keeper
-        × ReachesUnless W.fails k.journal after.journal) result };
-
-    ghost spares = { λ k l. K.spares k.keeper l.keeper };
-
-    ghost fails = { λ k l. K.fails k.keeper l.keeper };
-
-    ghost one_state = { λ k s t p q. K.one_state k.keeper s t p.0 q.0 };
-
-    ghost shut_has_none = { λ k s shut stands. K.shut_has_none k.keeper s shut stands.0 };
-
-    ghost may_leave_it = { λ k s stands. K.may_leave_it k.keeper s stands.0 };
-
-    ghost well_formed = { λ k s stands. K.well_formed k.keeper s stands.0 };
-
-    ghost spares_itself = { λ k. K.spares_itself k.keeper };
-
-    ghost spares_then = { λ k l m first next. K.spares_then k.keeper l.keeper m.keeper first next };
-
-    ghost fails_later = { λ k l m first next failed.
-        K.fails_later k.keeper l.keeper m.keeper first next failed };
-
-    ghost fails_still = { λ k l m failed shut next.
-        K.fails_still k.keeper l.keeper m.keeper failed shut next };
+    fn is_open(&self) -> bool {
+        self.keeper.is_open()
+    }
 
     fn apply(&mut self, batch: &Batch) -> Result<Reply, Fault> {
         match &mut self.journal {
@@ -123,23 +87,6 @@ impl<K: KeepsBatches, W: JournalWriter> Keeper for JournaledKeeper<K, W> {
         self.keeper.feature(collection, id)
     }
 
-    fn feature_outlined(
-        &mut self,
-        collection: &str,
-        outline: &FeatureOutline,
-    ) -> Result<Option<Feature>, Fault> {
-        self.keeper.feature_outlined(collection, outline)
-    }
-
-    fn features(
-        &mut self,
-        collection: &str,
-        first: &str,
-        last: &str,
-    ) -> Result<Option<Vec<Feature>>, Fault> {
-        self.keeper.features(collection, first, last)
-    }
-
     fn collection(&mut self, id: &str) -> Result<Option<Summary>, Fault> {
         self.keeper.collection(id)
     }
@@ -147,8 +94,15 @@ impl<K: KeepsBatches, W: JournalWriter> Keeper for JournaledKeeper<K, W> {
     fn collections(&mut self) -> Result<Vec<Summary>, Fault> {
         self.keeper.collections()
     }
+}
 
-    fn outlines(&mut self, collection: &str) -> Result<Option<Vec<FeatureOutline>>, Fault> {
-        self.keeper.outlines(collection)
-    }
+impl<K: Durable + KeepsBatches, W: JournalWriter> Durable for JournaledKeeper<K, W> {
+    ghost image = { K.image };
+
+    ghost leaves = { λ k image. K.leaves k.keeper image };
+
+    ghost holds = { K.holds };
+
+    ghost images_hold_states = { λ first last s image is spared clean left.
+        K.images_hold_states first.keeper last.keeper s image is.0 spared clean left };
 }

@@ -1,11 +1,11 @@
 //! Lines of a journal, compared with the batches that a keeper keeps.
-ghost use Rattle.std.specs.Prelude.{◌≡◌, Some, IfErr, IfSome, OnOk, IsErrOf};
+ghost use Rattle.std.specs.Prelude.{◌≡◌, IfErr, IfSome, OnOk};
 ghost use Rattle.std.specs.Io.KnownBytes.{Consumes};
-ghost use Rattle.streetmap_ledger.specs.Keep.{AsBefore, LeavesOnly};
 ghost use Rattle.streetmap_ledger.specs.State.{State};
 ghost use Rattle.streetmap_journal.specs.Matching.{ends_of, EndsWithin, EndsAfterLast, IsOwn};
-ghost use Rattle.streetmap_journal.specs.Matching.{IsUnread, MatchesLine, Matches, LineShuts};
-ghost use Rattle.streetmap_journal.specs.Matching.{EndShuts};
+ghost use Rattle.streetmap_journal.specs.Matching.{IsUnread, MatchesLine, Matches};
+ghost use Rattle.streetmap_journal.specs.Matching.{line_answer, end_answer};
+ghost use Rattle.streetmap_replay.specs.Calls.{AreReads};
 
 use crate::front::{Left, left_of, take_front};
 use crate::journal::{line_with, whole_line};
@@ -111,20 +111,9 @@ fn match_line<K: KeepsBatches, R: BufRead>(
     bytes: u64,
     reader: &mut R,
 ) -> Result<u64, MatchEnd>
-    ensures spared { K.spares keeper.old keeper.new }
-    ensures began_clean { K.is_clean keeper.new → K.is_clean keeper.old }
-    ensures matches { K.is_clean keeper.new → (s : State) → K.stands keeper.old s →
-        MatchesLine s serial bytes (R.remaining reader.old) (R.remaining reader.new) result
-        (K.stands keeper.new) }
-    ensures faults { LineShuts result (K.cause keeper.old) (K.cause keeper.new) }
-    ensures device { K.is_clean keeper.new → (s : State) → K.stands keeper.old s →
-        IsErrOf result (MatchEnd.Stopped Fault.Device) → K.fails keeper.old keeper.new }
-    ensures leaves { K.is_clean keeper.new → (s : State) → K.stands keeper.old s →
-        LeavesOnly (K.may_leave keeper.old) (Some s) →
-        LeavesOnly (K.may_leave keeper.new) (Some s) }
-    ensures reopen { IsErrOf result (MatchEnd.Stopped Fault.Reopen) →
-        AsBefore (K.stands keeper.old) (K.stands keeper.new)
-        (K.may_leave keeper.old) (K.may_leave keeper.new) }
+    ensures reads { AreReads K.model keeper.old keeper.new (line_answer result) }
+    ensures matches { K.model.is_clean keeper.new → (s : State) → K.model.represents keeper.old s →
+        MatchesLine s serial bytes (R.remaining reader.old) (R.remaining reader.new) result }
 {
     match keeper.batch(serial) {
         Ok(Some(kept)) => match whole_line(alloc, serial, kept.text.as_slice()) {
@@ -149,19 +138,9 @@ pub fn match_lines<K: KeepsBatches, R: BufRead>(
     after: u64,
     reader: &mut R,
 ) -> Matched
-    ensures spared { K.spares keeper.old keeper.new }
-    ensures began_clean { K.is_clean keeper.new → K.is_clean keeper.old }
-    ensures matches { K.is_clean keeper.new → (s : State) → K.stands keeper.old s →
-        Matches s after (R.remaining reader.old) result (K.stands keeper.new) }
-    ensures faults { EndShuts K.cause result.end keeper.old keeper.new }
-    ensures device { K.is_clean keeper.new → (s : State) → K.stands keeper.old s →
-        result.end ≡ MatchEnd.Stopped Fault.Device → K.fails keeper.old keeper.new }
-    ensures leaves { K.is_clean keeper.new → (s : State) → K.stands keeper.old s →
-        LeavesOnly (K.may_leave keeper.old) (Some s) →
-        LeavesOnly (K.may_leave keeper.new) (Some s) }
-    ensures reopen { result.end ≡ MatchEnd.Stopped Fault.Reopen →
-        AsBefore (K.stands keeper.old) (K.stands keeper.new)
-        (K.may_leave keeper.old) (K.may_leave keeper.new) }
+    ensures reads { AreReads K.model keeper.old keeper.new (end_answer result.end) }
+    ensures matches { K.model.is_clean keeper.new → (s : State) → K.model.represents keeper.old s →
+        Matches s after (R.remaining reader.old) result }
 {
     let mut bytes: u64 = 0;
     for turn in 0..u64::MAX {

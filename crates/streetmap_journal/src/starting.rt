@@ -1,14 +1,13 @@
 //! A journal, begun where it is kept.
-ghost use Rattle.std.specs.Prelude.{◌≡◌, ◌+◌, ◌^◌, ◌-◌, min, true, Some, Err, IfErr, IfOk, OnOk};
-ghost use Rattle.std.specs.Prelude.{IsErrOf, IfSome, MatchResult, take};
+ghost use Rattle.std.specs.Prelude.{◌≡◌, ◌+◌, ◌^◌, ◌-◌, min, true, IfErr, IfOk, IfSome, take};
 ghost use Rattle.std.specs.Io.KnownBytes.{Keeps};
 ghost use Rattle.streetmap_ledger.specs.State.{State};
-ghost use Rattle.streetmap_ledger.specs.Keep.{AsBefore, LeavesOnly, ShutsBy};
-ghost use Rattle.streetmap_journal.specs.Completing.{StaysUnshut};
-ghost use Rattle.streetmap_journal.specs.Starting.{BeginsBy, ComparesBy, StartsBy, StartShuts};
+ghost use Rattle.streetmap_replay.specs.Calls.{AreReads, fault_in};
+ghost use Rattle.streetmap_journal.specs.Starting.{BeginsBy, StartsBy, compared_answer};
 ghost use Rattle.streetmap_journal.specs.Starting.{BeginsAfter, HasFirstSerial, IsRefused};
 ghost use Rattle.streetmap_journal.specs.Starting.{ChecksEnd, HasFailedSince, IsOwnFault};
-ghost use Rattle.streetmap_journal.specs.Matching.{EndShuts, serial_behind};
+ghost use Rattle.streetmap_journal.specs.Starting.{start_answer};
+ghost use Rattle.streetmap_journal.specs.Matching.{Matches, serial_behind};
 ghost use Rattle.streetmap_journal.specs.Telling.{WriterIsTold, IsWholeUnless};
 
 use crate::completing::complete;
@@ -119,22 +118,9 @@ fn match_place<K: KeepsBatches, P: JournalPlace>(
     after: u64,
     place: &mut P,
 ) -> Result<Matched, Error>
-    ensures spared { K.spares keeper.old keeper.new }
-    ensures began_clean { K.is_clean keeper.new → K.is_clean keeper.old }
-    ensures compares { K.is_clean keeper.new → (s : State) → K.stands keeper.old s →
-        ComparesBy s after (P.contents place.old) result (K.stands keeper.new) }
-    ensures faults { MatchResult result
-        (λ matched. EndShuts K.cause matched.end keeper.old keeper.new)
-        (λ _. keeper.new ≡ keeper.old) }
-    ensures device { K.is_clean keeper.new → (s : State) → K.stands keeper.old s →
-        IfOk result (λ matched. matched.end ≡ MatchEnd.Stopped Fault.Device →
-        K.fails keeper.old keeper.new) }
-    ensures leaves { K.is_clean keeper.new → (s : State) → K.stands keeper.old s →
-        LeavesOnly (K.may_leave keeper.old) (Some s) →
-        LeavesOnly (K.may_leave keeper.new) (Some s) }
-    ensures reopen { IfOk result (λ matched. matched.end ≡ MatchEnd.Stopped Fault.Reopen →
-        AsBefore (K.stands keeper.old) (K.stands keeper.new)
-        (K.may_leave keeper.old) (K.may_leave keeper.new)) }
+    ensures reads { AreReads K.model keeper.old keeper.new (compared_answer result) }
+    ensures compares { K.model.is_clean keeper.new → (s : State) → K.model.represents keeper.old s →
+        IfOk result (Matches s after (P.contents place.old)) }
     ensures kept { Keeps (P.contents place.old) (P.contents place.new) }
 {
     match place.read()? {
@@ -179,21 +165,9 @@ fn begin<K: KeepsBatches, W: JournalWriter + Drop>(
     keeper: &mut K,
     journal: Journal<W>,
 ) -> Result<Journal<W>, Fault>
-    ensures spared { K.spares keeper.old keeper.new }
-    ensures began_clean { K.is_clean keeper.new → K.is_clean keeper.old }
-    ensures opened { OnOk result (StaysUnshut K.cause keeper.old keeper.new) }
-    ensures faults { IfErr result (λ fault.
-        ShutsBy {T = Unit {0}} (Err fault) (K.cause keeper.old) (K.cause keeper.new)) }
-    ensures device { K.is_clean keeper.new → (s : State) → K.stands keeper.old s →
-        IsErrOf result Fault.Device → K.fails keeper.old keeper.new }
-    ensures leaves { K.is_clean keeper.new → (s : State) → K.stands keeper.old s →
-        LeavesOnly (K.may_leave keeper.old) (Some s) →
-        LeavesOnly (K.may_leave keeper.new) (Some s) }
-    ensures reopen { IsErrOf result Fault.Reopen →
-        AsBefore (K.stands keeper.old) (K.stands keeper.new)
-        (K.may_leave keeper.old) (K.may_leave keeper.new) }
-    ensures begins { K.is_clean keeper.new → (s : State) → K.stands keeper.old s →
-        BeginsBy s W.contents journal result (K.stands keeper.new) }
+    ensures reads { AreReads K.model keeper.old keeper.new (fault_in result) }
+    ensures begins { K.model.is_clean keeper.new → (s : State) → K.model.represents keeper.old s →
+        IfOk result (BeginsBy s W.contents journal) }
     ensures told { journal.is_behind ≡ true → IfOk result (λ begun.
         WriterIsTold W.told W.is_kept begun × IsWholeUnless W.fails journal begun) }
 {
@@ -223,21 +197,11 @@ pub fn start_journal<K: KeepsBatches, P: JournalPlace>(
     asked: u64,
     place: &mut P,
 ) -> Result<Journal<P::Writer>, StartFault>
-    ensures spared { K.spares keeper.old keeper.new }
-    ensures began_clean { K.is_clean keeper.new → K.is_clean keeper.old }
-    ensures faults { StartShuts K.cause result keeper.old keeper.new }
-    ensures device { K.is_clean keeper.new → (s : State) → K.stands keeper.old s →
-        IsErrOf result (StartFault.Stopped Fault.Device) → K.fails keeper.old keeper.new }
-    ensures leaves { K.is_clean keeper.new → (s : State) → K.stands keeper.old s →
-        LeavesOnly (K.may_leave keeper.old) (Some s) →
-        LeavesOnly (K.may_leave keeper.new) (Some s) }
-    ensures reopen { IsErrOf result (StartFault.Stopped Fault.Reopen) →
-        AsBefore (K.stands keeper.old) (K.stands keeper.new)
-        (K.may_leave keeper.old) (K.may_leave keeper.new) }
+    ensures reads { AreReads K.model keeper.old keeper.new (start_answer result) }
     // The bytes found are the journal of the state up to a cut line, and it has all of it then; or
     // why it is not begun.
-    ensures starts { K.is_clean keeper.new → (s : State) → K.stands keeper.old s →
-        StartsBy s asked (P.contents place.old) P.Writer.contents result (K.stands keeper.new) }
+    ensures starts { K.model.is_clean keeper.new → (s : State) → K.model.represents keeper.old s →
+        StartsBy s asked (P.contents place.old) P.Writer.contents result }
     // A journal that is refused is as it was.
     ensures refused { IsRefused result → Keeps (P.contents place.old) (P.contents place.new) }
     // The writer knows what is missing; and if something is, it failed.

@@ -5,6 +5,7 @@ pub mod StatesStay
 pub mod Acceptance
 pub mod Walking
 pub mod Runs
+pub mod Calls
 pub mod Hiding
 pub mod Serials
 pub mod AllThere

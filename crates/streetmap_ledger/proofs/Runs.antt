@@ -5,7 +5,8 @@ use Rattle.streetmap_batch.specs.BatchValue.{BatchValue}
 use Rattle.streetmap_ledger.specs.State.{State}
 use Rattle.streetmap_ledger.specs.Batches.{act, after_all, replies_of}
 use Rattle.streetmap_batch.specs.BatchView.{batch_value}
-use Rattle.streetmap_ledger.specs.Keep.{ApplyLeaves, RunLeaves}
+use Rattle.streetmap_ledger.specs.Model.{Model}
+use Rattle.streetmap_ledger.specs.Keep.{Writes, RunEnds}
 use Rattle.streetmap_batch.specs.declared.batch.Batch.{Batch}
 use Rattle.streetmap_ledger.specs.declared.reply.Fault.{Fault}
 use Rattle.streetmap_ledger.specs.declared.reply.Fault.TheVariants.{Memory, Device, Damaged, Reopen}
@@ -31,11 +32,11 @@ taken xs i b h is =
 pub after_more : (s : State) (bs cs : List BatchValue) (b : BatchValue) → cs ≡ bs ++ b ∷ [] → (act (after_all s bs) b).state ≡ after_all s cs
 after_more s bs cs b more = sym (after_last s bs b) ∙ ap (after_all s) (sym more)
 
--- what a stop may leave where a batch ended the run
-pub leaves_at : (s : State) (bs : List BatchValue) (n k : ℕ) (b : BatchValue) (f : Fault) (left : Option State → Type 0) → n ≡ k → take (k + 1) bs ≡ take k bs ++ b ∷ [] → ApplyLeaves (after_all s (take k bs)) b (Err f) left → RunLeaves s bs n (Some f) left
-leaves_at s bs n k b f left is more l = subst (λ m. RunLeaves s bs m (Some f) left) (sym is) (go f l) where
-  go : (f : Fault) → ApplyLeaves (after_all s (take k bs)) b (Err f) left → RunLeaves s bs k (Some f) left
-  go Memory l = l
-  go Device l = λ o h. elim (l o h) [ inl p ↦ inl p | inr p ↦ inr (p ∙ ap Some (after_more s (take k bs) (take (k + 1) bs) b more)) ]
-  go Damaged l = l
-  go Reopen l = l
+-- a batch ended the run
+pub ends_at : {K : Type 0} (model : Model K) (first old new : K) (s : State) (bs : List BatchValue) (n k : ℕ) (b : BatchValue) (f : Fault) → n ≡ k → take (k + 1) bs ≡ take k bs ++ b ∷ [] → (model.fails old new → model.fails first new) → Writes model old new (after_all s (take k bs)) b (Err f) → RunEnds model first new s bs n (Some f)
+ends_at model first old new s bs n k b f is more later h = subst (λ m. RunEnds model first new s bs m (Some f)) (sym is) (go f h) where
+  go : (f : Fault) → Writes model old new (after_all s (take k bs)) b (Err f) → RunEnds model first new s bs k (Some f)
+  go Memory h = h
+  go Device h = (later h.0, λ o left. elim (h.1 o left) [ inl p ↦ inl p | inr p ↦ inr (p ∙ ap Some (after_more s (take k bs) (take (k + 1) bs) b more)) ])
+  go Damaged h = h
+  go Reopen h = h

@@ -1,6 +1,6 @@
 -- What a call of a keeper does.
 use Rattle.std.specs.Prelude.{◌≡◌, ◌⊎◌, ℕ, ◌+◌, List, Vec, Option, None, Some, Result, Ok, Err}
-use Rattle.std.specs.Prelude.{IsSome, take}
+use Rattle.std.specs.Prelude.{IsSome, IsErrOf, take}
 use Rattle.std.specs.Option.{option_map}
 use Rattle.std.specs.declared.alloc.Global.{Global}
 use Rattle.streetmap_geojson.specs.FeatureValue.{FeatureValue}
@@ -9,6 +9,7 @@ use Rattle.streetmap_query.specs.declared.queries.Query.{Query}
 use Rattle.streetmap_batch.specs.Text.{Text}
 use Rattle.streetmap_batch.specs.BatchValue.{BatchValue}
 use Rattle.streetmap_ledger.specs.State.{State}
+use Rattle.streetmap_ledger.specs.Model.{Model}
 use Rattle.streetmap_ledger.specs.Batches.{act, after_all}
 use Rattle.streetmap_ledger.specs.Pages.{page_in, feature_in, run_in}
 use Rattle.streetmap_ledger.specs.PageView.{page_value}
@@ -18,6 +19,9 @@ use Rattle.streetmap_ledger.specs.Outlines.{outlines_in}
 use Rattle.streetmap_ledger.specs.OutlineView.{feature_outline_values}
 use Rattle.streetmap_ledger.specs.declared.outline.FeatureOutline.{FeatureOutline}
 use Rattle.streetmap_ledger.specs.declared.summary.Summary.{Summary}
+use Rattle.streetmap_ledger.specs.Kept.{batch_count, batch_in, AreNext}
+use Rattle.streetmap_ledger.specs.KeptView.{keyed_batch, keyed_batches}
+use Rattle.streetmap_ledger.specs.declared.kept_batch.KeptBatch.{KeptBatch}
 use Rattle.streetmap_ledger.specs.declared.page.Page.{Page}
 use Rattle.streetmap_ledger.specs.declared.reply.Reply.{Reply}
 use Rattle.streetmap_ledger.specs.declared.reply.Cause.{Cause}
@@ -33,105 +37,141 @@ ShutsBy (Err Device) old new = (old ≡ None) × (new ≡ Some causes.Device)
 ShutsBy (Err Damaged) old new = (old ≡ None) × (new ≡ Some causes.Damaged)
 ShutsBy (Err Reopen) old new = IsSome old × (new ≡ old)
 
--- a batch on a keeper that stood for this state: the reply is the batch's, and it stands for the
--- state after it; a want of memory changes nothing, and the store is not damaged
-abbrev pub Acts : State → BatchValue → Result Reply Fault → (State → Type 0) → Type 0
-Acts s b (Ok reply) stands = (reply ≡ (act s b).reply) × stands (act s b).state
-Acts s b (Err Memory) stands = stands s
-Acts s b (Err Device) stands = Unit {0}
-Acts s b (Err Damaged) stands = ⊥
-Acts s b (Err Reopen) stands = ⊥
+-- a crash may leave this and nothing else
+abbrev pub LeavesOnly : (Option State → Type 0) → Option State → Type 0
+LeavesOnly left s = (o : Option State) → left o → o ≡ s
 
--- a look at a keeper that stood for this state: the answer is as it is in the state, and the state
--- stays
-abbrev pub Looks : {T : Type 0} → State → (T → Type 0) → Result T Fault → (State → Type 0) → Type 0
-Looks s Is (Ok seen) stands = Is seen × stands s
-Looks s Is (Err Memory) stands = stands s
-Looks s Is (Err Device) stands = Unit {0}
-Looks s Is (Err Damaged) stands = ⊥
-Looks s Is (Err Reopen) stands = ⊥
+-- a crash may leave one of these two and nothing else
+abbrev pub LeavesEither : (Option State → Type 0) → Option State → Option State → Type 0
+LeavesEither left s t = (o : Option State) → left o → (o ≡ s) ⊎ (o ≡ t)
+
+-- a crash may leave the same after as before
+abbrev pub LeavesSame : (before after : Option State → Type 0) → Type 0
+LeavesSame before after = (o : Option State) → (after o → before o) × (before o → after o)
+
+-- a read, if the keeper represented this state: what was read is so in the state, which stays; or
+-- memory ran out, and the state stays; or the store failed, and a crash leaves the state
+abbrev pub Reads : {K T : Type 0} → Model K → (old new : K) → State → (T → Type 0)
+    → Result T Fault → Type 0
+Reads model old new s Is (Ok found) = Is found × model.represents new s
+Reads model old new s Is (Err Memory) = model.represents new s
+Reads model old new s Is (Err Device) =
+    model.fails old new × LeavesOnly (model.may_leave new) (Some s)
+Reads model old new s Is (Err Damaged) = ⊥
+Reads model old new s Is (Err Reopen) = ⊥
+
+-- a batch, if the keeper represented this state: the reply is the batch's, and the keeper
+-- represents the state after it; or memory ran out, and the state stays; or the store failed, and a
+-- crash leaves the state before the batch or the one after it
+abbrev pub Writes : {K : Type 0} → Model K → (old new : K) → State → BatchValue
+    → Result Reply Fault → Type 0
+Writes model old new s b (Ok reply) =
+    (reply ≡ (act s b).reply) × model.represents new (act s b).state
+Writes model old new s b (Err Memory) = model.represents new s
+Writes model old new s b (Err Device) =
+    model.fails old new × LeavesEither (model.may_leave new) (Some s) (Some (act s b).state)
+Writes model old new s b (Err Damaged) = ⊥
+Writes model old new s b (Err Reopen) = ⊥
 
 -- a page
-abbrev pub Shows : State → Text → Query → Result (Option Page) Fault → (State → Type 0) → Type 0
-Shows s name q result stands = Looks s (λ page. option_map page_value page
-    ≡ page_in s name (query_value q)) result stands
+abbrev pub IsPageOf : Text → Query → State → Option Page → Type 0
+IsPageOf name q s page = option_map page_value page ≡ page_in s name (query_value q)
 
 -- a feature
-abbrev pub Finds : State → Text → Text → Result (Option FeatureValue) Fault → (State → Type 0)
-    → Type 0
-Finds s name id result stands = Looks s (λ found. found ≡ feature_in s name id) result stands
+abbrev pub IsFeatureOf : Text → Text → State → Option FeatureValue → Type 0
+IsFeatureOf name id s found = found ≡ feature_in s name id
 
--- the features are those of this collection whose ids stand between two
+-- the features of a collection whose ids lie between two
 abbrev pub IsRunOf : Text → Text → Text → State → Option (Vec FeatureValue Global) → Type 0
 IsRunOf name first last s found =
     option_map (λ (fs : Vec FeatureValue Global). fs.items) found ≡ run_in s name first last
 
--- a run of features
-abbrev pub Runs : State → Text → Text → Text → Result (Option (Vec FeatureValue Global)) Fault
-    → (State → Type 0) → Type 0
-Runs s name first last result stands = Looks s (IsRunOf name first last s) result stands
+-- the summary of a collection
+abbrev pub IsSummaryOf : Text → State → Option Summary → Type 0
+IsSummaryOf id s summary = option_map summary_value summary ≡ summary_in s id
 
--- what is told of a collection
-abbrev pub Tells : State → Text → Result (Option Summary) Fault → (State → Type 0) → Type 0
-Tells s id result stands = Looks s (λ summary. option_map summary_value summary
-    ≡ summary_in s id) result stands
-
--- what is told of all collections
-abbrev pub Lists : State → Result (Vec Summary Global) Fault → (State → Type 0) → Type 0
-Lists s result stands = Looks s (λ (summaries : Vec Summary Global). summary_values summaries.items
-    ≡ summaries_in s) result stands
+-- the summaries of all collections
+abbrev pub AreSummaries : State → Vec Summary Global → Type 0
+AreSummaries s summaries = summary_values summaries.items ≡ summaries_in s
 
 -- what is known of a collection's features without reading them
-abbrev pub Outlines : State → Text → Result (Option (Vec FeatureOutline Global)) Fault
-    → (State → Type 0) → Type 0
-Outlines s name result stands = Looks s (λ found.
+abbrev pub AreOutlinesOf : Text → State → Option (Vec FeatureOutline Global) → Type 0
+AreOutlinesOf name s found =
     option_map (λ (os : Vec FeatureOutline Global). feature_outline_values os.items) found
-    ≡ outlines_in s name) result stands
+    ≡ outlines_in s name
 
--- a stop may leave this and nothing else
-abbrev pub LeavesOnly : (Option State → Type 0) → Option State → Type 0
-LeavesOnly left s = (o : Option State) → left o → o ≡ s
+-- how many batches are kept
+abbrev pub IsBatchCount : State → ℕ → Type 0
+IsBatchCount s count = count ≡ batch_count s
 
--- a stop may leave one of these two and nothing else
-abbrev pub LeavesEither : (Option State → Type 0) → Option State → Option State → Type 0
-LeavesEither left s t = (o : Option State) → left o → (o ≡ s) ⊎ (o ≡ t)
+-- the batch that is kept with a serial
+abbrev pub IsBatchOf : ℕ → State → Option KeptBatch → Type 0
+IsBatchOf serial s batch = option_map keyed_batch batch ≡ batch_in s serial
 
--- what a stop may leave when a batch has returned, on a keeper that stood for this state
-abbrev pub ApplyLeaves : State → BatchValue → Result Reply Fault → (Option State → Type 0) → Type 0
-ApplyLeaves s b (Ok reply) left = LeavesOnly left (Some (act s b).state)
-ApplyLeaves s b (Err Memory) left = LeavesOnly left (Some s)
-ApplyLeaves s b (Err Device) left = LeavesEither left (Some s) (Some (act s b).state)
-ApplyLeaves s b (Err Damaged) left = ⊥
-ApplyLeaves s b (Err Reopen) left = ⊥
+-- the batches after a serial
+abbrev pub AreNextOf : ℕ → ℕ → State → Vec KeptBatch Global → Type 0
+AreNextOf after room s found = AreNext s after room (keyed_batches found.items)
 
--- neither the states that it stands for have changed, nor what a stop may leave
-pub record AsBefore (old new : State → Type 0) (left leaves : Option State → Type 0) : Type 0 where
-  pub still : (s : State) → old s → new s
-  pub no_other : (s : State) → new s → old s
-  pub nothing_else : (o : Option State) → leaves o → left o
-  pub all_of_it : (o : Option State) → left o → leaves o
+-- each call, whatever it asks for: it spares what else the store has and takes none that failed for
+-- clean; its fault says what shut the keeper; and after `Reopen` a crash leaves what it left before
+pub record IsCall {K T : Type 0} (model : Model K) (old new : K) (result : Result T Fault)
+    : Type 0 where
+  pub spared : model.spares old new
+  pub began_clean : model.is_clean new → model.is_clean old
+  pub faults : ShutsBy result (model.cause old) (model.cause new)
+  pub reopen : IsErrOf result Reopen → LeavesSame (model.may_leave old) (model.may_leave new)
 
--- what it stands for after a run of which k batches were answered
-abbrev pub RunEnds : State → List BatchValue → ℕ → Option Fault → (State → Type 0) → Type 0
-RunEnds s bs k None stands = stands (after_all s (take k bs))
-RunEnds s bs k (Some Memory) stands = stands (after_all s (take k bs))
-RunEnds s bs k (Some Device) stands = Unit {0}
-RunEnds s bs k (Some Damaged) stands = ⊥
-RunEnds s bs k (Some Reopen) stands = ⊥
+-- a call that reads: if the store is clean as it ends, what was found is so
+pub record IsRead {K T : Type 0} (model : Model K) (old new : K) (result : Result T Fault)
+    (Is : State → T → Type 0) : Type 0 where
+  pub call : IsCall model old new result
+  pub reads : model.is_clean new → (s : State) → model.represents old s
+      → Reads model old new s (Is s) result
 
--- and what a stop may leave then: the state of a beginning of the batches
-abbrev pub RunLeaves : State → List BatchValue → ℕ → Option Fault → (Option State → Type 0) → Type 0
-RunLeaves s bs k None left = LeavesOnly left (Some (after_all s (take k bs)))
-RunLeaves s bs k (Some Memory) left = LeavesOnly left (Some (after_all s (take k bs)))
-RunLeaves s bs k (Some Device) left = LeavesEither left (Some (after_all s (take k bs)))
+-- a call that acts on a batch: if the store is clean as it ends, the batch acts whole or not at all
+pub record IsWrite {K : Type 0} (model : Model K) (old new : K) (b : BatchValue)
+    (result : Result Reply Fault) : Type 0 where
+  pub applied : model.applies old b result new
+  pub call : IsCall model old new result
+  pub writes : model.is_clean new → (s : State) → model.represents old s
+      → Writes model old new s b result
+
+-- a run of batches, if the keeper represented this state: k of them were answered, and the keeper
+-- represents the state after these; or the store failed, and a crash leaves that state or the one
+-- after one batch more
+abbrev pub RunEnds : {K : Type 0} → Model K → (old new : K) → State → List BatchValue → ℕ
+    → Option Fault → Type 0
+RunEnds model old new s bs k None = model.represents new (after_all s (take k bs))
+RunEnds model old new s bs k (Some Memory) = model.represents new (after_all s (take k bs))
+RunEnds model old new s bs k (Some Device) = model.fails old new
+    × LeavesEither (model.may_leave new) (Some (after_all s (take k bs)))
     (Some (after_all s (take (k + 1) bs)))
-RunLeaves s bs k (Some Damaged) left = ⊥
-RunLeaves s bs k (Some Reopen) left = ⊥
+RunEnds model old new s bs k (Some Damaged) = ⊥
+RunEnds model old new s bs k (Some Reopen) = ⊥
 
--- and what shut it
+-- what shut the keeper of a run
 abbrev pub RunShuts : Option Fault → Option Cause → Option Cause → Type 0
 RunShuts None old new = new ≡ old
 RunShuts (Some Memory) old new = new ≡ old
 RunShuts (Some Device) old new = (old ≡ None) × (new ≡ Some causes.Device)
 RunShuts (Some Damaged) old new = (old ≡ None) × (new ≡ Some causes.Damaged)
 RunShuts (Some Reopen) old new = IsSome old × (new ≡ old)
+
+-- calls in a row, of which this fault of the keeper ended the last, if one did: what holds of each
+-- call holds of them together
+pub record AreCalls {K : Type 0} (model : Model K) (old new : K) (fault : Option Fault) : Type 0
+  where
+    pub spared : model.spares old new
+    pub began_clean : model.is_clean new → model.is_clean old
+    pub faults : RunShuts fault (model.cause old) (model.cause new)
+    pub reopen : fault ≡ Some Reopen → LeavesSame (model.may_leave old) (model.may_leave new)
+
+-- calls in a row that only read, if the keeper represented this state: it stays; or the store
+-- failed, and a crash leaves it
+abbrev pub ReadsEnd : {K : Type 0} → Model K → (old new : K) → State → Option Fault → Type 0
+ReadsEnd model old new s None = model.represents new s
+ReadsEnd model old new s (Some Memory) = model.represents new s
+ReadsEnd model old new s (Some Device) =
+    model.fails old new × LeavesOnly (model.may_leave new) (Some s)
+ReadsEnd model old new s (Some Damaged) = ⊥
+ReadsEnd model old new s (Some Reopen) = ⊥

@@ -7,6 +7,7 @@ pub mod Summaries
 pub mod SummaryView
 pub mod Folds
 pub mod Refusals
+pub mod Model
 pub mod Keep
 pub mod Laws
 pub mod Walks

@@ -2,38 +2,42 @@
 //!
 //! The state is a value: collections with their features, and what is kept for each accepted key
 //! (`specs/State`). A batch acts on it whole or not at all (`specs/Batches`), and a page shows what
-//! a query selects of it (`specs/Pages`). A `Keeper` stands for a state: its methods answer as
-//! these definitions do, and each says what a stop may leave. `run` is proved once over any keeper;
-//! `streetmap_memory` has the one that keeps the state in memory.
+//! a query selects of it (`specs/Pages`). A `Keeper` represents a state: its calls answer as these
+//! definitions do (`specs/Keep`), and its model says what a crash may leave (`specs/Model`). `run`
+//! is proved once over any keeper; `streetmap_memory` has the one that keeps the state in memory. A
+//! `Durable` keeper has a store that can be opened again after a crash.
 //!
-//! A keeper that stands for a state keeps a batch for each accepted key: its text, how many edits
-//! of each kind it had, and its serial. `KeepsBatches`, beside the trait `Keeper`, tells how many
-//! there are, the one of a serial, and those behind one, as the state has them (`specs/Kept`);
-//! nothing changes by that. From these batches, in order of their serials, the state can be made
-//! again.
+//! A keeper that represents a state keeps a batch for each accepted key: its text, how many edits
+//! of each kind it had, and its serial. `KeepsBatches` gives how many there are, the one with a
+//! serial, and those after one, as the state has them (`specs/Kept`); nothing changes by that. From
+//! these batches, in order of their serials, the state can be made again.
 //!
 //! In the order of reading: `reply`, `page`, `summary`, `outline`, `keeper` (the trait and `run`),
-//! `laws`; for pages `selection` and `fold`; `kept_batch`, `keeping` (the trait), `serial_laws`.
-//! Batches are those of `streetmap_batch`.
+//! `durable`, `outlined`, `laws`; for pages `selection` and `fold`; `kept_batch`, `keeping` (the
+//! trait), `serial_laws`. Batches are those of `streetmap_batch`.
 #![tactic(auto)]
 
+mod durable;
 mod fold;
 mod keeper;
 mod keeping;
 mod kept_batch;
 pub mod laws;
 mod outline;
+mod outlined;
 mod page;
 mod reply;
 mod selection;
 pub mod serial_laws;
 mod summary;
 
+pub use durable::Durable;
 pub use fold::PageFold;
 pub use keeper::{Keeper, run};
 pub use keeping::KeepsBatches;
 pub use kept_batch::KeptBatch;
 pub use outline::FeatureOutline;
+pub use outlined::Outlined;
 pub use page::Page;
 pub use reply::{Cause, Counts, Fault, Refusal, Reply, Run};
 pub use selection::{lies_within_box, overlaps_box};

@@ -13,7 +13,9 @@ use Rattle.serde_json.specs.Written.{compact_text}
 use Rattle.streetmap_memory.specs.Plain.{IsPlainState, plain_state}
 use Rattle.streetmap_memory.specs.declared.plain.PlainKeeper.{PlainKeeper}
 use Rattle.std.specs.declared.alloc.AllocError.{AllocError}
+use Rattle.streetmap_ledger.specs.Model.{Model}
 use Rattle.streetmap_ledger.specs.declared.reply.Cause.{Cause}
+use Rattle.streetmap_ledger.specs.declared.reply.Cause.TheVariants as causes
 use Rattle.streetmap_ledger.specs.declared.reply.Fault.{Fault}
 use Rattle.streetmap_ledger.specs.declared.reply.Fault.TheVariants.{Memory, Device, Damaged, Reopen}
 use Rattle.streetmap_lines.specs.AnswerView.{LineSays, SaysOf}
@@ -28,7 +30,7 @@ use Rattle.streetmap_text_lines.proofs.WriteLemmas.{less_longer, less_behind}
 
 -- ---- answers
 
--- the text of an answer, where there is one, and the state that the keeper stands for after it
+-- the text of an answer, if there is one, and the state that the keeper represents after it
 pub record IsLineAnswer (s : State) (line : List ℕ) (text : Option (String Global)) (keeper : PlainKeeper) : Type 0 where
   pub said : option_map string_bytes text ≡ option_map compact_text (line_answer s line)
   pub state : IsPlainState keeper (state_after s line)
@@ -51,7 +53,7 @@ pub line_answered : (s : State) (old keeper : PlainKeeper) (line : List ℕ) (o 
 line_answered s old keeper [] o stands h k = empty-answer s keeper o (none-text o (k refl).0) ((k refl).1 s stands)
 line_answered s old keeper (b ∷ bs) o stands h k = some-answer s keeper b bs o (h (λ e. cc))
 
--- a keeper that stands for a state stands for that of its maps
+-- a keeper that represents a state represents that of its maps
 pub stands_for_own : (keeper : PlainKeeper) (s : State) → IsPlainState keeper s → IsPlainState keeper (plain_state keeper)
 stands_for_own keeper s h = subst (IsPlainState keeper) (sym h.is) h
 
@@ -229,8 +231,9 @@ answered_less (Some input) (Some rest) (Some later) old w v line s h f p =
     (answers_of (state_after s line) (lines later)) p))
 
 -- the one fault of a keeper that nothing shut is `Memory`, and then its state is as before
-pub says_before : (s : State) (answer : Answer) (fault : Fault) (stands : State → Type 0) (shut : Option Cause) → shut ≡ None → SaysOf s answer (Err fault) stands shut → stands s
-says_before s answer Memory stands shut unshut h = h
-says_before s answer Device stands shut unshut h = absurd cc
-says_before s answer Damaged stands shut unshut h = absurd h
-says_before s answer Reopen stands shut unshut h = absurd h
+pub says_before : {K : Type 0} (model : Model K) (s : State) (answer : Answer) (fault : Fault) (keeper : K) → model.cause keeper ≡ None
+    → SaysOf model s answer (Err fault) keeper → model.represents keeper s
+says_before model s answer Memory keeper unshut h = h
+says_before model s answer Device keeper unshut h = absurd (let bad : ◌≡◌ {A = Option Cause} None (Some causes.Device) = sym unshut ∙ h in cc)
+says_before model s answer Damaged keeper unshut h = absurd h
+says_before model s answer Reopen keeper unshut h = absurd h

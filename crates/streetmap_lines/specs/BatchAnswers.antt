@@ -4,6 +4,7 @@ use Rattle.std.specs.declared.alloc.Global.{Global}
 use Rattle.serde_json.specs.Written.{compact_text}
 use Rattle.streetmap_batch.specs.BatchValue.{BatchValue}
 use Rattle.streetmap_batch.specs.declared.batch_fault.BatchFault.{BatchFault}
+use Rattle.streetmap_ledger.specs.Model.{Model}
 use Rattle.streetmap_ledger.specs.declared.reply.Reply.{Reply}
 use Rattle.streetmap_ledger.specs.declared.reply.Fault.{Fault}
 use Rattle.streetmap_ledger.specs.declared.reply.Fault.TheVariants.{Memory}
@@ -19,9 +20,10 @@ Answers b (Err why) (Ok text) = ⊥
 Answers b (Err why) (Err fault) = fault ≡ why
 
 -- the answer is what the keeper answered to the batch
-abbrev pub AsKeeper : (applies : Result Reply Fault → Type 0) → BatchValue
+abbrev pub AsKeeper : {K : Type 0} → Model K → (old new : K) → BatchValue
     → Result (String Global) Fault → Type 0
-AsKeeper applies b answer = (reply : Result Reply Fault) × applies reply × Answers b reply answer
+AsKeeper model old new b answer =
+    (reply : Result Reply Fault) × model.applies old b reply new × Answers b reply answer
 
 -- memory ran out before the keeper was called
 abbrev pub OutOfMemory : (uncalled : Type 0) → Result (String Global) Fault → Type 0
@@ -29,10 +31,10 @@ OutOfMemory uncalled answer = uncalled × (answer ≡ Err Memory)
 
 -- A readable batch is answered by what the keeper answered; another by its fault, and the keeper is
 -- not called. Else memory ran out, before the keeper was called.
-abbrev pub AnswersBatch : (applies : BatchValue → Result Reply Fault → Type 0)
-    → (uncalled : Type 0) → Result BatchValue BatchFault → Result (String Global) Fault → Type 0
-AnswersBatch applies uncalled (Ok b) answer =
-    AsKeeper (applies b) b answer ⊎ OutOfMemory uncalled answer
-AnswersBatch applies uncalled (Err why) (Ok text) =
-    uncalled × (string_bytes text ≡ compact_text (fault_body (Batch why)))
-AnswersBatch applies uncalled (Err why) (Err fault) = OutOfMemory uncalled (Err fault)
+abbrev pub AnswersBatch : {K : Type 0} → Model K → (old new : K) → Result BatchValue BatchFault
+    → Result (String Global) Fault → Type 0
+AnswersBatch model old new (Ok b) answer =
+    AsKeeper model old new b answer ⊎ OutOfMemory (new ≡ old) answer
+AnswersBatch model old new (Err why) (Ok text) =
+    (new ≡ old) × (string_bytes text ≡ compact_text (fault_body (Batch why)))
+AnswersBatch model old new (Err why) (Err fault) = OutOfMemory (new ≡ old) (Err fault)

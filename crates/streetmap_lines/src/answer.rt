@@ -68,11 +68,9 @@ fn apply_batch<K: Keeper>(
 ) -> Result<String, Fault>
     requires empty { string_bytes answer ≡ [] }
     requires wide { string_len answer + 1024 ≤ string_capacity answer }
-    ensures answered { AsKeeper (λ reply. K.applies keeper.old (batch_value batch.now) reply
-        keeper.new) (batch_value batch.now) result }
-    ensures says { K.is_clean keeper.new → (s : State) → K.stands keeper.old s →
-        SaysOf s (batch_answer s (Ok (batch_value batch.now))) result (K.stands keeper.new)
-        (K.cause keeper.new) }
+    ensures answered { AsKeeper K.model keeper.old keeper.new (batch_value batch.now) result }
+    ensures says { K.model.is_clean keeper.new → (s : State) → K.model.represents keeper.old s →
+        SaysOf K.model s (batch_answer s (Ok (batch_value batch.now))) result keeper.new }
 {
     let reply = keeper.apply(batch)?;
     push_reply_body(&mut answer, batch, reply);
@@ -85,11 +83,9 @@ fn apply_batch<K: Keeper>(
 ///
 /// The fault of the keeper, or `Memory`, if the keeper was not called.
 fn answer_batch_over<K: Keeper>(alloc: Global, keeper: &mut K, text: &str) -> Result<String, Fault>
-    ensures answered { AnswersBatch (λ b reply. K.applies keeper.old b reply keeper.new)
-        (keeper.new ≡ keeper.old) (batch_of text.now) result }
-    ensures says { K.is_clean keeper.new → (s : State) → K.stands keeper.old s →
-        SaysOf s (batch_answer s (batch_of text.now)) result (K.stands keeper.new)
-        (K.cause keeper.new) }
+    ensures answered { AnswersBatch K.model keeper.old keeper.new (batch_of text.now) result }
+    ensures says { K.model.is_clean keeper.new → (s : State) → K.model.represents keeper.old s →
+        SaysOf K.model s (batch_answer s (batch_of text.now)) result keeper.new }
 {
     let Ok(mut answer) = room(alloc) else {
         return Err(Fault::Memory);
@@ -181,15 +177,15 @@ fn answer_request(
 ///
 /// # Errors
 ///
-/// Want of memory. The ledger is then as it was, and the line may be answered again. Once a batch
-/// was applied no memory is taken, so it is always answered.
+/// Out of memory. The ledger is then as it was, and the line may be answered again. Once a batch
+/// was applied no memory is allocated, so it is always answered.
 pub fn answer_line(
     alloc: Global,
     keeper: &mut PlainKeeper,
     line: &[u8],
 ) -> Result<Option<String>, AllocError>
     // The text and the state afterwards are those of what the line asks for, in the state before;
-    // after want of memory the state is the one before.
+    // if memory ran out the state is the one before.
     ensures answered { (s : State) → IsPlainState keeper.old s → line.now ≢ []
         → LineSays s (answer_to s (request_in line.now)) result keeper.new }
     // An empty line is passed over.

@@ -2,7 +2,7 @@
 use Rattle.std.specs.Prelude.{◌≡◌, ℕ, List, Option, length}
 use Rattle.streetmap_batch.specs.Text.{Text}
 use Rattle.streetmap_loading.specs.Places.{PlacedValue}
-use Rattle.streetmap_loading.specs.KeeperLoads.{IsRead}
+use Rattle.streetmap_loading.specs.KeeperLoads.{AreRead}
 use Rattle.streetmap_loading.specs.Options.{LoadValue, load_items}
 use Rattle.streetmap_loading.specs.declared.end.Loaded.{Loaded}
 use Rattle.streetmap_loading.specs.declared.end.End.{End}
@@ -19,5 +19,5 @@ IsOfText _ = Unit {0}
 pub record ChecksText (l : LoadValue) (text : Option Text) (loaded : Loaded) : Type 0 where
   pub read : List PlacedValue
   pub counted : length read ≡ loaded.edits
-  pub is : IsRead (load_items l text) read loaded.end
+  pub is : AreRead (load_items l text) read loaded.end
   pub of_text : IsOfText loaded.end

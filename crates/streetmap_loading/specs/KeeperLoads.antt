@@ -1,12 +1,13 @@
 -- The effect of a load on a keeper.
-use Rattle.std.specs.Prelude.{◌≡◌, ◌≢◌, ℕ, ◌+◌, List, [], ◌∷◌, ◌++◌, length, take, Option, None}
+use Rattle.std.specs.Prelude.{◌≡◌, ℕ, ◌+◌, List, [], ◌∷◌, ◌++◌, length, take, Option, None}
 use Rattle.std.specs.Prelude.{Some, Ok, Err}
 use Rattle.streetmap_batch.specs.Text.{Text}
 use Rattle.streetmap_batch.specs.BatchValue.{EditValue, BatchValue}
 use Rattle.streetmap_packing.specs.Packs.{Packs}
 use Rattle.streetmap_ledger.specs.State.{State}
 use Rattle.streetmap_ledger.specs.Batches.{act, after_all}
-use Rattle.streetmap_ledger.specs.Keep.{LeavesOnly, LeavesEither}
+use Rattle.streetmap_ledger.specs.Model.{Model}
+use Rattle.streetmap_ledger.specs.Keep.{LeavesEither}
 use Rattle.streetmap_ledger.specs.Laws.{IsAcknowledged}
 use Rattle.streetmap_ledger.specs.declared.reply.Fault.{Fault}
 use Rattle.streetmap_ledger.specs.declared.reply.Fault.TheVariants as faults
@@ -27,12 +28,12 @@ keeper_fault (Stopped fault) = Some fault
 keeper_fault _ = None
 
 -- these edits of the items, if they are known, were read: all; those before the fault; or the first
-abbrev pub IsRead : Option (List Item) → List PlacedValue → End → Type 0
-IsRead None read end = Unit {0}
-IsRead (Some items) read All = items ≡ items_of read
-IsRead (Some items) read (AtFault fault) = (rest : List Item) ×
+abbrev pub AreRead : Option (List Item) → List PlacedValue → End → Type 0
+AreRead None read end = Unit {0}
+AreRead (Some items) read All = items ≡ items_of read
+AreRead (Some items) read (AtFault fault) = (rest : List Item) ×
     (items ≡ items_of read ++ Err fault ∷ rest)
-IsRead (Some items) read _ = (rest : List Item) × (items ≡ items_of read ++ rest)
+AreRead (Some items) read _ = (rest : List Item) × (items ≡ items_of read ++ rest)
 
 -- each is accepted, or was before, in the state after those before it
 abbrev pub AreAcknowledged : State → List BatchValue → Type 0
@@ -50,19 +51,13 @@ abbrev pub last_serial : Option ℕ → State → List BatchValue → Option ℕ
 last_serial before s [] = before
 last_serial before s (b ∷ bs) = last_serial (serial_of (act s b).reply) (act s b).state bs
 
-module _ (s : State) (before : Option State → Type 0) (stands : State → Type 0)
-    (left : Option State → Type 0) where
-  -- the keeper represents a state, and a crash can leave only that
-  pub record RestsAt (t : State) : Type 0 where
-    pub stood : stands t
-    pub leaves : LeavesOnly before (Some s) → LeavesOnly left (Some t)
-
-  -- the keeper gave no reply to this batch: if memory ran out nothing changes, a failed device may
-  -- have left the batch or not
+module _ {K : Type 0} (model : Model K) (first last : K) where
+  -- the keeper gave no reply to this batch: if memory ran out nothing changes; if its store failed,
+  -- a crash may leave the batch or not
   abbrev pub LeavesUnanswered : State → BatchValue → Fault → Type 0
-  LeavesUnanswered t b faults.Memory = RestsAt t
-  LeavesUnanswered t b faults.Device = LeavesOnly before (Some s) → LeavesEither left (Some t)
-      (Some (act t b).state)
+  LeavesUnanswered t b faults.Memory = model.represents last t
+  LeavesUnanswered t b faults.Device =
+      model.fails first last × LeavesEither (model.may_leave last) (Some t) (Some (act t b).state)
   LeavesUnanswered t b faults.Damaged = ⊥
   LeavesUnanswered t b faults.Reopen = ⊥
 
@@ -71,7 +66,8 @@ module _ (s : State) (before : Option State → Type 0) (stands : State → Type
   abbrev pub StopsAt : State → List PlacedValue → BatchValue → End → Type 0
   StopsAt t placed b (Refused why place) =
       (inner : Option ℕ) × ((act t b).reply ≡ replies.Refused why inner) ×
-      (place ≡ text_place (take (length b.edits) (places_of placed)) inner) × RestsAt t
+      (place ≡ text_place (take (length b.edits) (places_of placed)) inner) ×
+      model.represents last t
   StopsAt t placed b (Stopped fault) = LeavesUnanswered t b fault
   StopsAt t placed b _ = ⊥
 
@@ -90,11 +86,11 @@ module _ (s : State) (before : Option State → Type 0) (stands : State → Type
       (t : State) : Type 0 where
     pub rest : List PlacedValue
     pub are_left : AreLeft each key read sent rest
-    pub rests : RestsAt t
+    pub represents : model.represents last t
 
   abbrev pub EndsIn : (each : ℕ) (key : Text) (read : List PlacedValue) (sent : List BatchValue) →
       State → End → Type 0
-  EndsIn each key read sent t All = Packs each key (edits_of read) sent × RestsAt t
+  EndsIn each key read sent t All = Packs each key (edits_of read) sent × model.represents last t
   EndsIn each key read sent t (AtFault fault) =
       (unsent : LeavesUnsent each key read sent t) × IsShort each key (1 + length sent)
       (edits_of unsent.rest)
@@ -105,15 +101,14 @@ module _ (s : State) (before : Option State → Type 0) (stands : State → Type
 
   -- these edits of the items were read; their batches that are complete were sent and acknowledged,
   -- from the state s on; and the load ended in this way
-  pub record LoadsTo (each : ℕ) (key : Text) (items : Option (List Item)) (loaded : Loaded) : Type
-      0
-    where
-      pub read : List PlacedValue
-      pub counted : length read ≡ loaded.edits
-      pub is : IsRead items read loaded.end
-      pub sent : List BatchValue
-      pub batches : length sent ≡ loaded.batches
-      pub taken : count_of_edits sent ≡ loaded.taken
-      pub acknowledged : AreAcknowledged s sent
-      pub serial : loaded.serial ≡ last_serial None s sent
-      pub ends : EndsIn each key read sent (after_all s sent) loaded.end
+  pub record LoadsTo (s : State) (each : ℕ) (key : Text) (items : Option (List Item))
+      (loaded : Loaded) : Type 0 where
+    pub read : List PlacedValue
+    pub counted : length read ≡ loaded.edits
+    pub is : AreRead items read loaded.end
+    pub sent : List BatchValue
+    pub batches : length sent ≡ loaded.batches
+    pub taken : count_of_edits sent ≡ loaded.taken
+    pub acknowledged : AreAcknowledged s sent
+    pub serial : loaded.serial ≡ last_serial None s sent
+    pub ends : EndsIn each key read sent (after_all s sent) loaded.end

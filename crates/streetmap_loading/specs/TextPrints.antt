@@ -7,7 +7,7 @@ use Rattle.streetmap_packing.specs.Packs.{Packs}
 use Rattle.streetmap_text_lines.specs.Written.{AppendsBeginning}
 use Rattle.streetmap_loading.specs.Places.{PlacedValue, edits_of}
 use Rattle.streetmap_loading.specs.Ends.{AreLeft, IsNext}
-use Rattle.streetmap_loading.specs.KeeperLoads.{IsRead}
+use Rattle.streetmap_loading.specs.KeeperLoads.{AreRead}
 use Rattle.streetmap_loading.specs.Options.{LoadValue, load_items}
 use Rattle.streetmap_loading.specs.Printing.{line_of}
 use Rattle.streetmap_loading.specs.declared.end.Loaded.{Loaded}
@@ -55,7 +55,7 @@ pub record PrintsText (l : LoadValue) (text old new : Option (List ℕ)) (loaded
   where
     pub read : List PlacedValue
     pub counted : length read ≡ loaded.edits
-    pub is : IsRead (load_items l text) read loaded.end
+    pub is : AreRead (load_items l text) read loaded.end
     pub sent : List BatchValue
     pub batches : length sent ≡ loaded.batches
     pub prints : PrintsBy l.each l.key read sent old new loaded.end

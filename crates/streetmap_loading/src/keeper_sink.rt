@@ -12,8 +12,7 @@ pub struct KeeperSink<K: Keeper> {
 impl<K: Keeper> Sink for KeeperSink<K> {
     ghost use Rattle.streetmap_loading.specs.Applying.{Applies};
 
-    ghost takes = { λ old b result new. Applies K.is_clean K.cause K.stands K.may_leave K.applies
-        K.spares K.fails old.keeper b result new.keeper };
+    ghost takes = { λ old b result new. Applies K.model old.keeper b result new.keeper };
 
     fn take(&mut self, batch: &Batch) -> Result<Option<u64>, Stop> {
         match self.keeper.apply(batch) {

@@ -1,14 +1,13 @@
 //! The features of a text, loaded.
-ghost use Rattle.std.specs.Prelude.{◌≡◌, ◌≤◌, IsTrue, length, string_bytes};
+ghost use Rattle.std.specs.Prelude.{◌≤◌, IsTrue, length, string_bytes};
 ghost use Rattle.streetmap_batch.specs.Names.{is_key};
-ghost use Rattle.streetmap_ledger.specs.Keep.{AsBefore, RunShuts};
+ghost use Rattle.streetmap_ledger.specs.Keep.{AreCalls};
 ghost use Rattle.streetmap_ledger.specs.State.{State};
-ghost use Rattle.streetmap_ledger.specs.declared.reply.Fault.TheVariants.{Device, Reopen};
 ghost use Rattle.streetmap_loading.specs.KeeperLoads.{LoadsTo, keeper_fault};
 ghost use Rattle.streetmap_loading.specs.TextLoads.{SendsItems, SendsText};
 ghost use Rattle.streetmap_loading.specs.Options.{load_value, load_items};
 
-use crate::end::{End, Loaded};
+use crate::end::Loaded;
 use crate::keeper_sink::KeeperSink;
 use crate::listener::Listener;
 use crate::load::Load;
@@ -83,23 +82,13 @@ pub fn load_text<K: Keeper, R: BufRead + Drop, L: Listener + Drop>(
     load: Load,
     listener: L,
 ) -> Loaded
-    ensures spared { K.spares sink.old.keeper sink.new.keeper }
-    ensures began_clean { K.is_clean sink.new.keeper → K.is_clean sink.old.keeper }
-    // A closed keeper returns `Reopen` to a batch, and no other does; `Device` and `Damaged` close
-    // it.
-    ensures faults { RunShuts (keeper_fault result.end)
-        (K.cause sink.old.keeper) (K.cause sink.new.keeper) }
-    // The features that were read, the batches of them that were sent, how the load ended, the
-    // state that the keeper then represents and what a crash can leave.
-    ensures loads { K.is_clean sink.new.keeper → (s : State) → K.stands sink.old.keeper s →
-        LoadsTo s (K.may_leave sink.old.keeper)
-        (K.stands sink.new.keeper) (K.may_leave sink.new.keeper)
-        load.each (load_value load).key (load_items (load_value load) (R.remaining reader)) result }
-    ensures device { K.is_clean sink.new.keeper → (s : State) → K.stands sink.old.keeper s →
-        result.end ≡ End.Stopped Device → K.fails sink.old.keeper sink.new.keeper }
-    ensures reopen { result.end ≡ End.Stopped Reopen →
-        AsBefore (K.stands sink.old.keeper) (K.stands sink.new.keeper)
-        (K.may_leave sink.old.keeper) (K.may_leave sink.new.keeper) }
+    ensures calls { AreCalls K.model sink.old.keeper sink.new.keeper (keeper_fault result.end) }
+    // The features that were read, the batches of them that were sent, how the load ended, and the
+    // state that the keeper then represents; if its store failed, what a crash can leave.
+    ensures loads { K.model.is_clean sink.new.keeper → (s : State) →
+        K.model.represents sink.old.keeper s →
+        LoadsTo K.model sink.old.keeper sink.new.keeper s load.each (load_value load).key
+        (load_items (load_value load) (R.remaining reader)) result }
 {
     send_text(alloc, sink, reader, load, listener)
 }

@@ -1,6 +1,6 @@
 //! A keeper in memory.
 ghost use Rattle.std.specs.Prelude.{◌≡◌, ◌+◌, ℕ, Option, Some, None, Vec, IfOk, OnOk, OnErr};
-ghost use Rattle.std.specs.Prelude.{IsErrOf, string_bytes};
+ghost use Rattle.std.specs.Prelude.{string_bytes};
 ghost use Rattle.std.specs.FinMap.{get, insert};
 ghost use Rattle.std.specs.Option.{option_map};
 ghost use Rattle.std.specs.declared.alloc.Global.{Global};
@@ -35,7 +35,7 @@ use std::collections::BTreeMap;
 use streetmap_batch::Batch;
 use streetmap_geojson::Feature;
 use streetmap_ledger::{
-    Counts, Fault, FeatureOutline, Keeper, KeepsBatches, Page, Refusal, Reply, Summary,
+    Counts, Fault, FeatureOutline, Keeper, KeepsBatches, Outlined, Page, Refusal, Reply, Summary,
 };
 use streetmap_query::Query;
 
@@ -114,7 +114,7 @@ fn accept(
 }
 
 impl PlainKeeper {
-    /// A keeper that stands for the opening state.
+    /// A keeper that represents the opening state.
     pub fn new(alloc: Global) -> Self
         ensures { IsPlainState result opening_state }
     {
@@ -250,32 +250,13 @@ impl PlainKeeper {
 }
 
 impl Keeper for PlainKeeper {
-    ghost use Rattle.streetmap_memory.specs.Plain.{IsPlainState, PlainLeaves, one_plain};
-    ghost use Rattle.streetmap_memory.specs.Plain.{leaves_it, never_shut};
+    ghost use Rattle.streetmap_memory.specs.Plain.{plain_model};
 
-    ghost stands = { IsPlainState };
+    ghost model = { plain_model };
 
-    ghost may_leave = { PlainLeaves };
-
-    ghost cause = { λ _. None };
-
-    ghost is_clean = { λ _. Unit {0} };
-
-    ghost one_state = { one_plain };
-
-    ghost may_leave_it = { leaves_it };
-
-    ghost shut_has_none = { λ k s shut stands. never_shut shut };
-
-    ghost well_formed = { λ k s stands. stands.sound };
-
-    ghost spares_itself = { λ _. tt };
-
-    ghost spares_then = { λ _ _ _ _ _. tt };
-
-    ghost fails_later = { λ _ _ _ _ _ _. tt };
-
-    ghost fails_still = { λ _ _ _ _ _ _. tt };
+    fn is_open(&self) -> bool {
+        true
+    }
 
     fn apply(&mut self, batch: &Batch) -> Result<Reply, Fault> {
         batch.facts();
@@ -299,18 +280,6 @@ impl Keeper for PlainKeeper {
         }
     }
 
-    fn features(
-        &mut self,
-        collection: &str,
-        first: &str,
-        last: &str,
-    ) -> Result<Option<Vec<Feature>>, Fault> {
-        match self.features_of(collection, first, last) {
-            Ok(features) => Ok(features),
-            Err(_) => Err(Fault::Memory),
-        }
-    }
-
     fn collection(&mut self, id: &str) -> Result<Option<Summary>, Fault> {
         match self.summary_of(id) {
             Ok(summary) => Ok(summary),
@@ -321,6 +290,20 @@ impl Keeper for PlainKeeper {
     fn collections(&mut self) -> Result<Vec<Summary>, Fault> {
         match self.summaries_of() {
             Ok(summaries) => Ok(summaries),
+            Err(_) => Err(Fault::Memory),
+        }
+    }
+}
+
+impl Outlined for PlainKeeper {
+    fn features(
+        &mut self,
+        collection: &str,
+        first: &str,
+        last: &str,
+    ) -> Result<Option<Vec<Feature>>, Fault> {
+        match self.features_of(collection, first, last) {
+            Ok(features) => Ok(features),
             Err(_) => Err(Fault::Memory),
         }
     }

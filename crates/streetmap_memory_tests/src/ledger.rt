@@ -1,7 +1,7 @@
 //! How many features a page examines, which no answer shows, and runs of features.
 use std::alloc::Global;
 use std::test::Fail;
-use streetmap_ledger::{Keeper, read_batch};
+use streetmap_ledger::{Keeper, Outlined, read_batch};
 use streetmap_memory::PlainKeeper;
 use streetmap_query::read_query;
 

@@ -10,7 +10,8 @@ use Rattle.streetmap_batch.specs.BatchValue.{BatchValue}
 use Rattle.streetmap_batch.specs.Text.{Text}
 use Rattle.streetmap_batch.specs.declared.batch_fault.BatchFault.TheVariants as batches
 use Rattle.streetmap_ledger.specs.Batches.{Outcome, after_all}
-use Rattle.streetmap_ledger.specs.Keep.{LeavesOnly}
+use Rattle.streetmap_ledger.specs.Model.{Model}
+use Rattle.streetmap_ledger.specs.declared.reply.Fault.TheVariants as faults
 use Rattle.streetmap_ledger.specs.State.{State, opening_state}
 use Rattle.streetmap_ledger.specs.declared.reply.Reply.{Reply}
 use Rattle.streetmap_batch.specs.BatchFacts.{IsSoundBatch}
@@ -26,9 +27,9 @@ use Rattle.streetmap_replay.proofs.Sitting.{reaches}
 use Rattle.streetmap_text_lines.specs.Reading.{HasNoLineFeed}
 use Rattle.streetmap_text_lines.specs.declared.fault.LineFault.TheVariants.{LineTooLong, ReadFailed}
 use Rattle.streetmap_text_lines.specs.declared.fault.LineFault.TheVariants.{Memory}
-use Rattle.streetmap_replay.specs.Acting.{TellsOutcome, KeepsBut}
+use Rattle.streetmap_replay.specs.Acting.{Follows}
 use Rattle.streetmap_replay.specs.Beginnings.{IsOfJournal, FollowerBy}
-use Rattle.streetmap_replay.specs.Ends.{IsInputLine, FollowingEndsBy, Follows}
+use Rattle.streetmap_replay.specs.Ends.{IsInputLine, FollowingEndsBy, FollowsLines}
 use Rattle.streetmap_replay.specs.declared.line_stop.LineStop.{LineStop}
 use Rattle.streetmap_replay.specs.declared.line_stop.LineStop.TheVariants as stops
 use Rattle.streetmap_replay.specs.declared.following.End.{End}
@@ -133,7 +134,7 @@ module _ (bs : List BatchValue) (w : All IsSoundBatch bs) where
           (All-weaker (IsLineOf bs) IsInputBytes journal_bytes lines of.0) of.1.2
           (sym front ∙ of.1.1)
 
-      -- and whoever followed them all is the follower of the highest
+      -- and the follower of all of them is the follower up to the highest serial
       behind : (read : List Line) (rest : List ℕ) (n : ℕ) → length read ≡ n → All IsInputLine read →
           input ≡ text_of_lines read ++ rest → (follow (follower bs k) read).fault ≡ None →
           (follow (follower bs k) read).state ≡ follower bs (max k (highest (take n lines)))
@@ -145,66 +146,54 @@ module _ (bs : List BatchValue) (w : All IsSoundBatch bs) where
           state_is k read ours whole
           ∙ ap (λ (ls : List Line). follower bs (max k (highest ls))) first
 
-      module _ (count : ℕ) (stands : State → Type 0) (t : State)
-          (is : t ≡ follower bs (max k (highest (take count lines)))) where
-        stop_by : (outcome : Result Outcome LineFault) (stop : LineStop) →
-            TellsOutcome t outcome (Err stop) stands →
-            FollowerBy bs k lines count (ends.Stopped stop) stands
-        stop_by outcome (stops.Unread batches.Memory) h = subst stands is h
-        stop_by outcome (stops.Unread (batches.BadBatch place)) h = subst stands is h.1
-        stop_by outcome (stops.Unread batches.BadKey) h = subst stands is h.1
-        stop_by outcome (stops.Unread batches.TooManyEdits) h = subst stands is h.1
-        stop_by outcome (stops.Unread (batches.BadFeature place cause)) h = subst stands is h.1
-        stop_by outcome stops.NotNext h = subst stands is h.1
-        stop_by outcome (stops.Refused why place) h = subst stands is h.1
-        stop_by outcome (stops.Stopped fault) h =
-            subst (λ (u : State). KeepsBut u fault stands) is h
+      module _ {K : Type 0} (model : Model K) (a b : K) where
+        module _ (count : ℕ) (t : State) (is : t ≡ follower bs (max k (highest (take count lines)))) where
+          stop_by : (outcome : Result Outcome LineFault) (stop : LineStop) → Follows model a b t outcome (Err stop) → FollowerBy bs k lines count (ends.Stopped stop) (model.represents b)
+          stop_by outcome (stops.Unread batches.Memory) h = subst (model.represents b) is h
+          stop_by outcome (stops.Unread (batches.BadBatch place)) h = subst (model.represents b) is h.1
+          stop_by outcome (stops.Unread batches.BadKey) h = subst (model.represents b) is h.1
+          stop_by outcome (stops.Unread batches.TooManyEdits) h = subst (model.represents b) is h.1
+          stop_by outcome (stops.Unread (batches.BadFeature place cause)) h = subst (model.represents b) is h.1
+          stop_by outcome stops.NotNext h = subst (model.represents b) is h.1
+          stop_by outcome (stops.Refused why place) h = subst (model.represents b) is h.1
+          stop_by outcome (stops.Stopped faults.Memory) h = subst (model.represents b) is h
+          stop_by outcome (stops.Stopped faults.Device) h = tt
+          stop_by outcome (stops.Stopped faults.Damaged) h = h
+          stop_by outcome (stops.Stopped faults.Reopen) h = h
 
-        end_by : (read : List Line) (new : Option (List ℕ)) (given : Type 0)
-            (left : Option State → Type 0) (end : End) →
-            (FollowingEndsBy t read (Some input) new given left ends.NotTold stands →
-            FollowerBy bs k lines count ends.NotTold stands) →
-            FollowingEndsBy t read (Some input) new given left end stands →
-            FollowerBy bs k lines count end stands
-        end_by read new given left ends.All untold h = subst stands is h.1
-        end_by read new given left ends.CutLine untold h = subst stands is h.1
-        end_by read new given left (ends.NotRead LineTooLong) untold h = subst stands is h.1
-        end_by read new given left (ends.NotRead ReadFailed) untold h = subst stands is h.0
-        end_by read new given left (ends.NotRead Memory) untold h = subst stands is h.0
-        end_by read new given left (ends.Stopped stop) untold h = stop_by _ stop h.3
-        end_by read new given left ends.NotTold untold h = untold h
+          end_by : (read : List Line) (new : Option (List ℕ)) (end : End) →
+              (FollowingEndsBy model a b t read (Some input) new ends.NotTold → FollowerBy bs k lines count ends.NotTold (model.represents b)) →
+              FollowingEndsBy model a b t read (Some input) new end → FollowerBy bs k lines count end (model.represents b)
+          end_by read new ends.All untold h = subst (model.represents b) is h.1
+          end_by read new ends.CutLine untold h = subst (model.represents b) is h.1
+          end_by read new (ends.NotRead LineTooLong) untold h = subst (model.represents b) is h.1
+          end_by read new (ends.NotRead ReadFailed) untold h = subst (model.represents b) is h
+          end_by read new (ends.NotRead Memory) untold h = subst (model.represents b) is h
+          end_by read new (ends.Stopped stop) untold h = stop_by _ stop h.3
+          end_by read new ends.NotTold untold h = untold h
 
-      -- the last was followed, and its reply not told
-      one_behind : (read : List Line) (count : ℕ) (stands : State → Type 0)
-          (given : Type 0) (left : Option State → Type 0) → length read ≡ count →
-          All IsInputLine read → (follow (follower bs k) read).fault ≡ None →
-          (new : Option (List ℕ)) →
-          FollowingEndsBy (follow (follower bs k) read).state read (Some input) new given left ends.NotTold
-          stands → FollowerBy bs k lines count ends.NotTold stands
-      one_behind read count stands given left counted all whole None h = absurd h.2
-      one_behind read count stands given left counted all whole (Some rest) h =
-          let line = h.0 in
-          let o = h.3.0 in
-          let more = one_more (follower bs k) read line o whole h.3.1 in
-          let both = All-append IsInputLine read (line ∷ []) all
-          (All-cons IsInputLine line [] h.1 (All-nil IsInputLine)) in
-          let long = length-append read (line ∷ []) in
-          let last = behind (read ++ line ∷ []) rest (count + 1) (omega (arith, long, counted)) both
-          h.2 (ap (λ (f : Told). f.fault) more) in
-          subst stands (sym (ap (λ (f : Told). f.state) more) ∙ last) h.3.2
+        -- the last was followed, and its reply not reported
+        one_behind : (read : List Line) (count : ℕ) → length read ≡ count → All IsInputLine read → (follow (follower bs k) read).fault ≡ None → (new : Option (List ℕ)) →
+            FollowingEndsBy model a b (follow (follower bs k) read).state read (Some input) new ends.NotTold → FollowerBy bs k lines count ends.NotTold (model.represents b)
+        one_behind read count counted all whole None h = absurd h.2
+        one_behind read count counted all whole (Some rest) h =
+            let line = h.0 in
+            let o = h.3.0 in
+            let more = one_more (follower bs k) read line o whole h.3.1 in
+            let both = All-append IsInputLine read (line ∷ []) all
+            (All-cons IsInputLine line [] h.1 (All-nil IsInputLine)) in
+            let long = length-append read (line ∷ []) in
+            let last = behind (read ++ line ∷ []) rest (count + 1) (omega (arith, long, counted)) both
+            h.2 (ap (λ (f : Told). f.fault) more) in
+            subst (model.represents b) (sym (ap (λ (f : Told). f.state) more) ∙ last) h.3.2
 
-pub follower_by : {T : Type 0} (bs : List BatchValue) → All IsSoundBatch bs → (k : ℕ)
-    (lines : List Line) (old new : Option (List ℕ)) (tells : T → Text → Reply → T → Type 0)
-    (first last : T) (before left : Option State → Type 0) (result : Followed)
-    (stands : State → Type 0) → IsOfJournal bs lines old →
-    Follows (follower bs k) old new tells first last before left result stands →
-    FollowerBy bs k lines result.count result.end stands
-follower_by bs w k lines None new tells first last before left result stands of h = absurd of
-follower_by bs w k lines (Some input) new tells first last before left result stands of h =
+pub follower_by : {K T : Type 0} (model : Model K) (a b : K) (bs : List BatchValue) → All IsSoundBatch bs → (k : ℕ) (lines : List Line) (old new : Option (List ℕ)) (tells : T → Text → Reply → T → Type 0)
+    (first last : T) (result : Followed) → IsOfJournal bs lines old → FollowsLines model a b (follower bs k) old new tells first last result →
+    FollowerBy bs k lines result.count result.end (model.represents b)
+follower_by model a b bs w k lines None new tells first last result of h = absurd of
+follower_by model a b bs w k lines (Some input) new tells first last result of h =
     let t = (follow (follower bs k) h.read).state in
     let is = behind bs w k lines input of h.read h.front.0 result.count h.counted h.lines h.front.1
     h.followed in
-    end_by bs w k lines input of result.count stands t is h.read new
-    (LeavesOnly before (Some (follower bs k))) left
-    result.end (one_behind bs w k lines input of h.read result.count stands _ left h.counted
-    h.lines h.followed new) h.ends
+    end_by bs w k lines input of model a b result.count t is h.read new result.end
+    (one_behind bs w k lines input of model a b h.read result.count h.counted h.lines h.followed new) h.ends

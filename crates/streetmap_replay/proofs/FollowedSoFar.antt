@@ -8,7 +8,7 @@ use Rattle.std.proofs.lemmas.List.Elements.{All-nil, All-cons, All-append}
 use Rattle.streetmap_batch.specs.BatchReading.{batch_of}
 use Rattle.streetmap_batch.specs.Text.{Text}
 use Rattle.streetmap_ledger.specs.Batches.{Outcome}
-use Rattle.streetmap_ledger.specs.Keep.{LeavesOnly}
+use Rattle.streetmap_ledger.specs.Model.{Model}
 use Rattle.streetmap_ledger.specs.State.{State}
 use Rattle.streetmap_ledger.specs.declared.reply.Reply.{Reply}
 use Rattle.streetmap_replay.specs.Following.{LineFault, Followed as Told, line_outcome, goes_on}
@@ -90,7 +90,7 @@ text_of_one : (line : Line) (bytes : List ℕ) → line_bytes line ≡ bytes →
     text_of_lines (line ∷ []) ≡ bytes ++ 10 ∷ []
 text_of_one line bytes e = ap (λ (b : List ℕ). b ++ 10 ∷ []) e
 
--- the line was taken off behind the others
+-- the line was taken off after the others
 pub taken_more : (old now later : Option (List ℕ)) (read : List Line) (line : Line)
     (bytes : List ℕ) →
     IsJournalLine bytes line → Consumes old now (text_of_lines read) →
@@ -105,47 +105,36 @@ taken_more old now later read line bytes is h k =
 
 -- ---- underway
 
-pub record Underway {T : Type 0} (s : State) (old now : Option (List ℕ))
-    (tells : T → Text → Reply → T → Type 0) (first last : T)
-    (before left : Option State → Type 0) (count : ℕ) (stands : State → Type 0) : Type 0 where
+pub record Underway {K T : Type 0} (model : Model K) (now : K) (s : State) (input rest : Option (List ℕ)) (tells : T → Text → Reply → T → Type 0) (first last : T) (count : ℕ) : Type 0 where
   pub read : List Line
   pub counted : length read ≡ count
   pub lines : All IsInputLine read
-  pub taken : Consumes old now (text_of_lines read)
+  pub taken : Consumes input rest (text_of_lines read)
   pub followed : (follow s read).fault ≡ None
   pub as_many : length (follow s read).replies ≡ length read
   pub told : ToldAll tells first (answers read (follow s read).replies) last
-  pub stood : stands (follow s read).state
-  pub leaves : LeavesOnly before (Some s) → LeavesOnly left (Some (follow s read).state)
+  pub there : model.represents now (follow s read).state
 
-pub begins : {T : Type 0} (s : State) (old : Option (List ℕ))
-    (tells : T → Text → Reply → T → Type 0) (first : T) (before : Option State → Type 0)
-    (stands : State → Type 0) → stands s →
-    Underway s old old tells first first before before 0 stands
-begins s old tells first before stands h = record {
+pub begins : {K T : Type 0} (model : Model K) (k : K) (s : State) (input : Option (List ℕ)) (tells : T → Text → Reply → T → Type 0) (first : T) → model.represents k s
+    → Underway model k s input input tells first first 0
+begins model k s input tells first h = record {
   read = [];
   counted = refl;
   lines = All-nil IsInputLine;
-  taken = Consumes-nil old;
+  taken = Consumes-nil input;
   followed = refl;
   as_many = refl;
   told = refl;
-  stood = h;
-  leaves = λ only. only;
+  there = h;
 }
 
-pub goes_further : {T : Type 0} (s : State) (old now later : Option (List ℕ))
-    (tells : T → Text → Reply → T → Type 0) (first mid last : T)
-    (before left after : Option State → Type 0) (count : ℕ) (stood stands : State → Type 0) →
-    (it : Underway s old now tells first mid before left count stood) →
-    (bytes : List ℕ) (line : Line) (o : Outcome) → IsJournalLine bytes line → HasNoLineFeed bytes →
+pub goes_further : {K T : Type 0} (model : Model K) (l m : K) (s : State) (input now later : Option (List ℕ)) (tells : T → Text → Reply → T → Type 0) (first mid last : T) (count : ℕ)
+    (it : Underway model l s input now tells first mid count) (bytes : List ℕ) (line : Line) (o : Outcome) → IsJournalLine bytes line → HasNoLineFeed bytes →
     length bytes ≤ most_bytes → Consumes now later (bytes ++ 10 ∷ []) →
-    line_outcome (follow s it.read).state line ≡ Ok o → stands o.state →
+    line_outcome (follow s it.read).state line ≡ Ok o → model.represents m o.state →
     tells mid (key_in (batch_of (line_text line))) o.reply last →
-    (LeavesOnly before (Some s) → LeavesOnly after (Some o.state)) →
-    Underway s old later tells first last before after (count + 1) stands
-goes_further s old now later tells first mid last before left after count stood stands it bytes line
-    o is one short took outcome there told leaves =
+    Underway model m s input later tells first last (count + 1)
+goes_further model l m s input now later tells first mid last count it bytes line o is one short took outcome there told =
     let more = one_more s it.read line o it.followed outcome in
     let long = length-append it.read (line ∷ []) in
     let same = it.counted in
@@ -160,7 +149,7 @@ goes_further s old now later tells first mid last before left after count stood 
       counted = omega (arith, long, same);
       lines = All-append IsInputLine it.read (line ∷ []) it.lines
           (All-cons IsInputLine line [] (is_input bytes line is one short) (All-nil IsInputLine));
-      taken = taken_more old now later it.read line bytes is it.taken took;
+      taken = taken_more input now later it.read line bytes is it.taken took;
       followed = ap (λ (f : Told). f.fault) more;
       as_many = ap length replies ∙ omega (arith, long, many, wide);
       told = subst (λ (said : List (Text × Reply)). ToldAll tells first said last)
@@ -168,6 +157,5 @@ goes_further s old now later tells first mid last before left after count stood 
           ∙ answers-append it.read (follow s it.read).replies line o.reply it.as_many))
           (told_then tells first mid last (answers it.read (follow s it.read).replies) key o.reply
           it.told told);
-      stood = subst stands state there;
-      leaves = λ only. subst (λ (t : State). LeavesOnly after (Some t)) state (leaves only);
+      there = subst (model.represents m) state there;
     }

@@ -8,10 +8,11 @@ use Rattle.std.specs.Io.KnownBytes.{Consumes, Keeps, IsAtEnd}
 use Rattle.streetmap_batch.specs.BatchReading.{batch_of}
 use Rattle.streetmap_batch.specs.BatchView.{batch_value}
 use Rattle.streetmap_batch.specs.Text.{Text}
-use Rattle.streetmap_ledger.specs.Keep.{LeavesOnly}
+use Rattle.streetmap_ledger.specs.Model.{Model}
 use Rattle.streetmap_ledger.specs.State.{State}
 use Rattle.streetmap_ledger.specs.declared.reply.Reply.{Reply}
-use Rattle.streetmap_replay.specs.Following.{follow}
+use Rattle.streetmap_replay.specs.Following.{follow, line_outcome}
+use Rattle.streetmap_replay.specs.Calls.{AreCalls}
 use Rattle.streetmap_replay.specs.JournalText.{text_of_lines}
 use Rattle.streetmap_text_lines.specs.Lines.{first_too_long}
 use Rattle.streetmap_text_lines.specs.Reading.{HasNoLineFeed, WhereKnown}
@@ -19,12 +20,15 @@ use Rattle.streetmap_text_lines.specs.Whole.{EndsWithin}
 use Rattle.streetmap_text_lines.specs.declared.fault.LineFault.{LineFault}
 use Rattle.streetmap_text_lines.specs.declared.fault.LineFault.TheVariants.{LineTooLong, ReadFailed}
 use Rattle.streetmap_text_lines.specs.declared.fault.LineFault.TheVariants.{Memory}
-use Rattle.streetmap_replay.specs.Acting.{state_behind}
-use Rattle.streetmap_replay.specs.Ends.{most_bytes, key_in, Follows}
+use Rattle.streetmap_replay.specs.Acting.{answer_of}
+use Rattle.streetmap_replay.specs.Ends.{most_bytes, key_in, FollowsLines, end_answer}
 use Rattle.streetmap_replay.specs.LineReading.{line_text, FollowsLine}
 use Rattle.streetmap_replay.specs.declared.acting.Acknowledged.{Acknowledged}
 use Rattle.streetmap_replay.specs.declared.line_stop.LineStop.{LineStop}
+use Rattle.streetmap_replay.specs.declared.line_stop.LineStop.TheVariants as stops
 use Rattle.streetmap_replay.specs.declared.following.End.TheVariants as ends
+use Rattle.streetmap_replay.proofs.CallsInTurn.{no_fault}
+use Rattle.streetmap_replay.proofs.ToldBatches.{follows_from}
 use Rattle.streetmap_replay.proofs.FollowedSoFar.{Underway, is_input, taken_more, goes_further}
 
 pub is_told : {X E : Type 0} (r : Result X E) (P : Type 0) → true ≡ is_ok r → OnOk r P → P
@@ -67,131 +71,116 @@ long_behind (Some xs) (Some ys) bytes h long = (ys, h, long)
 
 -- ---- going on, and ending
 
-module _ {T : Type 0} (s : State) (old now later : Option (List ℕ))
-    (tells : T → Text → Reply → T → Type 0) (first mid last : T)
-    (before left after : Option State → Type 0) (count : ℕ) (stood stands : State → Type 0)
-    (it : Underway s old now tells first mid before left count stood) where
-  abbrev here : State
-  here = (follow s it.read).state
+-- the keeper's answer to the line that ended it
+pub ends_by : {K : Type 0} {model : Model K} {a b : K} (stop : LineStop) → AreCalls model a b (answer_of {T = Reply} (Err stop)) → AreCalls model a b (end_answer (ends.Stopped stop))
+ends_by (stops.Unread fault) calls = calls
+ends_by stops.NotNext calls = no_fault calls
+ends_by (stops.Refused why place) calls = no_fault calls
+ends_by (stops.Stopped fault) calls = calls
 
-  abbrev Line : List ℕ → Result Acknowledged LineStop → Type 0
-  Line bytes result = FollowsLine here bytes result stands (LeavesOnly left (Some here)) after
-
-  pub further : (bytes : List ℕ) (a : Acknowledged) → Line bytes (Ok a) → HasNoLineFeed bytes →
+module _ {K T : Type 0} (model : Model K) (k l m : K) (s : State) (input now later : Option (List ℕ)) (tells : T → Text → Reply → T → Type 0) (first mid last : T) (count : ℕ)
+    (it : Underway model l s input now tells first mid count) where
+  pub further : (bytes : List ℕ) (a : Acknowledged) → FollowsLine model l m bytes (Ok a) → model.is_clean m → HasNoLineFeed bytes →
       length bytes ≤ most_bytes → Consumes now later (bytes ++ 10 ∷ []) →
       tells mid (batch_value a.batch).key a.reply last →
-      Underway s old later tells first last before after (count + 1) stands
-  further bytes a says one short took told =
-      let o = says.tells.0 in
+      Underway model m s input later tells first last (count + 1)
+  further bytes a says clean one short took told =
+      let found = says.followed.follows clean (follow s it.read).state it.there in
+      let o = found.0 in
       let key : (batch_value a.batch).key ≡ key_in (batch_of (line_text says.line)) =
       sym (ap key_in says.batch) in
-      goes_further s old now later tells first mid last before left after count stood stands it
-      bytes says.line o says.is one short took says.tells.1 says.tells.3
-      (subst (λ (k : Text). tells mid k o.reply last) key
-      (subst (λ (r : Reply). tells mid (batch_value a.batch).key r last) says.tells.2 told))
-      (λ only. subst (λ (t : State). LeavesOnly after (Some t))
-      (ap (state_behind here) says.tells.1) (says.leaves (it.leaves only)))
+      goes_further model l m s input now later tells first mid last count it bytes says.line o says.is one short took found.1 found.3
+      (subst (λ (q : Text). tells mid q o.reply last) key
+      (subst (λ (r : Reply). tells mid (batch_value a.batch).key r last) found.2 told))
 
-  pub not_told : (bytes : List ℕ) (a : Acknowledged) → Line bytes (Ok a) → HasNoLineFeed bytes →
+  pub not_told : (bytes : List ℕ) (a : Acknowledged) → FollowsLine model l m bytes (Ok a) → model.is_clean m → HasNoLineFeed bytes →
       length bytes ≤ most_bytes → Consumes now later (bytes ++ 10 ∷ []) →
-      Follows s old later tells first last before after
-      (record { count = count; end = ends.NotTold }) stands
-  not_told bytes a says one short took = record {
-    read = it.read;
-    counted = it.counted;
-    lines = it.lines;
-    front = front_of old now (text_of_lines it.read) it.taken;
-    followed = it.followed;
-    told = (mid, it.told);
-    ends = (
-      says.line,
-      is_input bytes says.line says.is one short,
-      taken_more old now later it.read says.line bytes says.is it.taken took,
-      (
-        says.tells.0,
-        says.tells.1,
-        says.tells.3,
-        λ only. subst (λ (t : State). LeavesOnly after (Some t))
-            (ap (state_behind here) says.tells.1) (says.leaves (it.leaves only)),
-      ),
-    );
-  }
+      FollowsLines model k m s input later tells first last (record { count = count; end = ends.NotTold })
+  not_told bytes a says clean one short took =
+      let found = says.followed.follows clean (follow s it.read).state it.there in
+      record {
+        read = it.read;
+        counted = it.counted;
+        lines = it.lines;
+        front = front_of input now (text_of_lines it.read) it.taken;
+        followed = it.followed;
+        told = (mid, it.told);
+        ends = (
+          says.line,
+          is_input bytes says.line says.is one short,
+          taken_more input now later it.read says.line bytes says.is it.taken took,
+          (found.0, found.1, found.3),
+        );
+      }
 
-  pub stopped : (bytes : List ℕ) (stop : LineStop) → Line bytes (Err stop) → HasNoLineFeed bytes →
+  pub stopped : (bytes : List ℕ) (stop : LineStop) → AreCalls model k l None → FollowsLine model l m bytes (Err stop) → model.is_clean m → HasNoLineFeed bytes →
       length bytes ≤ most_bytes → Consumes now later (bytes ++ 10 ∷ []) →
-      Follows s old later tells first mid before after
-      (record { count = count; end = ends.Stopped stop }) stands
-  stopped bytes stop says one short took = record {
-    read = it.read;
-    counted = it.counted;
-    lines = it.lines;
-    front = front_of old now (text_of_lines it.read) it.taken;
-    followed = it.followed;
-    told = it.told;
-    ends = (
-      says.line,
-      is_input bytes says.line says.is one short,
-      taken_more old now later it.read says.line bytes says.is it.taken took,
-      says.tells,
-      λ only. says.leaves (it.leaves only),
-    );
-  }
+      FollowsLines model k m s input later tells first mid (record { count = count; end = ends.Stopped stop })
+  stopped bytes stop before says clean one short took =
+      let t = (follow s it.read).state in
+      record {
+        read = it.read;
+        counted = it.counted;
+        lines = it.lines;
+        front = front_of input now (text_of_lines it.read) it.taken;
+        followed = it.followed;
+        told = it.told;
+        ends = (
+          says.line,
+          is_input bytes says.line says.is one short,
+          taken_more input now later it.read says.line bytes says.is it.taken took,
+          follows_from model k l m t (line_outcome t says.line) (Err stop) (model.fails_later k l m before.spared says.followed.calls.spared) (says.followed.follows clean t it.there),
+        );
+      }
 
-  pub all : Keeps now later × IsAtEnd now →
-      Follows s old later tells first mid before left (record { count = count; end = ends.All })
-      stood
+  pub all : Keeps now later × IsAtEnd now → FollowsLines model k l s input later tells first mid (record { count = count; end = ends.All })
   all end = record {
     read = it.read;
     counted = it.counted;
     lines = it.lines;
-    front = front_of old now (text_of_lines it.read) it.taken;
+    front = front_of input now (text_of_lines it.read) it.taken;
     followed = it.followed;
     told = it.told;
-    ends = (all_taken old now later (text_of_lines it.read) it.taken end, it.stood, it.leaves);
+    ends = (all_taken input now later (text_of_lines it.read) it.taken end, it.there);
   }
 
-  pub cut : WhereKnown now later EndsWithin →
-      Follows s old later tells first mid before left
-      (record { count = count; end = ends.CutLine }) stood
+  pub cut : WhereKnown now later EndsWithin → FollowsLines model k l s input later tells first mid (record { count = count; end = ends.CutLine })
   cut end = record {
     read = it.read;
     counted = it.counted;
     lines = it.lines;
-    front = front_of old now (text_of_lines it.read) it.taken;
+    front = front_of input now (text_of_lines it.read) it.taken;
     followed = it.followed;
     told = it.told;
-    ends = (cut_taken old now later (text_of_lines it.read) it.taken end, it.stood, it.leaves);
+    ends = (cut_taken input now later (text_of_lines it.read) it.taken end, it.there);
   }
 
-  pub unread : (fault : LineFault) →
-      (fault ≡ LineTooLong → IfSome now (λ rest. first_too_long most_bytes rest ≡ Some 0)) →
-      Follows s old later tells first mid before left
-      (record { count = count; end = ends.NotRead fault }) stood
+  pub unread : (fault : LineFault) → (fault ≡ LineTooLong → IfSome now (λ rest. first_too_long most_bytes rest ≡ Some 0)) →
+      FollowsLines model k l s input later tells first mid (record { count = count; end = ends.NotRead fault })
   unread LineTooLong long = record {
     read = it.read;
     counted = it.counted;
     lines = it.lines;
-    front = front_of old now (text_of_lines it.read) it.taken;
+    front = front_of input now (text_of_lines it.read) it.taken;
     followed = it.followed;
     told = it.told;
-    ends =
-        (long_behind old now (text_of_lines it.read) it.taken (long refl), it.stood, it.leaves);
+    ends = (long_behind input now (text_of_lines it.read) it.taken (long refl), it.there);
   }
   unread ReadFailed long = record {
     read = it.read;
     counted = it.counted;
     lines = it.lines;
-    front = front_of old now (text_of_lines it.read) it.taken;
+    front = front_of input now (text_of_lines it.read) it.taken;
     followed = it.followed;
     told = it.told;
-    ends = (it.stood, it.leaves);
+    ends = it.there;
   }
   unread Memory long = record {
     read = it.read;
     counted = it.counted;
     lines = it.lines;
-    front = front_of old now (text_of_lines it.read) it.taken;
+    front = front_of input now (text_of_lines it.read) it.taken;
     followed = it.followed;
     told = it.told;
-    ends = (it.stood, it.leaves);
+    ends = it.there;
   }

@@ -1,3 +1,4 @@
+pub mod CallsInTurn
 pub mod BatchesGivenAgain
 pub mod NotGivenAgain
 pub mod ReplayEnds

@@ -2,7 +2,7 @@
 use Rattle.std.proofs.Common.{◌≡◌, ℕ, zero, suc, ◌+◌, ◌<◌, Bool, true, false, ◌||◌, List, []}
 use Rattle.std.proofs.Common.{◌∷◌, ◌++◌, All, length, map, take, get_or, Option, None, Some, refl}
 use Rattle.std.proofs.Common.{option_map, sym, ap, subst, ◌∙◌, arith, Result, Ok, Err, IsTrue}
-use Rattle.std.specs.Prelude.{slice_get, bytes_eq, IfSome, string_bytes}
+use Rattle.std.specs.Prelude.{slice_get, bytes_eq, IfSome, IfOk, string_bytes}
 use Rattle.std.specs.Bool.{Decides}
 use Rattle.std.specs.List.{list_any}
 use Rattle.std.specs.Cmp.Lexicographic.{nat_list_cmp_total}
@@ -18,9 +18,9 @@ use Rattle.streetmap_ledger.specs.WellFormed.{IsState}
 use Rattle.streetmap_ledger.specs.declared.summary.Summary.{Summary}
 use Rattle.streetmap_ledger.proofs.TextMaps.{one_text}
 use Rattle.streetmap_replay.proofs.ItemsByPlace.{get_map, get_low}
-use Rattle.streetmap_replay.specs.Alike.{AreAlike, AreSame, IsSame, Differs, LooksBoth, Compares}
+use Rattle.streetmap_replay.specs.Alike.{AreAlike, AreSame, IsSame, Differs, Compares}
 use Rattle.streetmap_replay.specs.Alike.{IsUnlike, is_named}
-use Rattle.streetmap_replay.specs.Stops.{FirstStaysBy, StopStays}
+use Rattle.streetmap_replay.specs.Stops.{kept_end, fresh_end}
 use Rattle.streetmap_replay.specs.declared.fault.ReplayStop.{ReplayStop}
 use Rattle.streetmap_replay.specs.declared.fault.ReplayStop.TheVariants.{Kept, Fresh, Memory}
 use Rattle.streetmap_replay.specs.declared.fault.ReplayFault.{ReplayFault}
@@ -29,57 +29,37 @@ use Rattle.streetmap_replay.specs.declared.fault.ReplayFault.TheVariants.{Collec
 use Rattle.streetmap_replay.proofs.TextMaps.{at_place, of_key, has_key, has_key_found, no_key_none}
 use Rattle.streetmap_replay.proofs.Pages.{same_collection}
 
--- ---- looks
+-- ---- comparisons
 
-pub looks_as : (s t : State) (P Q : Type 0) (r : Result Bool ReplayStop)
-    (kept fresh : State → Type 0) → (P → Q) → (Q → P) →
-    LooksBoth s t (λ b. Decides b P) r kept fresh → LooksBoth s t (λ b. Decides b Q) r kept fresh
-looks_as s t P Q (Ok b) kept fresh to of h =
-    ((λ yes. to (h.0.0 yes), λ q. h.0.1 (of q)), h.1, h.2)
-looks_as s t P Q (Err (Kept fault)) kept fresh to of h = h
-looks_as s t P Q (Err (Fresh fault)) kept fresh to of h = h
-looks_as s t P Q (Err Memory) kept fresh to of h = h
+pub decided_as : (P Q : Type 0) (r : Result Bool ReplayStop) → (P → Q) → (Q → P) → IfOk r (λ b. Decides b P) → IfOk r (λ b. Decides b Q)
+decided_as P Q (Ok b) to of h = (λ yes. to (h.0 yes), λ q. h.1 (of q))
+decided_as P Q (Err stop) to of h = h
 
-pub stop_compares : {T : Type 0} (s t : State) (Is : T → Type 0) (Same : Type 0)
-    (stop : ReplayStop) (kept fresh : State → Type 0) → LooksBoth s t Is (Err stop) kept fresh →
-    Compares {T = Unit {0}} s t Same (Err (Stopped stop)) kept fresh
-stop_compares s t Is Same (Kept fault) kept fresh h = h
-stop_compares s t Is Same (Fresh fault) kept fresh h = h
-stop_compares s t Is Same Memory kept fresh h = h
+pub compares_as : (s t : State) (P Q : Type 0) (fault : ReplayFault) → Compares {T = Unit {0}} s t P (Err fault) → Compares {T = Unit {0}} s t Q (Err fault)
+compares_as s t P Q (Stopped stop) h = h
+compares_as s t P Q (Batch serial) h = h
+compares_as s t P Q (Other name) h = h
 
-pub compares_as : (s t : State) (P Q : Type 0) (fault : ReplayFault)
-    (kept fresh : State → Type 0) → Compares {T = Unit {0}} s t P (Err fault) kept fresh →
-    Compares {T = Unit {0}} s t Q (Err fault) kept fresh
-compares_as s t P Q (Stopped (Kept fault)) kept fresh h = h
-compares_as s t P Q (Stopped (Fresh fault)) kept fresh h = h
-compares_as s t P Q (Stopped Memory) kept fresh h = h
-compares_as s t P Q (Batch serial) kept fresh h = h
-compares_as s t P Q (Other name) kept fresh h = h
+-- a collection differs: no keeper failed
+pub unlike_kept : (name : Text) (fault : ReplayFault) → IsUnlike name fault → kept_end {T = Unit {0}} (Err fault) ≡ None
+unlike_kept name (Stopped (Kept fault)) is = absurd is
+unlike_kept name (Stopped (Fresh fault)) is = absurd is
+unlike_kept name (Stopped Memory) is = refl
+unlike_kept name (Batch serial) is = absurd is
+unlike_kept name (Other text) is = refl
 
-pub stop_stays : (s : State) (stop : ReplayStop) (kept : State → Type 0) →
-    StopStays {T = Bool} s (Err stop) kept → FirstStaysBy {T = Unit {0}} s (Err (Stopped stop)) kept
-stop_stays s (Kept fault) kept h = h
-stop_stays s (Fresh fault) kept h = h
-stop_stays s Memory kept h = h
+pub unlike_fresh : (name : Text) (fault : ReplayFault) → IsUnlike name fault → fresh_end {T = Unit {0}} (Err fault) ≡ None
+unlike_fresh name (Stopped (Kept fault)) is = absurd is
+unlike_fresh name (Stopped (Fresh fault)) is = absurd is
+unlike_fresh name (Stopped Memory) is = refl
+unlike_fresh name (Batch serial) is = absurd is
+unlike_fresh name (Other text) is = refl
 
-pub unlike_stays : (s : State) (name : Text) (fault : ReplayFault) (kept : State → Type 0) →
-    IsUnlike name fault → kept s → FirstStaysBy {T = Unit {0}} s (Err fault) kept
-unlike_stays s name (Stopped (Kept fault)) kept is h = absurd is
-unlike_stays s name (Stopped (Fresh fault)) kept is h = absurd is
-unlike_stays s name (Stopped Memory) kept is h = h
-unlike_stays s name (Batch serial) kept is h = h
-unlike_stays s name (Other text) kept is h = h
-
-pub unlike_compares : (s t : State) (Same : Type 0) (name : Text)
-    (fault : ReplayFault) (kept fresh : State → Type 0) → IsUnlike name fault →
-    ((text : Text) → text ≡ name → Differs s t text) → kept s → fresh t →
-    Compares {T = Unit {0}} s t Same (Err fault) kept fresh
-unlike_compares s t Same name (Stopped (Kept fault)) kept fresh is differs h j = absurd is
-unlike_compares s t Same name (Stopped (Fresh fault)) kept fresh is differs h j = absurd is
-unlike_compares s t Same name (Stopped Memory) kept fresh is differs h j = (h, j)
-unlike_compares s t Same name (Batch serial) kept fresh is differs h j = absurd is
-unlike_compares s t Same name (Other text) kept fresh is differs h j =
-    (differs (string_bytes text) is, h, j)
+pub unlike_compares : (s t : State) (Same : Type 0) (name : Text) (fault : ReplayFault) → IsUnlike name fault → ((text : Text) → text ≡ name → Differs s t text)
+    → Compares {T = Unit {0}} s t Same (Err fault)
+unlike_compares s t Same name (Stopped stop) is differs = tt
+unlike_compares s t Same name (Batch serial) is differs = absurd is
+unlike_compares s t Same name (Other text) is differs = differs (string_bytes text) is
 
 -- ---- one collection
 

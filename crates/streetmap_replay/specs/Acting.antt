@@ -4,12 +4,12 @@ use Rattle.streetmap_batch.specs.BatchValue.{BatchValue}
 use Rattle.streetmap_batch.specs.declared.batch_fault.BatchFault.{BatchFault}
 use Rattle.streetmap_batch.specs.declared.batch_fault.BatchFault.TheVariants as batches
 use Rattle.streetmap_ledger.specs.Batches.{Outcome}
-use Rattle.streetmap_ledger.specs.Keep.{ShutsBy, LeavesOnly, LeavesEither}
+use Rattle.streetmap_ledger.specs.Keep.{LeavesEither}
+use Rattle.streetmap_ledger.specs.Model.{Model}
 use Rattle.streetmap_ledger.specs.State.{State}
-use Rattle.streetmap_ledger.specs.declared.reply.Cause.{Cause}
-use Rattle.streetmap_ledger.specs.declared.reply.Fault.{Fault}
 use Rattle.streetmap_ledger.specs.declared.reply.Fault.TheVariants.{Memory, Device, Damaged, Reopen}
 use Rattle.streetmap_ledger.specs.declared.reply.Reply.{Reply}
+use Rattle.streetmap_replay.specs.Calls.{LastAnswer, fails_by, AreCalls}
 use Rattle.streetmap_replay.specs.Following.{LineFault, unread, not_next, refused}
 use Rattle.streetmap_replay.specs.Following.{acted, acted_next}
 use Rattle.streetmap_replay.specs.declared.line_stop.LineStop.{LineStop}
@@ -21,51 +21,42 @@ abbrev pub acted_with : State → Option ℕ → Result BatchValue BatchFault �
 acted_with s None read = acted s read
 acted_with s (Some serial) read = acted_next s serial read
 
--- a shut keeper answers a call with `Reopen` and no other keeper does; `Device` and `Damaged` shut
--- it
-abbrev pub LineShuts : {T : Type 0} → Result T LineStop → Option Cause → Option Cause → Type 0
-LineShuts (Ok _) old new = (old ≡ None) × (new ≡ None)
-LineShuts (Err (Unread fault)) old new = new ≡ old
-LineShuts (Err NotNext) old new = (old ≡ None) × (new ≡ None)
-LineShuts (Err (Refused why place)) old new = (old ≡ None) × (new ≡ None)
-LineShuts (Err (Stopped fault)) old new = ShutsBy {T = Unit {0}} (Err fault) old new
-
--- a keeper's fault changes nothing that is known
-abbrev pub KeepsBut : State → Fault → (State → Type 0) → Type 0
-KeepsBut s Memory stands = stands s
-KeepsBut s Device stands = Unit {0}
-KeepsBut s Damaged stands = ⊥
-KeepsBut s Reopen stands = ⊥
-
--- what was returned of an outcome, and the state that is then represented
-abbrev pub TellsOutcome : State → Result Outcome LineFault → Result Reply LineStop →
-    (State → Type 0) → Type 0
-TellsOutcome s outcome (Ok reply) stands =
-    (o : Outcome) × (outcome ≡ Ok o) × (reply ≡ o.reply) × stands o.state
-TellsOutcome s outcome (Err (Unread batches.Memory)) stands = stands s
-TellsOutcome s outcome (Err (Unread fault)) stands = (outcome ≡ Err (unread fault)) × stands s
-TellsOutcome s outcome (Err NotNext) stands = (outcome ≡ Err not_next) × stands s
-TellsOutcome s outcome (Err (Refused why place)) stands =
-    (outcome ≡ Err (refused why place)) × stands s
-TellsOutcome s outcome (Err (Stopped fault)) stands = KeepsBut s fault stands
+-- the keeper's answer to what a line asks of it; none if the line is not read, and it is not asked
+abbrev pub answer_of : {T : Type 0} → Result T LineStop → LastAnswer
+answer_of (Ok x) = Some (Ok tt)
+answer_of (Err (Unread fault)) = None
+answer_of (Err NotNext) = Some (Ok tt)
+answer_of (Err (Refused why place)) = Some (Ok tt)
+answer_of (Err (Stopped fault)) = fails_by fault
 
 -- the state after an outcome
-abbrev pub state_behind : State → Result Outcome LineFault → State
-state_behind s (Ok o) = o.state
-state_behind s (Err why) = s
+abbrev pub state_after : State → Result Outcome LineFault → State
+state_after s (Ok o) = o.state
+state_after s (Err why) = s
 
--- what a crash may leave after a keeper's fault
-abbrev pub FaultLeaves : State → Result Outcome LineFault → Fault → (Option State → Type 0) → Type 0
-FaultLeaves s outcome Memory left = LeavesOnly left (Some s)
-FaultLeaves s outcome Device left = LeavesEither left (Some s) (Some (state_behind s outcome))
-FaultLeaves s outcome Damaged left = ⊥
-FaultLeaves s outcome Reopen left = ⊥
+-- what was returned of an outcome, if the keeper represented this state: the reply, and it
+-- represents the state after it; or why there is none, and the state stays; or the store failed,
+-- and a crash leaves the state before the line or the one after it
+abbrev pub Follows : {K : Type 0} → Model K → (old new : K) → State → Result Outcome LineFault
+    → Result Reply LineStop → Type 0
+Follows model old new s outcome (Ok reply) =
+    (o : Outcome) × (outcome ≡ Ok o) × (reply ≡ o.reply) × model.represents new o.state
+Follows model old new s outcome (Err (Unread batches.Memory)) = model.represents new s
+Follows model old new s outcome (Err (Unread fault)) =
+    (outcome ≡ Err (unread fault)) × model.represents new s
+Follows model old new s outcome (Err NotNext) =
+    (outcome ≡ Err not_next) × model.represents new s
+Follows model old new s outcome (Err (Refused why place)) =
+    (outcome ≡ Err (refused why place)) × model.represents new s
+Follows model old new s outcome (Err (Stopped Memory)) = model.represents new s
+Follows model old new s outcome (Err (Stopped Device)) = model.fails old new
+    × LeavesEither (model.may_leave new) (Some s) (Some (state_after s outcome))
+Follows model old new s outcome (Err (Stopped Damaged)) = ⊥
+Follows model old new s outcome (Err (Stopped Reopen)) = ⊥
 
--- what a crash may leave after this result
-abbrev pub OutcomeLeaves : State → Result Outcome LineFault → Result Reply LineStop →
-    (Option State → Type 0) → Type 0
-OutcomeLeaves s outcome (Ok reply) left = LeavesOnly left (Some (state_behind s outcome))
-OutcomeLeaves s outcome (Err (Unread fault)) left = LeavesOnly left (Some s)
-OutcomeLeaves s outcome (Err NotNext) left = LeavesOnly left (Some s)
-OutcomeLeaves s outcome (Err (Refused why place)) left = LeavesOnly left (Some s)
-OutcomeLeaves s outcome (Err (Stopped fault)) left = FaultLeaves s outcome fault left
+-- the calls for a batch that a line has: the outcome is what it is in the keeper's state
+pub record IsFollowed {K : Type 0} (model : Model K) (old new : K)
+    (outcome : State → Result Outcome LineFault) (result : Result Reply LineStop) : Type 0 where
+  pub calls : AreCalls model old new (answer_of result)
+  pub follows : model.is_clean new → (s : State) → model.represents old s
+      → Follows model old new s (outcome s) result

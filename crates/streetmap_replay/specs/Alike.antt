@@ -11,8 +11,6 @@ use Rattle.streetmap_ledger.specs.State.{State, Collection}
 use Rattle.streetmap_ledger.specs.Summaries.{SummaryValue}
 use Rattle.streetmap_ledger.specs.declared.summary.Summary.{Summary}
 use Rattle.streetmap_query.specs.QueryValue.{QueryValue}
-use Rattle.streetmap_replay.specs.Faults.{StaysBut}
-use Rattle.streetmap_replay.specs.declared.fault.ReplayStop.{ReplayStop}
 use Rattle.streetmap_replay.specs.declared.fault.ReplayStop.TheVariants.{Kept, Fresh, Memory}
 use Rattle.streetmap_replay.specs.declared.fault.ReplayFault.{ReplayFault}
 use Rattle.streetmap_replay.specs.declared.fault.ReplayFault.TheVariants.{Stopped, Batch}
@@ -70,22 +68,11 @@ IsUnlike name (Stopped Memory) = Unit {0}
 IsUnlike name (Batch serial) = ⊥
 IsUnlike name (Other text) = string_bytes text ≡ name
 
--- ---- reads of two keepers
+-- ---- comparisons
 
--- a read of two keepers that represented these states: the result holds, and both states stay
-abbrev pub LooksBoth : {T : Type 0} → State → State → (T → Type 0) → Result T ReplayStop →
-    (State → Type 0) → (State → Type 0) → Type 0
-LooksBoth s t Is (Ok seen) kept fresh = Is seen × kept s × fresh t
-LooksBoth s t Is (Err (Kept fault)) kept fresh = StaysBut s fault kept × fresh t
-LooksBoth s t Is (Err (Fresh fault)) kept fresh = kept s × StaysBut t fault fresh
-LooksBoth s t Is (Err Memory) kept fresh = kept s × fresh t
-
--- a comparison of their collections: all are the same, or which collection differs
-abbrev pub Compares : {T : Type 0} → State → State → Type 0 → Result T ReplayFault →
-    (State → Type 0) → (State → Type 0) → Type 0
-Compares s t Same (Ok done) kept fresh = Same × kept s × fresh t
-Compares s t Same (Err (Stopped stop)) kept fresh =
-    LooksBoth {T = Unit {0}} s t (λ _. Same) (Err stop) kept fresh
-Compares s t Same (Err (Batch serial)) kept fresh = ⊥
-Compares s t Same (Err (Other name)) kept fresh =
-    Differs s t (string_bytes name) × kept s × fresh t
+-- a comparison of the collections of two states: all are the same, or which collection differs
+abbrev pub Compares : {T : Type 0} → State → State → Type 0 → Result T ReplayFault → Type 0
+Compares s t Same (Ok done) = Same
+Compares s t Same (Err (Stopped stop)) = Unit {0}
+Compares s t Same (Err (Batch serial)) = ⊥
+Compares s t Same (Err (Other name)) = Differs s t (string_bytes name)

@@ -7,7 +7,8 @@ use Rattle.streetmap_replay.specs.JournalText.{text_of_lines}
 use Rattle.streetmap_replay.specs.Lines.{Line}
 use Rattle.streetmap_replay.specs.Sittings.{IsLineOf, highest}
 use Rattle.streetmap_text_lines.specs.Reading.{HasNoLineFeed}
-use Rattle.streetmap_replay.specs.Acting.{KeepsBut}
+use Rattle.streetmap_ledger.specs.declared.reply.Fault.{Fault}
+use Rattle.streetmap_ledger.specs.declared.reply.Fault.TheVariants.{Memory, Device, Damaged, Reopen}
 use Rattle.streetmap_replay.specs.declared.line_stop.LineStop.TheVariants as stops
 use Rattle.streetmap_replay.specs.declared.following.End.{End}
 use Rattle.streetmap_replay.specs.declared.following.End.TheVariants as ends
@@ -20,13 +21,20 @@ IsOfJournal bs lines (Some input) =
     All (IsLineOf bs) lines
     × ((part : List ℕ) × (input ≡ text_of_lines lines ++ part) × HasNoLineFeed part)
 
+-- a keeper's fault changes nothing that is known, unless its store failed
+abbrev pub KeepsBut : State → Fault → (State → Type 0) → Type 0
+KeepsBut s Memory represents = represents s
+KeepsBut s Device represents = Unit {0}
+KeepsBut s Damaged represents = ⊥
+KeepsBut s Reopen represents = ⊥
+
 -- a follower of the journal's first k lines that then followed a prefix of these lines is the
 -- follower up to the highest serial among them, or as before
 abbrev pub FollowerBy : List BatchValue → ℕ → List Line → (count : ℕ) → End → (State → Type 0) →
     Type 0
-FollowerBy bs k lines count ends.NotTold stands =
-    stands (follower bs (max k (highest (take (count + 1) lines))))
-FollowerBy bs k lines count (ends.Stopped (stops.Stopped fault)) stands =
-    KeepsBut (follower bs (max k (highest (take count lines)))) fault stands
-FollowerBy bs k lines count end stands =
-    stands (follower bs (max k (highest (take count lines))))
+FollowerBy bs k lines count ends.NotTold represents =
+    represents (follower bs (max k (highest (take (count + 1) lines))))
+FollowerBy bs k lines count (ends.Stopped (stops.Stopped fault)) represents =
+    KeepsBut (follower bs (max k (highest (take count lines)))) fault represents
+FollowerBy bs k lines count end represents =
+    represents (follower bs (max k (highest (take count lines))))

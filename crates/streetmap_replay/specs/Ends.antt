@@ -8,7 +8,7 @@ use Rattle.streetmap_batch.specs.BatchValue.{BatchValue}
 use Rattle.streetmap_batch.specs.Text.{Text}
 use Rattle.streetmap_batch.specs.declared.batch_fault.BatchFault.{BatchFault}
 use Rattle.streetmap_ledger.specs.Batches.{Outcome}
-use Rattle.streetmap_ledger.specs.Keep.{LeavesOnly}
+use Rattle.streetmap_ledger.specs.Model.{Model}
 use Rattle.streetmap_ledger.specs.State.{State}
 use Rattle.streetmap_ledger.specs.declared.reply.Reply.{Reply}
 use Rattle.streetmap_replay.specs.Following.{line_outcome, follow}
@@ -18,8 +18,10 @@ use Rattle.streetmap_text_lines.specs.Lines.{first_too_long}
 use Rattle.streetmap_text_lines.specs.Reading.{HasNoLineFeed, WhereKnown}
 use Rattle.streetmap_text_lines.specs.declared.fault.LineFault.TheVariants.{LineTooLong, ReadFailed}
 use Rattle.streetmap_text_lines.specs.declared.fault.LineFault.TheVariants.{Memory}
-use Rattle.streetmap_replay.specs.Acting.{TellsOutcome, OutcomeLeaves}
+use Rattle.streetmap_replay.specs.Acting.{Follows}
+use Rattle.streetmap_replay.specs.Calls.{LastAnswer, fails_by}
 use Rattle.streetmap_replay.specs.LineReading.{line_text}
+use Rattle.streetmap_replay.specs.declared.line_stop.LineStop.TheVariants as stops
 use Rattle.streetmap_replay.specs.declared.following.End.{End}
 use Rattle.streetmap_replay.specs.declared.following.End.TheVariants as ends
 use Rattle.streetmap_replay.specs.declared.following.Followed.{Followed}
@@ -59,45 +61,41 @@ abbrev pub TellsBy : {T : Type 0} → (T → Text → Reply → T → Type 0) �
 TellsBy {T} tells first last replies ends.NotTold = (mid : T) × ToldAll tells first replies mid
 TellsBy tells first last replies end = ToldAll tells first replies last
 
--- it ended in this state, after these lines of the input; what a crash may leave is known if it was
--- the state before
-abbrev pub FollowingEndsBy : State → List Line → Option (List ℕ) → Option (List ℕ)
-    → (given : Type 0) → (Option State → Type 0) → End → (State → Type 0) → Type 0
-FollowingEndsBy t read old new given left ends.All stands =
-    WhereKnown old new (λ input rest. (input ≡ text_of_lines read) × (rest ≡ [])) × stands t
-    × (given → LeavesOnly left (Some t))
-FollowingEndsBy t read old new given left ends.CutLine stands =
-    WhereKnown old new (λ input rest. (part : List ℕ) × (input ≡ text_of_lines read ++ part)
-    × HasNoLineFeed part × (0 < length part)) × stands t × (given → LeavesOnly left (Some t))
-FollowingEndsBy t read old new given left (ends.NotRead LineTooLong) stands =
-    IfSome old (λ input. (rest : List ℕ) × (input ≡ text_of_lines read ++ rest)
-    × (first_too_long most_bytes rest ≡ Some 0)) × stands t
-    × (given → LeavesOnly left (Some t))
-FollowingEndsBy t read old new given left (ends.NotRead ReadFailed) stands =
-    stands t × (given → LeavesOnly left (Some t))
-FollowingEndsBy t read old new given left (ends.NotRead Memory) stands =
-    stands t × (given → LeavesOnly left (Some t))
-FollowingEndsBy t read old new given left (ends.Stopped stop) stands =
-    (line : Line) × IsInputLine line × Consumes old new (text_of_lines (read ++ line ∷ []))
-    × TellsOutcome t (line_outcome t line) (Err stop) stands
-    × (given → OutcomeLeaves t (line_outcome t line) (Err stop) left)
-FollowingEndsBy t read old new given left ends.NotTold stands =
-    (line : Line) × IsInputLine line × Consumes old new (text_of_lines (read ++ line ∷ []))
-    × ((o : Outcome) × (line_outcome t line ≡ Ok o) × stands o.state
-    × (given → LeavesOnly left (Some o.state)))
+-- it ended in this state, after these lines of the input
+abbrev pub FollowingEndsBy : {K : Type 0} → Model K → (old new : K) → State → List Line
+    → (input rest : Option (List ℕ)) → End → Type 0
+FollowingEndsBy model old new t read input rest ends.All =
+    WhereKnown input rest (λ bytes left. (bytes ≡ text_of_lines read) × (left ≡ []))
+    × model.represents new t
+FollowingEndsBy model old new t read input rest ends.CutLine =
+    WhereKnown input rest (λ bytes left. (part : List ℕ) × (bytes ≡ text_of_lines read ++ part)
+    × HasNoLineFeed part × (0 < length part)) × model.represents new t
+FollowingEndsBy model old new t read input rest (ends.NotRead LineTooLong) =
+    IfSome input (λ bytes. (left : List ℕ) × (bytes ≡ text_of_lines read ++ left)
+    × (first_too_long most_bytes left ≡ Some 0)) × model.represents new t
+FollowingEndsBy model old new t read input rest (ends.NotRead ReadFailed) = model.represents new t
+FollowingEndsBy model old new t read input rest (ends.NotRead Memory) = model.represents new t
+FollowingEndsBy model old new t read input rest (ends.Stopped stop) =
+    (line : Line) × IsInputLine line × Consumes input rest (text_of_lines (read ++ line ∷ []))
+    × Follows model old new t (line_outcome t line) (Err stop)
+FollowingEndsBy model old new t read input rest ends.NotTold =
+    (line : Line) × IsInputLine line × Consumes input rest (text_of_lines (read ++ line ∷ []))
+    × ((o : Outcome) × (line_outcome t line ≡ Ok o) × model.represents new o.state)
 
 -- this number of the first lines of the input were followed from this state on and their replies
 -- reported, and how it ended then
-pub record Follows {T : Type 0} (s : State) (old new : Option (List ℕ))
-    (tells : T → Text → Reply → T → Type 0) (first last : T)
-    (before left : Option State → Type 0) (result : Followed) (stands : State → Type 0) :
-    Type 0 where
+pub record FollowsLines {K T : Type 0} (model : Model K) (old new : K) (s : State)
+    (input rest : Option (List ℕ)) (tells : T → Text → Reply → T → Type 0) (first last : T)
+    (result : Followed) : Type 0 where
   pub read : List Line
   pub counted : length read ≡ result.count
   pub lines : All IsInputLine read
-  pub front : IfSome old (λ input. (rest : List ℕ) × (input ≡ text_of_lines read ++ rest))
+  pub front : IfSome input (λ bytes. (left : List ℕ) × (bytes ≡ text_of_lines read ++ left))
   pub followed : (follow s read).fault ≡ None
   pub told : TellsBy tells first last (answers read (follow s read).replies) result.end
-  pub ends :
-      FollowingEndsBy (follow s read).state read old new (LeavesOnly before (Some s)) left
-      result.end stands
+  pub ends : FollowingEndsBy model old new (follow s read).state read input rest result.end
+
+-- the answer of the keeper that ended it, if it was a fault
+abbrev pub end_answer : End → LastAnswer
+end_answer (ends.Stopped (stops.Stopped fault)) = fails_by fault
+end_answer end = None

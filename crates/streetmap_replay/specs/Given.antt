@@ -69,19 +69,19 @@ pub record BreaksAt (s : State) (serial : ℕ) : Type 0 where
 
 -- whether the text of a kept batch reproduced it in a keeper that represented this state
 abbrev pub GivesRow : State → KeyedBatch → Result Bool ReplayStop → (State → Type 0) → Type 0
-GivesRow t batch (Ok true) stands =
-    (given_again t batch ≡ Some batch) × stands (state_by t (read_of batch.1.text))
-GivesRow t batch (Ok false) stands = given_again t batch ≡ Some batch → ⊥
-GivesRow t batch (Err (Kept fault)) stands = ⊥
-GivesRow t batch (Err (Fresh fault)) stands = IsForeseen fault
-GivesRow t batch (Err Memory) stands = Unit {0}
+GivesRow t batch (Ok true) represents =
+    (given_again t batch ≡ Some batch) × represents (state_by t (read_of batch.1.text))
+GivesRow t batch (Ok false) represents = given_again t batch ≡ Some batch → ⊥
+GivesRow t batch (Err (Kept fault)) represents = ⊥
+GivesRow t batch (Err (Fresh fault)) represents = IsForeseen fault
+GivesRow t batch (Err Memory) represents = Unit {0}
 
 -- whether the texts up to the n-th reproduced their batches in a keeper that represented the state
 -- after some of them
 abbrev pub GivesPart : {T : Type 0} → State → ℕ → Result T ReplayFault → (State → Type 0) → Type 0
-GivesPart s n (Ok done) stands = (t : State) × GivesFirst s n t × stands t
-GivesPart s n (Err (Stopped (Kept fault))) stands = ⊥
-GivesPart s n (Err (Stopped (Fresh fault))) stands = IsForeseen fault
-GivesPart s n (Err (Stopped Memory)) stands = Unit {0}
-GivesPart s n (Err (Batch serial)) stands = BreaksAt s serial
-GivesPart s n (Err (Collection name)) stands = ⊥
+GivesPart s n (Ok done) represents = (t : State) × GivesFirst s n t × represents t
+GivesPart s n (Err (Stopped (Kept fault))) represents = ⊥
+GivesPart s n (Err (Stopped (Fresh fault))) represents = IsForeseen fault
+GivesPart s n (Err (Stopped Memory)) represents = Unit {0}
+GivesPart s n (Err (Batch serial)) represents = BreaksAt s serial
+GivesPart s n (Err (Collection name)) represents = ⊥

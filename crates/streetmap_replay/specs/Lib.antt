@@ -1,3 +1,4 @@
+pub mod Calls
 pub mod Stops
 pub mod Names
 pub mod Given
@@ -10,7 +11,6 @@ pub mod JournalText
 pub mod Following
 pub mod Sittings
 pub mod Replay
-pub mod Faults
 pub mod View
 pub mod Acting
 pub mod LineReading

@@ -1,11 +1,8 @@
 //! One line, followed.
-ghost use Rattle.std.specs.Prelude.{◌≡◌, Some, Ok};
+ghost use Rattle.std.specs.Prelude.{Ok};
 ghost use Rattle.streetmap_batch.specs.BatchView.{batch_value};
-ghost use Rattle.streetmap_ledger.specs.Keep.{LeavesOnly};
-ghost use Rattle.streetmap_ledger.specs.State.{State};
 ghost use Rattle.streetmap_replay.specs.Following.{acted, acted_next};
-ghost use Rattle.streetmap_replay.specs.Acting.{LineShuts, TellsOutcome, OutcomeLeaves};
-ghost use Rattle.streetmap_replay.specs.Acting.{acted_with};
+ghost use Rattle.streetmap_replay.specs.Acting.{acted_with, IsFollowed};
 ghost use Rattle.streetmap_replay.specs.LineReading.{FollowsLine};
 
 use crate::line_stop::LineStop;
@@ -24,14 +21,8 @@ pub struct Acknowledged {
 
 /// Applies a batch.
 fn apply<K: Keeper>(keeper: &mut K, batch: &Batch) -> Result<Reply, LineStop>
-    ensures spared { K.spares keeper.old keeper.new }
-    ensures began_clean { K.is_clean keeper.new → K.is_clean keeper.old }
-    ensures faults { LineShuts result (K.cause keeper.old) (K.cause keeper.new) }
-    ensures follows { K.is_clean keeper.new → (s : State) → K.stands keeper.old s →
-        TellsOutcome s (acted s (Ok (batch_value batch.now))) result (K.stands keeper.new) }
-    ensures leaves { K.is_clean keeper.new → (s : State) → K.stands keeper.old s →
-        LeavesOnly (K.may_leave keeper.old) (Some s) →
-        OutcomeLeaves s (acted s (Ok (batch_value batch.now))) result (K.may_leave keeper.new) }
+    ensures { IsFollowed K.model keeper.old keeper.new
+        (λ s. acted s (Ok (batch_value batch.now))) result }
 {
     match keeper.apply(batch) {
         Ok(Reply::Accepted(counts, serial)) => Ok(Reply::Accepted(counts, serial)),
@@ -47,16 +38,8 @@ fn apply_next<K: KeepsBatches>(
     serial: u64,
     batch: &Batch,
 ) -> Result<Reply, LineStop>
-    ensures spared { K.spares keeper.old keeper.new }
-    ensures began_clean { K.is_clean keeper.new → K.is_clean keeper.old }
-    ensures faults { LineShuts result (K.cause keeper.old) (K.cause keeper.new) }
-    ensures follows { K.is_clean keeper.new → (s : State) → K.stands keeper.old s →
-        TellsOutcome s (acted_next s serial (Ok (batch_value batch.now))) result
-        (K.stands keeper.new) }
-    ensures leaves { K.is_clean keeper.new → (s : State) → K.stands keeper.old s →
-        LeavesOnly (K.may_leave keeper.old) (Some s) →
-        OutcomeLeaves s (acted_next s serial (Ok (batch_value batch.now))) result
-        (K.may_leave keeper.new) }
+    ensures { IsFollowed K.model keeper.old keeper.new
+        (λ s. acted_next s serial (Ok (batch_value batch.now))) result }
 {
     match is_next(keeper, serial, batch) {
         Ok(true) => apply(keeper, batch),
@@ -71,16 +54,8 @@ fn apply_line<K: KeepsBatches>(
     serial: Option<u64>,
     batch: &Batch,
 ) -> Result<Reply, LineStop>
-    ensures spared { K.spares keeper.old keeper.new }
-    ensures began_clean { K.is_clean keeper.new → K.is_clean keeper.old }
-    ensures faults { LineShuts result (K.cause keeper.old) (K.cause keeper.new) }
-    ensures follows { K.is_clean keeper.new → (s : State) → K.stands keeper.old s →
-        TellsOutcome s (acted_with s serial (Ok (batch_value batch.now))) result
-        (K.stands keeper.new) }
-    ensures leaves { K.is_clean keeper.new → (s : State) → K.stands keeper.old s →
-        LeavesOnly (K.may_leave keeper.old) (Some s) →
-        OutcomeLeaves s (acted_with s serial (Ok (batch_value batch.now))) result
-        (K.may_leave keeper.new) }
+    ensures { IsFollowed K.model keeper.old keeper.new
+        (λ s. acted_with s serial (Ok (batch_value batch.now))) result }
 {
     match serial {
         Some(serial) => apply_next(keeper, serial, batch),
@@ -102,12 +77,7 @@ pub fn follow_line<K: KeepsBatches>(
     keeper: &mut K,
     bytes: &[u8],
 ) -> Result<Acknowledged, LineStop>
-    ensures spared { K.spares keeper.old keeper.new }
-    ensures began_clean { K.is_clean keeper.new → K.is_clean keeper.old }
-    ensures faults { LineShuts result (K.cause keeper.old) (K.cause keeper.new) }
-    ensures follows { K.is_clean keeper.new → (s : State) → K.stands keeper.old s →
-        FollowsLine s bytes.now result (K.stands keeper.new)
-        (LeavesOnly (K.may_leave keeper.old) (Some s)) (K.may_leave keeper.new) }
+    ensures { FollowsLine K.model keeper.old keeper.new bytes.now result }
 {
     let line = read_line(bytes);
     let batch = match read_batch(alloc, line.text) {

@@ -1,18 +1,16 @@
 //! Kept batches, reproduced from their texts.
-ghost use Rattle.std.specs.Prelude.{◌≡◌, ◌+◌, ℕ, Err, Some, IfOk, option_map, length};
+ghost use Rattle.std.specs.Prelude.{◌≡◌, ◌+◌, ℕ, None, IfOk, option_map, length};
 ghost use Rattle.std.specs.Bool.{Decides};
 ghost use Rattle.streetmap_batch.specs.BatchText.{batch_text};
 ghost use Rattle.streetmap_batch.specs.BatchView.{batch_value};
 ghost use Rattle.streetmap_ledger.specs.Kept.{batches_next};
 ghost use Rattle.streetmap_ledger.specs.KeptView.{keyed_batch, keyed_batches};
-ghost use Rattle.streetmap_ledger.specs.Keep.{LeavesOnly};
 ghost use Rattle.streetmap_ledger.specs.State.{State, opening_state};
 ghost use Rattle.streetmap_ledger.specs.WellFormed.{IsState};
-ghost use Rattle.streetmap_ledger.specs.declared.reply.Fault.{Fault};
 ghost use Rattle.streetmap_replay.specs.Checked.{GivesBatches};
 ghost use Rattle.streetmap_replay.specs.Given.{GivesFirst, GivesRow, GivesPart, read_of};
-ghost use Rattle.streetmap_replay.specs.Stops.{FreshEnds, FreshStops, IsFreshEnd};
-ghost use Rattle.streetmap_replay.specs.Stops.{IsFreshStop, KeptEnds, FirstStaysBy};
+ghost use Rattle.streetmap_replay.specs.Calls.{AreCalls, AreReads};
+ghost use Rattle.streetmap_replay.specs.Stops.{kept_stop, fresh_stop, kept_end, fresh_end};
 
 use crate::fault::{ReplayFault, ReplayStop};
 use std::alloc::{AllocError, Global};
@@ -79,12 +77,10 @@ fn read_kept(alloc: Global, text: &[u8]) -> Result<Option<Batch>, ReplayStop>
 
 /// Applies the text of a kept batch, and returns whether it reproduces that batch.
 fn give_again<L: Keeper>(alloc: Global, fresh: &mut L, kept: &KeptBatch) -> Result<bool, ReplayStop>
-    ensures spared { L.spares fresh.old fresh.new }
-    ensures began_clean { L.is_clean fresh.new → L.is_clean fresh.old }
-    ensures faults { FreshStops result (L.cause fresh.old) (L.cause fresh.new) }
-    ensures stop { IsFreshStop result }
-    ensures gives { L.is_clean fresh.new → (t : State) → L.stands fresh.old t →
-        GivesRow t (keyed_batch kept.now) result (L.stands fresh.new) }
+    ensures calls { AreCalls L.model fresh.old fresh.new (fresh_stop result) }
+    ensures stop { kept_stop result ≡ None }
+    ensures gives { L.model.is_clean fresh.new → (t : State) → L.model.represents fresh.old t →
+        GivesRow t (keyed_batch kept.now) result (L.model.represents fresh.new) }
 {
     let batch = match read_kept(alloc, kept.text.as_slice()) {
         Ok(Some(batch)) => batch,
@@ -106,14 +102,12 @@ fn give_again<L: Keeper>(alloc: Global, fresh: &mut L, kept: &KeptBatch) -> Resu
 
 /// Applies the texts of kept batches, in order, up to the first that does not reproduce its batch.
 fn give_each<L: Keeper>(alloc: Global, fresh: &mut L, part: &[KeptBatch]) -> Result<(), ReplayFault>
-    ensures spared { L.spares fresh.old fresh.new }
-    ensures began_clean { L.is_clean fresh.new → L.is_clean fresh.old }
-    ensures faults { FreshEnds result (L.cause fresh.old) (L.cause fresh.new) }
-    ensures stop { IsFreshEnd result }
-    ensures gives { L.is_clean fresh.new → (s : State) (n : ℕ) (t : State) → IsState s →
-        GivesFirst s n t → L.stands fresh.old t →
+    ensures calls { AreCalls L.model fresh.old fresh.new (fresh_end result) }
+    ensures stop { kept_end result ≡ None }
+    ensures gives { L.model.is_clean fresh.new → (s : State) (n : ℕ) (t : State) → IsState s →
+        GivesFirst s n t → L.model.represents fresh.old t →
         keyed_batches part.now ≡ batches_next s n (length part.now) →
-        GivesPart s (n + length part.now) result (L.stands fresh.new) }
+        GivesPart s (n + length part.now) result (L.model.represents fresh.new) }
 {
     for batch in part {
         match give_again(alloc, fresh, batch) {
@@ -132,23 +126,11 @@ pub fn replay<K: KeepsBatches, L: Keeper>(
     keeper: &mut K,
     fresh: &mut L,
 ) -> Result<(), ReplayFault>
-    ensures spared { K.spares keeper.old keeper.new }
-    ensures fresh_spared { L.spares fresh.old fresh.new }
-    ensures began_clean { K.is_clean keeper.new → K.is_clean keeper.old }
-    ensures fresh_clean { L.is_clean fresh.new → L.is_clean fresh.old }
-    ensures faults { KeptEnds result (K.cause keeper.old) (K.cause keeper.new) }
-    ensures fresh_faults { FreshEnds result (L.cause fresh.old) (L.cause fresh.new) }
-    ensures stays { K.is_clean keeper.new → (s : State) → K.stands keeper.old s →
-        FirstStaysBy s result (K.stands keeper.new) }
-    ensures gives { K.is_clean keeper.new → L.is_clean fresh.new → (s : State) →
-        K.stands keeper.old s → L.stands fresh.old opening_state →
-        GivesBatches s result (K.stands keeper.new) (L.stands fresh.new) }
-    ensures device { K.is_clean keeper.new → (s : State) → K.stands keeper.old s →
-        result ≡ Err (ReplayFault.Stopped (ReplayStop.Kept Fault.Device)) →
-        K.fails keeper.old keeper.new }
-    ensures leaves { K.is_clean keeper.new → (s : State) → K.stands keeper.old s →
-        LeavesOnly (K.may_leave keeper.old) (Some s) →
-        LeavesOnly (K.may_leave keeper.new) (Some s) }
+    ensures kept { AreReads K.model keeper.old keeper.new (kept_end result) }
+    ensures fresh { AreCalls L.model fresh.old fresh.new (fresh_end result) }
+    ensures gives { K.model.is_clean keeper.new → L.model.is_clean fresh.new → (s : State) →
+        K.model.represents keeper.old s → L.model.represents fresh.old opening_state →
+        GivesBatches s result (L.model.represents fresh.new) }
 {
     let mut last = 0u64;
     for _turn in 0..u64::MAX {

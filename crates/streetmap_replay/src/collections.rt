@@ -1,18 +1,15 @@
 //! The collections of two keepers.
-ghost use Rattle.std.specs.Prelude.{◌≡◌, Err, Some, None, IfSome, IsTrue, All, slice_get};
+ghost use Rattle.std.specs.Prelude.{◌≡◌, Some, None, IfOk, IfSome, IsTrue, All, slice_get};
 ghost use Rattle.std.specs.Prelude.{option_map, string_bytes, false};
 ghost use Rattle.std.specs.Bool.{Decides};
 ghost use Rattle.std.specs.FinMap.{get, entries};
-ghost use Rattle.streetmap_ledger.specs.Keep.{LeavesOnly};
 ghost use Rattle.streetmap_ledger.specs.State.{State};
 ghost use Rattle.streetmap_ledger.specs.Summaries.{summary_in, summaries_in};
 ghost use Rattle.streetmap_ledger.specs.SummaryView.{summary_value, summary_values};
-ghost use Rattle.streetmap_ledger.specs.declared.reply.Fault.{Fault};
 ghost use Rattle.streetmap_ledger.specs.declared.summary.Summary.{Summary};
-ghost use Rattle.streetmap_replay.specs.Alike.{AreAlike, AreSame, LooksBoth, Compares};
-ghost use Rattle.streetmap_replay.specs.Alike.{IsUnlike, is_named};
-ghost use Rattle.streetmap_replay.specs.Stops.{FreshEnds, FreshStops, KeptEnds, KeptStops};
-ghost use Rattle.streetmap_replay.specs.Stops.{FirstStaysBy, StopStays};
+ghost use Rattle.streetmap_replay.specs.Alike.{AreAlike, AreSame, Compares, IsUnlike, is_named};
+ghost use Rattle.streetmap_replay.specs.Calls.{AreReads};
+ghost use Rattle.streetmap_replay.specs.Stops.{kept_stop, fresh_stop, kept_end, fresh_end};
 
 use crate::fault::{ReplayFault, ReplayStop};
 use crate::features::has_same_features;
@@ -45,25 +42,13 @@ fn is_alike<K: Keeper, L: Keeper>(
     fresh: &mut L,
     ours: &Summary,
 ) -> Result<bool, ReplayStop>
-    ensures spared { K.spares keeper.old keeper.new }
-    ensures fresh_spared { L.spares fresh.old fresh.new }
-    ensures began_clean { K.is_clean keeper.new → K.is_clean keeper.old }
-    ensures fresh_clean { L.is_clean fresh.new → L.is_clean fresh.old }
-    ensures faults { KeptStops result (K.cause keeper.old) (K.cause keeper.new) }
-    ensures fresh_faults { FreshStops result (L.cause fresh.old) (L.cause fresh.new) }
-    ensures stays { K.is_clean keeper.new → (s : State) → K.stands keeper.old s →
-        StopStays s result (K.stands keeper.new) }
-    ensures compares { K.is_clean keeper.new → L.is_clean fresh.new → (s t : State) →
-        K.stands keeper.old s → L.stands fresh.old t →
+    ensures kept { AreReads K.model keeper.old keeper.new (kept_stop result) }
+    ensures fresh { AreReads L.model fresh.old fresh.new (fresh_stop result) }
+    ensures compares { K.model.is_clean keeper.new → L.model.is_clean fresh.new → (s t : State) →
+        K.model.represents keeper.old s → L.model.represents fresh.old t →
         summary_in s (string_bytes ours.now.id) ≡ Some (summary_value ours.now) →
-        LooksBoth s t (λ same. Decides same (get s.collections (string_bytes ours.now.id) ≡
-        get t.collections (string_bytes ours.now.id))) result
-        (K.stands keeper.new) (L.stands fresh.new) }
-    ensures device { K.is_clean keeper.new → (s : State) → K.stands keeper.old s →
-        result ≡ Err (ReplayStop.Kept Fault.Device) → K.fails keeper.old keeper.new }
-    ensures leaves { K.is_clean keeper.new → (s : State) → K.stands keeper.old s →
-        LeavesOnly (K.may_leave keeper.old) (Some s) →
-        LeavesOnly (K.may_leave keeper.new) (Some s) }
+        IfOk result (λ same. Decides same (get s.collections (string_bytes ours.now.id) ≡
+        get t.collections (string_bytes ours.now.id))) }
 {
     match fresh.collection(ours.id.as_str()) {
         Ok(Some(theirs)) => {
@@ -96,24 +81,12 @@ fn compare_each<K: Keeper, L: Keeper>(
     fresh: &mut L,
     ours: &[Summary],
 ) -> Result<(), ReplayFault>
-    ensures spared { K.spares keeper.old keeper.new }
-    ensures fresh_spared { L.spares fresh.old fresh.new }
-    ensures began_clean { K.is_clean keeper.new → K.is_clean keeper.old }
-    ensures fresh_clean { L.is_clean fresh.new → L.is_clean fresh.old }
-    ensures faults { KeptEnds result (K.cause keeper.old) (K.cause keeper.new) }
-    ensures fresh_faults { FreshEnds result (L.cause fresh.old) (L.cause fresh.new) }
-    ensures stays { K.is_clean keeper.new → (s : State) → K.stands keeper.old s →
-        FirstStaysBy s result (K.stands keeper.new) }
-    ensures compares { K.is_clean keeper.new → L.is_clean fresh.new → (s t : State) →
-        K.stands keeper.old s → L.stands fresh.old t → summary_values ours.now ≡ summaries_in s →
-        Compares s t (AreSame s t (entries s.collections)) result
-        (K.stands keeper.new) (L.stands fresh.new) }
-    ensures device { K.is_clean keeper.new → (s : State) → K.stands keeper.old s →
-        result ≡ Err (ReplayFault.Stopped (ReplayStop.Kept Fault.Device)) →
-        K.fails keeper.old keeper.new }
-    ensures leaves { K.is_clean keeper.new → (s : State) → K.stands keeper.old s →
-        LeavesOnly (K.may_leave keeper.old) (Some s) →
-        LeavesOnly (K.may_leave keeper.new) (Some s) }
+    ensures kept { AreReads K.model keeper.old keeper.new (kept_end result) }
+    ensures fresh { AreReads L.model fresh.old fresh.new (fresh_end result) }
+    ensures compares { K.model.is_clean keeper.new → L.model.is_clean fresh.new → (s t : State) →
+        K.model.represents keeper.old s → L.model.represents fresh.old t →
+        summary_values ours.now ≡ summaries_in s →
+        Compares s t (AreSame s t (entries s.collections)) result }
 {
     for summary in ours {
         match is_alike(alloc, keeper, fresh, summary) {
@@ -158,22 +131,11 @@ pub fn compare_collections<K: Keeper, L: Keeper>(
     keeper: &mut K,
     fresh: &mut L,
 ) -> Result<(), ReplayFault>
-    ensures spared { K.spares keeper.old keeper.new }
-    ensures fresh_spared { L.spares fresh.old fresh.new }
-    ensures began_clean { K.is_clean keeper.new → K.is_clean keeper.old }
-    ensures fresh_clean { L.is_clean fresh.new → L.is_clean fresh.old }
-    ensures faults { KeptEnds result (K.cause keeper.old) (K.cause keeper.new) }
-    ensures fresh_faults { FreshEnds result (L.cause fresh.old) (L.cause fresh.new) }
-    ensures compares { K.is_clean keeper.new → L.is_clean fresh.new → (s t : State) →
-        K.stands keeper.old s → L.stands fresh.old t →
-        Compares s t (s.collections ≡ t.collections) result
-        (K.stands keeper.new) (L.stands fresh.new) }
-    ensures device { K.is_clean keeper.new → (s : State) → K.stands keeper.old s →
-        result ≡ Err (ReplayFault.Stopped (ReplayStop.Kept Fault.Device)) →
-        K.fails keeper.old keeper.new }
-    ensures leaves { K.is_clean keeper.new → (s : State) → K.stands keeper.old s →
-        LeavesOnly (K.may_leave keeper.old) (Some s) →
-        LeavesOnly (K.may_leave keeper.new) (Some s) }
+    ensures kept { AreReads K.model keeper.old keeper.new (kept_end result) }
+    ensures fresh { AreReads L.model fresh.old fresh.new (fresh_end result) }
+    ensures compares { K.model.is_clean keeper.new → L.model.is_clean fresh.new → (s t : State) →
+        K.model.represents keeper.old s → L.model.represents fresh.old t →
+        Compares s t (s.collections ≡ t.collections) result }
 {
     let ours = match keeper.collections() {
         Ok(ours) => ours,

@@ -1,14 +1,13 @@
 //! The features of a collection in two keepers.
-ghost use Rattle.std.specs.Prelude.{◌≡◌, Err, Some, IfOk};
+ghost use Rattle.std.specs.Prelude.{◌≡◌, Some, IfOk};
 ghost use Rattle.std.specs.Bool.{Decides};
 ghost use Rattle.std.specs.FinMap.{get, values};
-ghost use Rattle.streetmap_ledger.specs.Keep.{LeavesOnly};
 ghost use Rattle.streetmap_ledger.specs.PageView.{page_value};
 ghost use Rattle.streetmap_ledger.specs.State.{State, Collection};
-ghost use Rattle.streetmap_ledger.specs.declared.reply.Fault.{Fault};
 ghost use Rattle.streetmap_query.specs.Views.{query_value};
-ghost use Rattle.streetmap_replay.specs.Alike.{PagesEndAs, SameText, part_query, LooksBoth};
-ghost use Rattle.streetmap_replay.specs.Stops.{FreshStops, KeptStops, StopStays};
+ghost use Rattle.streetmap_replay.specs.Alike.{PagesEndAs, SameText, part_query};
+ghost use Rattle.streetmap_replay.specs.Calls.{AreReads};
+ghost use Rattle.streetmap_replay.specs.Stops.{kept_stop, fresh_stop};
 
 use crate::fault::ReplayStop;
 use std::alloc::{AllocError, Global};
@@ -93,24 +92,13 @@ pub(crate) fn has_same_features<K: Keeper, L: Keeper>(
     fresh: &mut L,
     name: &str,
 ) -> Result<bool, ReplayStop>
-    ensures spared { K.spares keeper.old keeper.new }
-    ensures fresh_spared { L.spares fresh.old fresh.new }
-    ensures began_clean { K.is_clean keeper.new → K.is_clean keeper.old }
-    ensures fresh_clean { L.is_clean fresh.new → L.is_clean fresh.old }
-    ensures faults { KeptStops result (K.cause keeper.old) (K.cause keeper.new) }
-    ensures fresh_faults { FreshStops result (L.cause fresh.old) (L.cause fresh.new) }
-    ensures stays { K.is_clean keeper.new → (s : State) → K.stands keeper.old s →
-        StopStays s result (K.stands keeper.new) }
-    ensures compares { K.is_clean keeper.new → L.is_clean fresh.new → (s t : State) →
-        (c d : Collection) → K.stands keeper.old s → L.stands fresh.old t →
+    ensures kept { AreReads K.model keeper.old keeper.new (kept_stop result) }
+    ensures fresh { AreReads L.model fresh.old fresh.new (fresh_stop result) }
+    ensures compares { K.model.is_clean keeper.new → L.model.is_clean fresh.new → (s t : State) →
+        (c d : Collection) → K.model.represents keeper.old s → L.model.represents fresh.old t →
         get s.collections name.now ≡ Some c → get t.collections name.now ≡ Some d →
-        c.time ≡ d.time → LooksBoth s t (λ same. Decides same (values c.features ≡
-        values d.features)) result (K.stands keeper.new) (L.stands fresh.new) }
-    ensures device { K.is_clean keeper.new → (s : State) → K.stands keeper.old s →
-        result ≡ Err (ReplayStop.Kept Fault.Device) → K.fails keeper.old keeper.new }
-    ensures leaves { K.is_clean keeper.new → (s : State) → K.stands keeper.old s →
-        LeavesOnly (K.may_leave keeper.old) (Some s) →
-        LeavesOnly (K.may_leave keeper.new) (Some s) }
+        c.time ≡ d.time →
+        IfOk result (λ same. Decides same (values c.features ≡ values d.features)) }
 {
     let mut after = None;
     for _turn in 0..u64::MAX {

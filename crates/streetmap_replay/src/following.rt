@@ -1,12 +1,13 @@
 //! Lines, followed in order.
-ghost use Rattle.std.specs.Prelude.{◌≡◌, ℕ, List, All as AllOf};
+ghost use Rattle.std.specs.Prelude.{ℕ, List, All as AllOf};
 ghost use Rattle.streetmap_batch.specs.BatchValue.{BatchValue};
 ghost use Rattle.streetmap_ledger.specs.State.{State};
 ghost use Rattle.streetmap_batch.specs.BatchFacts.{IsSoundBatch};
 ghost use Rattle.streetmap_replay.specs.Following.{follower};
 ghost use Rattle.streetmap_replay.specs.Lines.{Line};
 ghost use Rattle.streetmap_replay.specs.Beginnings.{IsOfJournal, FollowerBy};
-ghost use Rattle.streetmap_replay.specs.Ends.{Follows};
+ghost use Rattle.streetmap_replay.specs.Ends.{FollowsLines, end_answer};
+ghost use Rattle.streetmap_replay.specs.Calls.{AreCalls};
 
 use crate::acting::follow_line;
 use crate::length::MAX_LINE;
@@ -50,16 +51,16 @@ pub fn follow_lines<K: KeepsBatches, R: BufRead, T: Replies>(
     reader: &mut R,
     replies: &mut T,
 ) -> Followed
-    ensures spared { K.spares keeper.old keeper.new }
-    ensures began_clean { K.is_clean keeper.new → K.is_clean keeper.old }
-    ensures follows { K.is_clean keeper.new → (s : State) → K.stands keeper.old s →
-        Follows s (R.remaining reader.old) (R.remaining reader.new) T.tells replies.old replies.new
-        (K.may_leave keeper.old) (K.may_leave keeper.new) result (K.stands keeper.new) }
+    ensures calls { AreCalls K.model keeper.old keeper.new (end_answer result.end) }
+    ensures follows { K.model.is_clean keeper.new → (s : State) → K.model.represents keeper.old s →
+        FollowsLines K.model keeper.old keeper.new s (R.remaining reader.old)
+        (R.remaining reader.new) T.tells replies.old replies.new result }
     // If the lines are a journal's, a follower goes on, or is as before.
-    ensures beginnings { K.is_clean keeper.new → (bs : List BatchValue) (k : ℕ)
-        (lines : List Line) → AllOf IsSoundBatch bs → K.stands keeper.old (follower bs k) →
+    ensures beginnings { K.model.is_clean keeper.new → (bs : List BatchValue) (k : ℕ)
+        (lines : List Line) → AllOf IsSoundBatch bs →
+        K.model.represents keeper.old (follower bs k) →
         IsOfJournal bs lines (R.remaining reader.old) →
-        FollowerBy bs k lines result.count result.end (K.stands keeper.new) }
+        FollowerBy bs k lines result.count result.end (K.model.represents keeper.new) }
 {
     for turn in 0..u64::MAX {
         let end = match next_whole_line(alloc, reader, MAX_LINE) {

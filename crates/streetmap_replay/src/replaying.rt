@@ -1,10 +1,8 @@
 //! A keeper's state, compared with what its kept texts give.
-ghost use Rattle.std.specs.Prelude.{◌≡◌, Err, Some};
-ghost use Rattle.streetmap_ledger.specs.Keep.{LeavesOnly};
 ghost use Rattle.streetmap_ledger.specs.State.{State, opening_state};
-ghost use Rattle.streetmap_ledger.specs.declared.reply.Fault.{Fault};
+ghost use Rattle.streetmap_replay.specs.Calls.{AreCalls, AreReads};
 ghost use Rattle.streetmap_replay.specs.Checked.{Checks};
-ghost use Rattle.streetmap_replay.specs.Stops.{FreshEnds, KeptEnds};
+ghost use Rattle.streetmap_replay.specs.Stops.{kept_end, fresh_end};
 
 use crate::batches::replay;
 use crate::collections::compare_collections;
@@ -28,21 +26,11 @@ pub fn check_replay<K: KeepsBatches, L: Keeper>(
     keeper: &mut K,
     fresh: &mut L,
 ) -> Result<(), ReplayFault>
-    ensures spared { K.spares keeper.old keeper.new }
-    ensures fresh_spared { L.spares fresh.old fresh.new }
-    ensures began_clean { K.is_clean keeper.new → K.is_clean keeper.old }
-    ensures fresh_clean { L.is_clean fresh.new → L.is_clean fresh.old }
-    ensures faults { KeptEnds result (K.cause keeper.old) (K.cause keeper.new) }
-    ensures fresh_faults { FreshEnds result (L.cause fresh.old) (L.cause fresh.new) }
-    ensures checks { K.is_clean keeper.new → L.is_clean fresh.new → (s : State) →
-        K.stands keeper.old s → L.stands fresh.old opening_state →
-        Checks s result (K.stands keeper.new) (L.stands fresh.new) }
-    ensures device { K.is_clean keeper.new → (s : State) → K.stands keeper.old s →
-        result ≡ Err (ReplayFault.Stopped (ReplayStop.Kept Fault.Device)) →
-        K.fails keeper.old keeper.new }
-    ensures leaves { K.is_clean keeper.new → (s : State) → K.stands keeper.old s →
-        LeavesOnly (K.may_leave keeper.old) (Some s) →
-        LeavesOnly (K.may_leave keeper.new) (Some s) }
+    ensures kept { AreReads K.model keeper.old keeper.new (kept_end result) }
+    ensures fresh { AreCalls L.model fresh.old fresh.new (fresh_end result) }
+    ensures checks { K.model.is_clean keeper.new → L.model.is_clean fresh.new → (s : State) →
+        K.model.represents keeper.old s → L.model.represents fresh.old opening_state →
+        Checks s result (L.model.represents fresh.new) }
 {
     match replay(alloc, keeper, fresh) {
         Ok(()) => compare_collections(alloc, keeper, fresh),

@@ -12,7 +12,8 @@ use Rattle.streetmap_ledger.specs.State.{State}
 use Rattle.streetmap_rows.specs.Keeping.{Keeps, Rests}
 use Rattle.streetmap_tables.specs.Making.{HasRoom, IsReady, is_taken}
 use Rattle.streetmap_tables.specs.Old.{KeepsOld, RestsOld}
-use Rattle.streetmap_store.proofs.IndexesListed.{keeps_too, old_too}
+use Rattle.streetmap_store.specs.IndexesListed.{keeps_too}
+use Rattle.streetmap_store.proofs.Reopened.{old_too}
 use Rattle.streetmap_store.specs.Holding.{IsJustOpenedOn, HoldsState, HoldsOldState, LeavesRoom}
 use Rattle.streetmap_store.specs.Reasons.{RefusesToCreate}
 use Rattle.streetmap_store.specs.declared.fault.CreateFault.TheVariants.{Taken}

@@ -1,6 +1,6 @@
 pub mod BatchesCounted
-pub mod StandsAfterLook
-pub mod IndexesListed
+pub mod TableCalls
+pub mod Reopened
 pub mod NewFiles
 pub mod JustOpened
 pub mod Refusals

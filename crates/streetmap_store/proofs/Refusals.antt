@@ -64,7 +64,7 @@ not_opened image e (inl h) is = let wrong : false ≡ true = ap tells_foreign (s
 not_opened image e (inr (inl h)) is = let wrong : false ≡ true = ap tells_foreign (sym h ∙ is) in cc
 not_opened image e (inr (inr h)) is = let wrong : false ≡ true = ap tells_foreign (sym h ∙ is) in cc
 
--- an error of opening is told as no database, as want of memory, or as it is
+-- an error of opening is reported as no database, as out of memory, or as it is
 abbrev IsTold : Error → Type 0
 IsTold e = (e ≡ SqliteFailure code.NotADatabase) ⊎ ((e ≡ SqliteFailure code.OutOfMemory) ⊎ ((refused_to_open e ≡ opened.Device e) × (refused_to_create e ≡ created.Device e)))
 

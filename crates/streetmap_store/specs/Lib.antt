@@ -1,5 +1,6 @@
 pub mod Serving
-pub mod Sparing
+pub mod TableModel
+pub mod IndexesListed
 pub mod Reopening
 pub mod Holding
 pub mod Refusing

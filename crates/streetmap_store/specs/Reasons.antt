@@ -37,7 +37,7 @@ use Rattle.streetmap_store.specs.declared.fault.Left.TheVariants as left
 abbrev pub IsForeign : Image → Type 0
 IsForeign image = ¬ (((db : Trees) × HoldsDatabase image db) ⊎ IsNothing image)
 
--- the files are not to blame: the device failed, or memory was refused
+-- the files are not to blame: the device failed, or memory ran out
 abbrev pub OpenBlamesNoFile : OpenFault → Type 0
 OpenBlamesNoFile opened.NotOurs = ⊥
 OpenBlamesNoFile opened.NewFormat = ⊥
@@ -52,13 +52,13 @@ CreateBlamesNoFile (created.Device e) = ⊤
 CreateBlamesNoFile created.Memory = ⊤
 
 -- an error of opening by which nothing was opened: the files cannot be opened or are in use, or
--- memory was refused
+-- memory ran out
 abbrev pub IsUnopened : Error → Type 0
 IsUnopened e =
     (e ≡ SqliteFailure CannotOpen)
     ⊎ ((e ≡ SqliteFailure OutOfMemory) ⊎ (e ≡ SqliteFailure DatabaseBusy))
 
--- what is answered where nothing was opened
+-- what is returned if nothing was opened
 abbrev pub OpensNothing : OpenFault → Type 0
 OpensNothing opened.NotOurs = ⊥
 OpensNothing opened.NewFormat = ⊥
@@ -80,7 +80,7 @@ module _ {D : Type 0} {g : disk.Ghosts D} where
     pub clean : HasCleanDisk (file_state first)
     pub showed : P first
 
-  -- The connection holds what it held when it was opened on the files. A stop leaves no more; but
+  -- The connection holds what it held when it was opened on the files. A crash leaves no more; but
   -- of a state's tables in format 1 it may leave those in format 2.
   abbrev pub HoldsAsOpened : Image → Held (FileStore D g) → Type 0
   HoldsAsOpened image c = ShowedFirst image (λ first. IsAsItWas (file_state first) (file_state c)
@@ -88,7 +88,7 @@ module _ {D : Type 0} {g : disk.Ghosts D} where
       × ((s : State) → RestsOld (file_state first) s
       → MayCarry s (file_state first) (file_state c)))
 
-  -- what an opening that failed leaves of the files is as SQLite says: a stop leaves what it left
+  -- what an opening that failed leaves of the files is as SQLite says: a crash leaves what it left
   -- before, or what the next opening reads as the same
   abbrev pub LeavesHeld : Image → Leftover D g → Type 0
   LeavesHeld image rest = (files : Files D) × (image_of g files ≡ image) × LeavesFiles files rest
@@ -100,7 +100,7 @@ module _ {D : Type 0} {g : disk.Ghosts D} where
   IsCleanRest (left.Files rest) = IsCleanLeft rest
   IsCleanRest (left.Connection c) = HasCleanDisk (file_state c)
 
-  -- a connection was opened on the files, and its looks told this
+  -- a connection was opened on the files, and its reads showed this
   abbrev pub Showed : Image → (Seen → Type 0) → Left (Leftover D g) (Held (FileStore D g)) → Type 0
   Showed image P left.Nothing = ⊥
   Showed image P (left.Files rest) = ⊥
@@ -113,7 +113,7 @@ module _ {D : Type 0} {g : disk.Ghosts D} where
   StaysAsItWas image (left.Files rest) = LeavesHeld image rest
   StaysAsItWas image (left.Connection c) = HoldsAsOpened image c
 
-  -- what is left of the files holds what they held, though a stop may leave more
+  -- what is left of the files holds what they held, though a crash may leave more
   abbrev pub HoldsStill : Image → Left (Leftover D g) (Held (FileStore D g)) → Type 0
   HoldsStill image left.Nothing = ⊤
   HoldsStill image (left.Files rest) = LeavesHeld image rest
@@ -122,20 +122,20 @@ module _ {D : Type 0} {g : disk.Ghosts D} where
 
   -- Why files are not opened, fault by fault.
   abbrev pub RefusesToOpen : Image → OpenFault → Left (Leftover D g) (Held (FileStore D g)) → Type 0
-  -- They are no database; or the look at the format row told none of ours, or was refused.
+  -- They are no database; or the read of the format row found none of ours, or was refused.
   RefusesToOpen image opened.NotOurs rest = IsForeign image
       ⊎ Showed image (λ seen. TellsFault seen adopting.NotOurs ⊎ TellsNothing seen) rest
-  -- The look at the format row told a format above 2.
+  -- The read of the format row found a format above 2.
   RefusesToOpen image opened.NewFormat rest = Showed image (λ seen.
       TellsFault seen adopting.NewFormat) rest
   -- The format is 1, and the tables are damaged, of which no more is said here; or it is 2, and the
-  -- look at the batches was refused.
+  -- read of the batches was refused.
   RefusesToOpen image opened.Damaged rest = Showed image (λ seen. IsOld seen ⊎ LosesKeys seen) rest
   -- The error is one of opening, or one by which the store failed; or the format is 1, and a
   -- statement that makes the tables anew was refused with it.
   RefusesToOpen image (opened.Device e) rest = IsTrue (is_open_error e)
       ⊎ (IsOfStore e ⊎ Showed image IsOld rest)
-  -- Memory was refused, which may happen with any files.
+  -- Memory ran out, which may happen with any files.
   RefusesToOpen image opened.Memory rest = ⊤
 
   -- no connection was opened: this is an error of opening, files that it calls no database are
@@ -147,7 +147,7 @@ module _ {D : Type 0} {g : disk.Ghosts D} where
     pub stays : StaysAsItWas image rest
 
 -- Why no tables are made in files: they are no database; whatever database they are read as uses
--- one of the four names; a call of SQLite failed, or memory was refused.
+-- one of the four names; a call of SQLite failed, or memory ran out.
 abbrev pub RefusesToCreate : Image → CreateFault → Type 0
 RefusesToCreate image created.NotOurs = IsForeign image
 RefusesToCreate image created.Taken = (db : Trees) × (schema : Schema) × AreFoundIn image db

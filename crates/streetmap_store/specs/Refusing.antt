@@ -43,7 +43,7 @@ create_description (created.Device e) = codes
     "The file cannot be opened, is in use, or its device failed."
 create_description created.Memory = codes "Memory was refused; the call may be made again."
 
--- files that a connection is refused for: no database, want of memory, or a failure of the device
+-- files on which no connection was opened: no database, out of memory, or a failure of the device
 abbrev pub refused_to_open : Error → OpenFault
 refused_to_open (SqliteFailure NotADatabase) = opened.NotOurs
 refused_to_open (SqliteFailure OutOfMemory) = opened.Memory

@@ -1,9 +1,13 @@
--- Tables that are opened again after a stop.
+-- Tables that are opened again after a crash.
 use Rattle.std.specs.Prelude.{◌≡◌, ◌⊎◌, None, IsTrue}
-use Rattle.sqlite.specs.Effect.{IsDatabase}
+use Rattle.sqlite.specs.Effect.{Database, IsDatabase}
 use Rattle.sqlite.specs.State.{State as Seen}
 use Rattle.streetmap_ledger.specs.State.{State}
 use Rattle.streetmap_rows.specs.Keeping.{Rests}
+
+-- a crash may leave this database
+abbrev pub LeavesDatabase : Seen → Database → Type 0
+LeavesDatabase seen db = seen.may_leave db.trees × IsDatabase db
 
 -- a connection that was just opened over a database
 pub record IsJustOpened (seen : Seen) : Type 0 where

@@ -1,13 +1,15 @@
--- What a keeper over tables stands for.
-use Rattle.std.specs.Prelude.{◌≡◌, ◌⊎◌, ◌≤◌, ℕ, Bool, true, Option, None, Some, IsSome, IsTrue, T}
-use Rattle.std.specs.Prelude.{not}
+-- What a keeper over tables represents, and how its calls end.
+use Rattle.std.specs.Prelude.{◌≡◌, ℕ, Bool, true, Option, None, Some, IsSome, Result, Ok, Err}
+use Rattle.std.specs.Prelude.{IsTrue, T, not}
 use Rattle.std.specs.Option.{option_map}
 use mathlib.Core.Path.{subst}
 use Rattle.std.specs.FinMap.{len}
-use Rattle.sqlite_disk.specs.Disk.{MoreFaults}
 use Rattle.sqlite.specs.declared.error.Error.{Error}
-use Rattle.sqlite.specs.State.{State as Seen, HasCleanDisk, IsUnchanged, KeepsCommit}
+use Rattle.sqlite.specs.State.{State as Seen, HasCleanDisk, IsUnchanged, KeepsCommit, Survives}
+use Rattle.sqlite_trees.specs.Tree.{Trees}
+use Rattle.streetmap_batch.specs.BatchValue.{BatchValue}
 use Rattle.streetmap_ledger.specs.State.{State}
+use Rattle.streetmap_ledger.specs.Batches.{act}
 use Rattle.streetmap_ledger.specs.declared.reply.Reply.{Reply}
 use Rattle.streetmap_ledger.specs.declared.reply.Reply.TheVariants.{Accepted, Repeated, Refused}
 use Rattle.streetmap_ledger.specs.declared.reply.Cause.{Cause}
@@ -18,9 +20,9 @@ use Rattle.streetmap_rows.specs.declared.failing.Stop.{Stop}
 use Rattle.streetmap_rows.specs.declared.failing.Stop.TheVariants.{Memory, Closed}
 use Rattle.streetmap_rows.specs.declared.failing.Shut.{Shut}
 use Rattle.streetmap_rows.specs.declared.failing.Shut.TheVariants.{Device, Damaged}
-use Rattle.streetmap_rows.specs.Failing.{IsOfStore, is_of_store, HasReason}
-use Rattle.streetmap_rows.specs.Keeping.{Rests, MayLeave}
-use Rattle.streetmap_tables.specs.Acting.{LeavesOtherTables}
+use Rattle.streetmap_rows.specs.Failing.{is_of_store, HasReason}
+use Rattle.streetmap_rows.specs.Settling.{Settles}
+use Rattle.streetmap_rows.specs.Keeping.{Rests}
 use Rattle.streetmap_rows.specs.declared.fault.ReadFault.{ReadFault}
 use Rattle.streetmap_rows.specs.declared.fault.ReadFault.TheVariants as read
 
@@ -40,27 +42,24 @@ is_named None = true
 is_named (Some (Device e)) = is_of_store e
 is_named (Some Damaged) = true
 
--- an error of the store that shut it came about between these two for a reason
+-- an error of the store that shut it arose between these two for a reason
 abbrev pub HasShut : Seen → Seen → Option Shut → Type 0
 HasShut old new None = Unit {0}
 HasShut old new (Some (Device e)) = HasReason old new e
 HasShut old new (Some Damaged) = Unit {0}
 
--- A keeper that is not shut stands for the state of its connection, holds how many batches were
--- accepted, and a stop may leave that state. There is no other such state; both are lemmas, and
--- stand here since the laws of a trait are proved without lemmas.
+-- a crash leaves what was committed last, and nothing else
+pub record LeavesLast (seen : Seen) : Type 0 where
+  pub left : seen.may_leave seen.committed.trees
+  pub only : (trees : Trees) → seen.may_leave trees → trees ≡ seen.committed.trees
+
+-- A keeper that is not shut represents the state of its connection, and holds how many batches were
+-- accepted. A crash leaves what was committed last, which is that state, and nothing else.
 pub record KeepsState (shut : Option Shut) (seen : Seen) (count : ℕ) (s : State) : Type 0 where
   pub unshut : shut ≡ None
   pub rests : Rests seen s
   pub counted : len s.keys ≡ count
-  pub only : (t : State) → Rests seen t → t ≡ s
-  pub left : MayLeave seen (Some s)
-
--- a batch spares the tables of others: where the keeper stands for a state, and its connection is
--- open afterwards, each is as it was
-abbrev pub SparesOthers : Option Shut → ℕ → Seen → Seen → Type 0
-SparesOthers shut count old new = HasCleanDisk new → (s : State) → KeepsState shut old count s
-    → LeavesOtherTables old new
+  pub last : LeavesLast seen
 
 -- a keeper without a cause is not shut
 pub never_shut : {B : Type 0} (shut : Option Shut) → shut ≡ None → IsSome (option_map cause_in shut)
@@ -74,7 +73,7 @@ count_after (Accepted counts serial) count = serial
 count_after (Repeated counts serial) count = count
 count_after (Refused why place) count = count
 
--- what a stop shuts it for, and how its caller is told
+-- what a call that gave up shuts it for, and what is returned
 abbrev pub shut_by : Stop → Option Shut → Option Shut
 shut_by Memory shut = shut
 shut_by (Closed why) shut = Some why
@@ -84,30 +83,35 @@ fault_by Memory = fault.Memory
 fault_by (Closed (Device e)) = fault.Device
 fault_by (Closed Damaged) = fault.Damaged
 
--- a failed look was settled: after a want of memory the connection is open and holds what was
--- committed, and its tables are not damaged
-abbrev pub HasSettled : Seen → Seen → Fault → Type 0
-HasSettled old new fault.Memory = IsUnchanged old new × (new.now ≡ new.committed)
-HasSettled old new fault.Device = Unit {0}
-HasSettled old new fault.Damaged = ⊥
-HasSettled old new fault.Reopen = ⊥
+-- a batch on a keeper that represented this state: the reply is the batch's, and the keeper
+-- represents the state after it; out of memory it represents the state still
+abbrev pub Acts : State → BatchValue → Result Reply Fault → (State → Type 0) → Type 0
+Acts s b (Ok reply) represents = (reply ≡ (act s b).reply) × represents (act s b).state
+Acts s b (Err fault.Memory) represents = represents s
+Acts s b (Err fault.Device) represents = Unit {0}
+Acts s b (Err fault.Damaged) represents = ⊥
+Acts s b (Err fault.Reopen) represents = ⊥
 
--- how a look that was not answered ends
-abbrev pub EndsLook : ReadFault → Seen → Seen → Fault → Type 0
-EndsLook read.Memory old new result = (result ≡ fault.Memory)
-    × (IsTrue old.is_open → IsUnchanged old new)
-EndsLook (read.Store e) old new result = IsOfStore e → HasSettled old new result
-EndsLook read.Unread old new result = result ≡ fault.Damaged
+-- how a read that gave up ends: out of memory, the connection is as it was; an error of a statement
+-- is settled between two transactions; a row that cannot be read is damage
+abbrev pub EndsRead : ReadFault → Seen → Seen → Stop → Type 0
+EndsRead read.Memory old new it = (it ≡ Memory) × (IsTrue old.is_open → IsUnchanged old new)
+EndsRead (read.Store e) old new it = Settles e old new it × KeepsCommit old new
+    × (IsTrue new.is_open → new.now ≡ new.committed)
+EndsRead read.Unread old new it = it ≡ Closed Damaged
 
--- a look led from the first to the second, and gave up for this
-pub record GaveUp (first old : Seen) (fault : ReadFault) : Type 0 where
-  pub counts : first.faults ≤ old.faults
-  pub closes : IsTrue first.is_open → IsTrue old.is_open ⊎ MoreFaults first.faults old.faults
-  pub reason : (e : Error) → fault ≡ read.Store e → HasReason first old e
+-- what is returned for a read, and what shuts the keeper
+abbrev pub Returns : {T : Type 0} → Result T ReadFault → Option Shut → Seen → Option Shut → Seen
+    → Result T Fault → Type 0
+Returns (Ok x) was old now new result =
+    (result ≡ Ok x) × (now ≡ was) × (IsTrue old.is_open → IsUnchanged old new)
+Returns (Err f) was old now new result =
+    (it : Stop) × (result ≡ Err (fault_by it)) × (now ≡ shut_by it was)
+    × (HasCleanDisk new → EndsRead f old new it)
 
--- a look that was given up holds what was committed
-abbrev pub LeavesCommitted : ReadFault → Seen → Seen → Type 0
-LeavesCommitted read.Memory old new = new.now ≡ old.now
-LeavesCommitted (read.Store e) old new =
-    KeepsCommit old new × (IsTrue new.is_open → new.now ≡ new.committed)
-LeavesCommitted read.Unread old new = Unit {0}
+-- a read of the connection, which found this, is answered, and the connection is open or settled
+pub record Answers {T : Type 0} (found : Result T ReadFault) (was : Option Shut) (old : Seen)
+    (now : Option Shut) (new : Seen) (result : Result T Fault) : Type 0 where
+  pub survives : Survives old new (λ _. ⊥)
+  pub last : IsTrue new.is_open → LeavesLast new
+  pub returns : Returns found was old now new result

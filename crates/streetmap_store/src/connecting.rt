@@ -34,8 +34,7 @@ fn has_pages_as_new(rt: &HostRuntime, path: &str) -> bool {
 }
 
 /// How many pages of the file at a path are kept in memory: as many as it has, and a quarter more
-/// for those that come. It is looked at before it is opened, since to close it once more would take
-/// the locks off.
+/// for those to come. It is read before it is opened, since a later close would release the locks.
 fn pages_to_keep(rt: &HostRuntime, path: &str) -> usize
     ensures fewest { 2000 ≤ result }
     ensures most { result ≤ 131072 }
@@ -93,8 +92,8 @@ fn options(rt: &HostRuntime, path: &str) -> Result<Options, Error>
     }
 }
 
-/// A connection to the files at a path, which are made where they are missing. It is that of
-/// `Connection::open_from`, but that more pages are kept in memory.
+/// A connection to the files at a path, which are made if they are missing. It is as
+/// `Connection::open_from` makes it, but more pages are kept in memory.
 pub(crate) fn connect<S: Start>(
     rt: &HostRuntime,
     path: &str,

@@ -14,11 +14,11 @@ pub enum OpenFault {
     NotOurs,
     /// `new_format`: its tables are of a format above 2.
     NewFormat,
-    /// `damaged`: its tables are of format 1, and a row is none that this product writes.
+    /// `damaged`: its tables are of format 1, and this product does not write one of the rows.
     Damaged,
-    /// `device`: it cannot be opened, is in use, or the store failed: the error that told it.
+    /// `device`: it cannot be opened, is in use, or the store failed; the error that reported it.
     Device(Error),
-    /// `memory`: memory was refused.
+    /// `memory`: memory ran out.
     Memory,
 }
 
@@ -29,14 +29,13 @@ pub enum CreateFault {
     NotOurs,
     /// `taken`: a table, an index or a view of the database has one of the four names.
     Taken,
-    /// `device`: it cannot be opened, is in use, or the store failed: the error that told it.
+    /// `device`: it cannot be opened, is in use, or the store failed; the error that reported it.
     Device(Error),
-    /// `memory`: memory was refused.
+    /// `memory`: memory ran out.
     Memory,
 }
 
-/// What is left of files that were refused. They are closed when it is dropped, and locked until
-/// then.
+/// What is left of files that were refused. They are locked until it is dropped, and closed then.
 #[derive(Drop)]
 pub enum Left<F, C> {
     /// Nothing: they were not opened.
@@ -74,7 +73,7 @@ impl OpenFault {
         }
     }
 
-    /// The fault of files that a connection was refused for.
+    /// The fault of files on which no connection was opened.
     pub(crate) fn of_files(error: Error) -> OpenFault
         ensures { result ≡ refused_to_open error }
     {
@@ -125,7 +124,7 @@ impl CreateFault {
         }
     }
 
-    /// The fault of files that a connection was refused for.
+    /// The fault of files on which no connection was opened.
     pub(crate) fn of_files(error: Error) -> CreateFault
         ensures { result ≡ refused_to_create error }
     {

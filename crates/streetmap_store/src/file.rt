@@ -1,11 +1,9 @@
 //! Making and opening.
-ghost use Rattle.std.specs.Prelude.{◌≡◌, Some, IfOk, IfErr};
+ghost use Rattle.std.specs.Prelude.{◌≡◌, IfOk, IfErr};
 ghost use Rattle.sqlite_wal.specs.Files.{image_at};
 ghost use Rattle.sqlite.specs.State.{HasCleanDisk};
 ghost use Rattle.sqlite.specs.Files.{file_state, IsNothing};
 ghost use Rattle.streetmap_ledger.specs.State.{State, opening_state};
-ghost use Rattle.streetmap_ledger.specs.Keep.{LeavesOnly};
-ghost use Rattle.streetmap_rows.specs.Keeping.{MayLeave};
 ghost use Rattle.streetmap_store.specs.Serving.{KeepsState};
 ghost use Rattle.streetmap_store.specs.Holding.{HoldsState, HoldsOldState, LeavesRoom};
 ghost use Rattle.streetmap_store.specs.Reasons.{IsCleanRest, RefusesToOpen};
@@ -27,16 +25,16 @@ pub type FilesLeft<S> = Left<Leftover<FileFrom<S>>, Connection<FileStore<FileFro
 
 /// Makes the four tables in the database at a path, with the opening state, and keeps it there.
 ///
-/// The database and its log are made where they are missing, and leave room for the tables
-/// (`laws::new_files_leave_room`); other tables of a database that is there stay. After a refusal
-/// files that were made stay too, and what is left of the files, given back beside it, holds what
+/// The database and its log are made if they are missing, and leave room for the tables
+/// (`laws::new_files_leave_room`); other tables of an existing database stay. After a refusal files
+/// that were made stay too, and what is left of the files, returned beside the refusal, holds what
 /// they held.
 ///
 /// # Errors
 ///
-/// `NotOurs` where the file is no database, `Taken` where one of the four names is used in it,
-/// `Device` where it cannot be opened, is in use or the store fails, and `Memory`. In new files it
-/// is one of the last two.
+/// `NotOurs` if the file is no database, `Taken` if one of the four names is used in it, `Device`
+/// if it cannot be opened, is in use or the store fails, and `Memory`. In new files it is one of
+/// the last two.
 pub fn create<S: Start>(
     rt: &HostRuntime,
     path: &str,
@@ -44,8 +42,7 @@ pub fn create<S: Start>(
 ) -> Result<FileKeeper<S>, (CreateFault, FilesLeft<S>)>
     ensures made { IfOk result (λ keeper. HasCleanDisk (file_state keeper.conn)
         → LeavesRoom (image_at S.Start)
-        → KeepsState keeper.shut (file_state keeper.conn) keeper.count opening_state
-        × LeavesOnly (MayLeave (file_state keeper.conn)) (Some opening_state)) }
+        → KeepsState keeper.shut (file_state keeper.conn) keeper.count opening_state) }
     ensures refused { IfErr result (λ refused. IsCleanRest refused.1
         → RefusesToCreate (image_at S.Start) refused.0) }
     ensures new_files { IfErr result (λ refused. IsCleanRest refused.1
@@ -77,10 +74,10 @@ pub fn create<S: Start>(
 ///
 /// # Errors
 ///
-/// `NotOurs` where the file is no database or has no format row of this product, `NewFormat` for a
-/// format above 2, `Damaged` for format 1 with a row that this product does not write, `Device`
-/// where it cannot be opened, is in use or the store fails, and `Memory`. On the tables of a state,
-/// of either format, it is one of the last two.
+/// `NotOurs` if the file is no database or has no format row of this product, `NewFormat` for a
+/// format above 2, `Damaged` for format 1 with a row that this product does not write, `Device` if
+/// it cannot be opened, is in use or the store fails, and `Memory`. On the tables of a state, of
+/// either format, it is one of the last two.
 pub fn open<S: Start>(
     rt: &HostRuntime,
     path: &str,
@@ -88,12 +85,10 @@ pub fn open<S: Start>(
 ) -> Result<FileKeeper<S>, (OpenFault, FilesLeft<S>)>
     ensures opened { IfOk result (λ keeper. HasCleanDisk (file_state keeper.conn) → (s : State)
         → HoldsState (image_at S.Start) s
-        → KeepsState keeper.shut (file_state keeper.conn) keeper.count s
-        × LeavesOnly (MayLeave (file_state keeper.conn)) (Some s)) }
+        → KeepsState keeper.shut (file_state keeper.conn) keeper.count s) }
     ensures carried { IfOk result (λ keeper. HasCleanDisk (file_state keeper.conn) → (s : State)
         → HoldsOldState (image_at S.Start) s
-        → KeepsState keeper.shut (file_state keeper.conn) keeper.count s
-        × LeavesOnly (MayLeave (file_state keeper.conn)) (Some s)) }
+        → KeepsState keeper.shut (file_state keeper.conn) keeper.count s) }
     ensures refused { IfErr result (λ refused. IsCleanRest refused.1
         → RefusesToOpen (image_at S.Start) refused.0 refused.1) }
     ensures ours { IfErr result (λ refused. IsCleanRest refused.1 → (s : State)

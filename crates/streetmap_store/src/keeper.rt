@@ -1,11 +1,10 @@
 //! The keeper.
-ghost use Rattle.std.specs.Prelude.{◌≡◌, ◌⊎◌, ◌≢◌, ◌↔◌, Ok, Err, None, Some, false, IsTrue, IfOk};
-ghost use Rattle.std.specs.Prelude.{IfErr, IfSome, IsErrAnd, MatchResult, option_and_then};
-ghost use Rattle.std.specs.Option.{option_map};
-ghost use Rattle.sqlite.specs.Held.{Held, state};
+ghost use Rattle.std.specs.Prelude.{◌≡◌, ◌⊎◌, ◌↔◌, Err, Some, false, IsTrue, IfOk, IfErr, IfSome};
+ghost use Rattle.std.specs.Prelude.{IsErrAnd, MatchResult, option_and_then};
+ghost use Rattle.sqlite.specs.Held.{state};
 ghost use Rattle.sqlite.specs.State.{HasCleanDisk, Survives};
 ghost use Rattle.streetmap_ledger.specs.State.{State, opening_state};
-ghost use Rattle.streetmap_ledger.specs.Keep.{ShutsBy, LeavesOnly, LeavesEither};
+ghost use Rattle.streetmap_ledger.specs.Keep.{LeavesOnly, LeavesEither};
 ghost use Rattle.streetmap_rows.specs.Failing.{IsOfStore};
 ghost use Rattle.streetmap_tables.specs.Acting.{IsToldByStore};
 ghost use Rattle.streetmap_rows.specs.Keeping.{Rests, MayLeave};
@@ -20,17 +19,17 @@ ghost use Rattle.streetmap_tables.specs.Old.{RestsOld};
 ghost use Rattle.streetmap_tables.specs.Carrying.{UntouchedUnlessFormat1, MayCarry, Carries};
 ghost use Rattle.streetmap_tables.specs.Carrying.{Opens, OpensBy, KeepsNoMore};
 ghost use Rattle.streetmap_store.specs.Reopening.{IsJustOpened, OpensAs, OpensAsEither};
-ghost use Rattle.streetmap_store.specs.Serving.{KeepsState, EndsLook, HasShut, GaveUp, is_named};
-ghost use Rattle.streetmap_store.specs.Serving.{cause_in, error_in, count_after, shut_by, fault_by};
-ghost use Rattle.streetmap_store.specs.Serving.{LeavesCommitted};
-ghost use Rattle.streetmap_store.specs.Sparing.{LeavesStates};
+ghost use Rattle.streetmap_store.specs.Serving.{KeepsState, EndsRead, Answers, is_named, error_in};
+ghost use Rattle.streetmap_store.specs.Serving.{count_after, shut_by, fault_by};
+ghost use Rattle.streetmap_store.specs.TableModel.{LeavesStates};
 
 use json::Scratch;
 use sqlite::{Alter, Connection, Error};
 use std::alloc::Global;
 use streetmap_geojson::Feature;
 use streetmap_ledger::{
-    Batch, Fault, FeatureOutline, Keeper, KeepsBatches, KeptBatch, Page, Reply, Summary,
+    Batch, Durable, Fault, FeatureOutline, Keeper, KeepsBatches, KeptBatch, Outlined, Page, Reply,
+    Summary,
 };
 use streetmap_query::Query;
 use streetmap_reading::{
@@ -64,7 +63,7 @@ fn count_of(reply: Reply, count: u64) -> u64
     }
 }
 
-/// How a stop is told.
+/// What is returned by a call that gave up.
 fn fault_of(stop: Stop) -> Fault
     ensures { result ≡ fault_by stop }
 {
@@ -75,8 +74,8 @@ fn fault_of(stop: Stop) -> Fault
     }
 }
 
-/// Shuts a keeper for a stop, but for want of memory, and tells the stop.
-#[tactic(auto, using(crate::proofs::StandsAfterLook::named_after))]
+/// Shuts a keeper whose call gave up, unless memory ran out. Returns what the call returns.
+#[tactic(auto, using(crate::proofs::TableCalls::named_after))]
 fn shut_for(shut: &mut Option<Shut>, stop: Stop) -> Fault
     ensures value { result ≡ fault_by stop }
     ensures after { shut.new ≡ shut_by stop shut.old }
@@ -89,45 +88,57 @@ fn shut_for(shut: &mut Option<Shut>, stop: Stop) -> Fault
     fault_of(stop)
 }
 
-/// Ends a look that was not answered.
-fn give_up<S: Alter>(conn: &mut Connection<S>, shut: &mut Option<Shut>, fault: ReadFault) -> Fault
+/// Ends a read that gave up.
+fn give_up<S: Alter>(conn: &mut Connection<S>, fault: ReadFault) -> Stop
     requires { conn.old.in_transaction ≡ false }
     ensures idle { conn.new.in_transaction ≡ false }
     ensures survives { Survives (state S.Store conn.old) (state S.Store conn.new) (λ _. ⊥) }
-    ensures faults { shut.old ≡ None
-        → ShutsBy {T = Unit {0}} (Err result) None (option_map cause_in shut.new) }
     ensures ends { HasCleanDisk (state S.Store conn.new)
-        → EndsLook fault (state S.Store conn.old) (state S.Store conn.new) result }
-    ensures reason { HasCleanDisk (state S.Store conn.new) → shut.old ≡ None
-        → (first : Held S) → GaveUp (state S.Store first) (state S.Store conn.old) fault →
-        HasShut (state S.Store first) (state S.Store conn.new) shut.new }
-    ensures committed { HasCleanDisk (state S.Store conn.new) →
-        LeavesCommitted fault (state S.Store conn.old) (state S.Store conn.new) }
-    ensures kept { result ≡ Fault.Memory → shut.new ≡ shut.old }
-    ensures not_shut_before { result ≢ Fault.Reopen }
-    ensures named { HasCleanDisk (state S.Store conn.new) → IsTrue (is_named shut.old)
-        → IsTrue (is_named shut.new) }
+        → EndsRead fault (state S.Store conn.old) (state S.Store conn.new) result }
+    ensures told { HasCleanDisk (state S.Store conn.new) → IsToldByStore result }
 {
-    let stop = match fault {
+    match fault {
         ReadFault::Memory => Stop::Memory,
         ReadFault::Store(error) => settle(conn, error),
         ReadFault::Unread => Stop::Closed(Shut::Damaged),
-    };
-    shut_for(shut, stop)
+    }
+}
+
+/// The answer to a read of the connection that found this. If it gave up, the connection is
+/// settled, and the keeper is shut unless memory ran out.
+fn answer<S: Alter, T>(
+    conn: &mut Connection<S>,
+    shut: &mut Option<Shut>,
+    found: Result<T, ReadFault>,
+) -> Result<T, Fault>
+    requires { conn.old.in_transaction ≡ false }
+    ensures idle { conn.new.in_transaction ≡ false }
+    ensures answers { Answers found shut.old (state S.Store conn.old)
+        shut.new (state S.Store conn.new) result }
+    ensures named { HasCleanDisk (state S.Store conn.new) → IsTrue (is_named shut.old)
+        → IsTrue (is_named shut.new) }
+{
+    match found {
+        Ok(found) => Ok(found),
+        Err(fault) => {
+            let stop = give_up(conn, fault);
+            Err(shut_for(shut, stop))
+        }
+    }
 }
 
 impl<S: Alter> TableKeeper<S> {
     /// Makes the four tables in a connection, with the opening state, and keeps it there.
     ///
-    /// The connection is to have no step limit and room for the tables (`make_tables`). A stop then
-    /// leaves the opening state; after a refusal the connection, given back, holds what it held,
-    /// and a stop may leave the same as before while it is open.
+    /// The connection is to have no step limit and room for the tables (`make_tables`). A crash
+    /// then leaves the opening state; after a refusal the connection, given back, holds what it
+    /// held, and a crash may leave the same as before while it is open.
     ///
     /// # Errors
     ///
-    /// `Taken` exactly where a table, an index or a view has one of the four names, `Device` where
-    /// the store fails or the schema has no place for the tables, by the error that `make_tables`
-    /// tells, `Memory`.
+    /// `Taken` exactly if a table, an index or a view has one of the four names, `Device` if the
+    /// store fails or the schema has no place for the tables, with the error that `make_tables`
+    /// reports, and `Memory`.
     pub fn make(
         alloc: Global,
         mut conn: Connection<S>,
@@ -145,8 +156,7 @@ impl<S: Alter> TableKeeper<S> {
             IsReasoned (state S.Store conn) (state S.Store refused.1) refused.0) }
         ensures made { IfOk result (λ keeper. HasCleanDisk (state S.Store keeper.conn)
             → IsReady (state S.Store conn)
-            → KeepsState keeper.shut (state S.Store keeper.conn) keeper.count opening_state
-            × LeavesOnly (MayLeave (state S.Store keeper.conn)) (Some opening_state)) }
+            → KeepsState keeper.shut (state S.Store keeper.conn) keeper.count opening_state) }
         ensures refused { IfErr result (λ refused. HasCleanDisk (state S.Store refused.1)
             → IsReady (state S.Store conn)
             → Makes (state S.Store conn) (state S.Store refused.1) (Err refused.0)) }
@@ -178,23 +188,23 @@ impl<S: Alter> TableKeeper<S> {
         }
     }
 
-    /// Opens the tables that a connection has, and keeps their state. Those of format 1 are carried
-    /// over to format 2 first (`open_tables`); where the format is not 1 it writes nothing.
+    /// Opens the tables that a connection has, and keeps their state. Those of format 1 are
+    /// migrated to format 2 first (`open_tables`); if the format is not 1 it writes nothing.
     ///
-    /// Whatever the tables are, they are kept only where their format is 2, with the number of
-    /// batches that a look tells, or where a row was put into the new features for each row of the
-    /// old ones, with its text.
+    /// Whatever the tables are, they are kept only if their format is 2, with the number of batches
+    /// that a query returns, or if a row was put into the new features for each row of the old
+    /// ones, with its text.
     ///
     /// The connection is to have no step limit. After a refusal an open connection holds what it
-    /// held, and a stop may leave the same as before; after one that blames the tables a stop may
+    /// held, and a crash may leave the same as before; after one that blames the tables a crash may
     /// leave no more than before in any case.
     ///
     /// # Errors
     ///
-    /// `NotOurs` where there is no format row of this product, `NewFormat` for a format above 2,
-    /// `Damaged` where the format is 1 and a row is none that this product writes, or it is 2 and
-    /// the look at the batches is refused, `Device` where the store fails, or where tables of
-    /// format 1 cannot be carried over, by the error that `open_tables` tells, `Memory`.
+    /// `NotOurs` if there is no format row of this product, `NewFormat` for a format above 2,
+    /// `Damaged` if the format is 1 and this product does not write one of the rows, or it is 2 and
+    /// the query of the batches is refused, `Device` if the store fails, or if tables of format 1
+    /// cannot be migrated, with the error that `open_tables` reports, and `Memory`.
     pub fn adopt(
         alloc: Global,
         mut conn: Connection<S>,
@@ -224,15 +234,13 @@ impl<S: Alter> TableKeeper<S> {
             TellsKeys (state S.Store conn) keeper.count ⊎ HasCarried S.Store conn keeper.conn) }
         ensures adopted { IfOk result (λ keeper. HasCleanDisk (state S.Store keeper.conn)
             → (s : State) → Rests (state S.Store conn) s
-            → KeepsState keeper.shut (state S.Store keeper.conn) keeper.count s
-            × LeavesOnly (MayLeave (state S.Store keeper.conn)) (Some s)) }
+            → KeepsState keeper.shut (state S.Store keeper.conn) keeper.count s) }
         ensures refused { IfErr result (λ refused. HasCleanDisk (state S.Store refused.1)
             → (s : State) → Rests (state S.Store conn) s
             → Opens s (state S.Store conn) (state S.Store refused.1) (Err refused.0)) }
         ensures carried { IfOk result (λ keeper. HasCleanDisk (state S.Store keeper.conn)
             → (s : State) → RestsOld (state S.Store conn) s
-            → KeepsState keeper.shut (state S.Store keeper.conn) keeper.count s
-            × LeavesOnly (MayLeave (state S.Store keeper.conn)) (Some s)) }
+            → KeepsState keeper.shut (state S.Store keeper.conn) keeper.count s) }
         ensures refused_old { IfErr result (λ refused. HasCleanDisk (state S.Store refused.1)
             → (s : State) → RestsOld (state S.Store conn) s
             → Carries s (state S.Store conn) (state S.Store refused.1) (Err refused.0)) }
@@ -273,7 +281,7 @@ impl<S: Alter> TableKeeper<S> {
         conn
     }
 
-    /// The error of the store that shut it; none where it is not shut, or was shut at a row that no
+    /// The error of the store that shut it; none if it is not shut, or was shut at a row that no
     /// keeper writes.
     pub fn error(&self) -> Option<Error>
         ensures value { result ≡ option_and_then error_in self.now.shut }
@@ -286,13 +294,16 @@ impl<S: Alter> TableKeeper<S> {
     }
 }
 
-/// What a stop leaves of a keeper, opened again. Of a keeper that stands for a state it is that
-/// state; and where each database that a stop may leave is a state's, as after each run of calls
-/// (`Keeper::spares`), one of these states. Where the clauses on stops name one state, or one of
-/// two, the tables are those of that state, or of one of the two. With `TableKeeper::adopt` it is
-/// kept again.
-pub fn what_a_stop_leaves_opens<S: Alter, T: Alter>(keeper: &TableKeeper<S>, opened: &Connection<T>)
-    ensures stands { (s : State) →
+/// What a crash leaves of a keeper, opened again. Of a keeper that represents a state it is that
+/// state; and if each database that a crash may leave is a state's, as after each run of calls
+/// (`spares` of the keeper's model), one of these states. If the clauses on crashes name one state,
+/// or one of two, the tables are those of that state, or of one of the two. With
+/// `TableKeeper::adopt` it is kept again.
+pub fn what_a_crash_leaves_opens<S: Alter, T: Alter>(
+    keeper: &TableKeeper<S>,
+    opened: &Connection<T>,
+)
+    ensures represents { (s : State) →
         KeepsState keeper.now.shut (state S.Store keeper.now.conn) keeper.now.count s →
         (state S.Store keeper.now.conn).may_leave (state T.Store opened.now).now.trees →
         IsJustOpened (state T.Store opened.now) → Rests (state T.Store opened.now) s }
@@ -311,62 +322,21 @@ pub fn what_a_stop_leaves_opens<S: Alter, T: Alter>(keeper: &TableKeeper<S>, ope
 {}
 
 impl<S: Alter> Keeper for TableKeeper<S> {
-    ghost use Rattle.std.specs.Prelude.{◌≡◌, IsSome, option_map};
     ghost use Rattle.sqlite.specs.Held.{state};
-    ghost use Rattle.sqlite.specs.State.{HasCleanDisk};
-    ghost use Rattle.std.proofs.Common.{refl, sym, subst, ◌∙◌};
-    ghost use Rattle.streetmap_ledger.specs.State.{State};
-    ghost use Rattle.streetmap_ledger.specs.Keep.{Acts};
-    ghost use Rattle.streetmap_rows.specs.Keeping.{MayLeave};
-    ghost use Rattle.streetmap_store.specs.Serving.{KeepsState, SparesOthers};
-    ghost use Rattle.streetmap_store.specs.Serving.{never_shut, cause_in};
-    ghost use Rattle.streetmap_store.specs.Sparing as sparing;
-    ghost use Rattle.streetmap_store.specs.Sparing.{Spares, StoreHasFailed, is_shut};
+    ghost use Rattle.streetmap_store.specs.TableModel.{table_model};
 
-    ghost stands = { λ k s. KeepsState k.shut (state S.Store k.conn) k.count s };
+    ghost model = { table_model (record {
+      shut = λ k. k.shut;
+      count = λ k. k.count;
+      seen = λ k. state S.Store k.conn;
+    }) };
 
-    ghost may_leave = { λ k. MayLeave (state S.Store k.conn) };
-
-    ghost cause = { λ k. option_map cause_in k.shut };
-
-    ghost is_clean = { λ k. HasCleanDisk (state S.Store k.conn) };
-
-    ghost applies = { λ k b result after.
-        SparesOthers k.shut k.count (state S.Store k.conn) (state S.Store after.conn) ×
-        (HasCleanDisk (state S.Store after.conn) → (s : State) →
-        KeepsState k.shut (state S.Store k.conn) k.count s →
-        Acts s b result (KeepsState after.shut (state S.Store after.conn) after.count)) };
-
-    ghost spares = { λ k after. (IsSome k.shut → after ≡ k) ×
-        Spares k.shut k.count (state S.Store k.conn)
-        after.shut after.count (state S.Store after.conn) };
-
-    ghost fails = { λ k after.
-        StoreHasFailed (state S.Store k.conn) after.shut (state S.Store after.conn) };
-
-    ghost one_state = { λ k s t p q. q.only s p.rests };
-
-    ghost shut_has_none = { λ k s shut p. never_shut k.shut p.unshut shut };
-
-    ghost may_leave_it = { λ k s p. p.left };
-
-    ghost well_formed = { λ k s p. p.rests.kept.well };
-
-    ghost spares_itself = { λ k. (λ shut. refl, sparing.spares_itself _ _ _) };
-
-    ghost spares_then = { λ first mid last p q. (
-      λ shut. q.0 (subst (λ k. IsSome k.shut) (sym (p.0 shut)) shut) ∙ p.0 shut,
-      sparing.spares_then _ _ _ _ _ _ _ _ _ p.1 q.1,
-    ) };
-
-    ghost fails_later = { λ first mid last p q fails.
-        sparing.fails_later _ _ _ _ _ _ _ _ _ p.1 q.1 fails };
-
-    ghost fails_still = { λ first mid last fails shut q.
-        sparing.fails_still _ _ _ _ _ _ _ q.1 (is_shut mid.shut shut) fails };
+    fn is_open(&self) -> bool {
+        self.shut.is_none()
+    }
 
     fn apply(&mut self, batch: &Batch) -> Result<Reply, Fault> {
-        if self.shut.is_some() {
+        if !self.is_open() {
             return Err(Fault::Reopen);
         }
         match apply_batch(self.alloc, &mut self.conn, self.count, batch) {
@@ -379,49 +349,61 @@ impl<S: Alter> Keeper for TableKeeper<S> {
     }
 
     fn page(&mut self, collection: &str, query: &Query) -> Result<Option<Page>, Fault> {
-        if self.shut.is_some() {
+        if !self.is_open() {
             return Err(Fault::Reopen);
         }
-        match page_of(self.alloc, &mut self.conn, collection, query) {
-            Ok(page) => Ok(page),
-            Err(fault) => Err(give_up(&mut self.conn, &mut self.shut, fault)),
-        }
+        let page = page_of(self.alloc, &mut self.conn, collection, query);
+        answer(&mut self.conn, &mut self.shut, page)
     }
 
     fn feature(&mut self, collection: &str, id: &str) -> Result<Option<Feature>, Fault> {
-        if self.shut.is_some() {
+        if !self.is_open() {
             return Err(Fault::Reopen);
         }
-        match feature_of(
+        let feature = feature_of(
             self.alloc,
             &mut self.scratch,
             &mut self.conn,
             collection,
             id,
-        ) {
-            Ok(feature) => Ok(feature),
-            Err(fault) => Err(give_up(&mut self.conn, &mut self.shut, fault)),
-        }
+        );
+        answer(&mut self.conn, &mut self.shut, feature)
     }
 
+    fn collection(&mut self, id: &str) -> Result<Option<Summary>, Fault> {
+        if !self.is_open() {
+            return Err(Fault::Reopen);
+        }
+        let summary = summary_of(self.alloc, &mut self.conn, id);
+        answer(&mut self.conn, &mut self.shut, summary)
+    }
+
+    fn collections(&mut self) -> Result<Vec<Summary>, Fault> {
+        if !self.is_open() {
+            return Err(Fault::Reopen);
+        }
+        let summaries = summaries_of(self.alloc, &mut self.conn);
+        answer(&mut self.conn, &mut self.shut, summaries)
+    }
+}
+
+impl<S: Alter> Outlined for TableKeeper<S> {
     fn feature_outlined(
         &mut self,
         collection: &str,
         outline: &FeatureOutline,
     ) -> Result<Option<Feature>, Fault> {
-        if self.shut.is_some() {
+        if !self.is_open() {
             return Err(Fault::Reopen);
         }
-        match feature_outlined_of(
+        let feature = feature_outlined_of(
             self.alloc,
             &mut self.scratch,
             &mut self.conn,
             collection,
             outline,
-        ) {
-            Ok(feature) => Ok(feature),
-            Err(fault) => Err(give_up(&mut self.conn, &mut self.shut, fault)),
-        }
+        );
+        answer(&mut self.conn, &mut self.shut, feature)
     }
 
     fn features(
@@ -430,71 +412,65 @@ impl<S: Alter> Keeper for TableKeeper<S> {
         first: &str,
         last: &str,
     ) -> Result<Option<Vec<Feature>>, Fault> {
-        if self.shut.is_some() {
+        if !self.is_open() {
             return Err(Fault::Reopen);
         }
-        match run_of(self.alloc, &mut self.conn, collection, first, last) {
-            Ok(features) => Ok(features),
-            Err(fault) => Err(give_up(&mut self.conn, &mut self.shut, fault)),
-        }
-    }
-
-    fn collection(&mut self, id: &str) -> Result<Option<Summary>, Fault> {
-        if self.shut.is_some() {
-            return Err(Fault::Reopen);
-        }
-        match summary_of(self.alloc, &mut self.conn, id) {
-            Ok(summary) => Ok(summary),
-            Err(fault) => Err(give_up(&mut self.conn, &mut self.shut, fault)),
-        }
-    }
-
-    fn collections(&mut self) -> Result<Vec<Summary>, Fault> {
-        if self.shut.is_some() {
-            return Err(Fault::Reopen);
-        }
-        match summaries_of(self.alloc, &mut self.conn) {
-            Ok(summaries) => Ok(summaries),
-            Err(fault) => Err(give_up(&mut self.conn, &mut self.shut, fault)),
-        }
+        let features = run_of(self.alloc, &mut self.conn, collection, first, last);
+        answer(&mut self.conn, &mut self.shut, features)
     }
 
     fn outlines(&mut self, collection: &str) -> Result<Option<Vec<FeatureOutline>>, Fault> {
-        if self.shut.is_some() {
+        if !self.is_open() {
             return Err(Fault::Reopen);
         }
-        match outlines_of(self.alloc, &mut self.conn, collection) {
-            Ok(outlines) => Ok(outlines),
-            Err(fault) => Err(give_up(&mut self.conn, &mut self.shut, fault)),
-        }
+        let outlines = outlines_of(self.alloc, &mut self.conn, collection);
+        answer(&mut self.conn, &mut self.shut, outlines)
     }
 }
 
 impl<S: Alter> KeepsBatches for TableKeeper<S> {
     fn batch_count(&mut self) -> Result<u64, Fault> {
-        if self.shut.is_some() {
+        if !self.is_open() {
             return Err(Fault::Reopen);
         }
         Ok(self.count)
     }
 
     fn batch(&mut self, serial: u64) -> Result<Option<KeptBatch>, Fault> {
-        if self.shut.is_some() {
+        if !self.is_open() {
             return Err(Fault::Reopen);
         }
-        match batch_of(self.alloc, &mut self.conn, serial) {
-            Ok(batch) => Ok(batch),
-            Err(fault) => Err(give_up(&mut self.conn, &mut self.shut, fault)),
-        }
+        let batch = batch_of(self.alloc, &mut self.conn, serial);
+        answer(&mut self.conn, &mut self.shut, batch)
     }
 
     fn batches(&mut self, alloc: Global, after: u64, room: usize) -> Result<Vec<KeptBatch>, Fault> {
-        if self.shut.is_some() {
+        if !self.is_open() {
             return Err(Fault::Reopen);
         }
-        match batches_of(alloc, &mut self.conn, after, room) {
-            Ok(batches) => Ok(batches),
-            Err(fault) => Err(give_up(&mut self.conn, &mut self.shut, fault)),
-        }
+        let batches = batches_of(alloc, &mut self.conn, after, room);
+        answer(&mut self.conn, &mut self.shut, batches)
     }
+}
+
+impl<S: Alter> Durable for TableKeeper<S> {
+    ghost use Rattle.sqlite.specs.Held.{state};
+    ghost use Rattle.sqlite.specs.Effect.{Database};
+    ghost use Rattle.streetmap_rows.specs.Keeping.{Keeps};
+    ghost use Rattle.streetmap_store.specs.Reopening.{LeavesDatabase};
+    ghost use Rattle.streetmap_store.specs.IndexesListed.{keeps_too};
+
+    // A database that SQLite's model of a crash admits. It holds the state that its rows are of.
+    ghost image = { Database };
+
+    ghost leaves = { λ k db. LeavesDatabase (state S.Store k.conn) db };
+
+    ghost holds = { λ db s. Keeps s db };
+
+    ghost images_hold_states = { λ first last s db is spared clean left.
+        let it = spared.states clean s is db.trees left.0 in (
+          it.0,
+          keeps_too it.0 it.1.0 db.schema db.trees left.1 it.1.1,
+          (db.trees, left.0, it.1),
+        ) };
 }

@@ -1,4 +1,4 @@
-//! Files in memory that stop after a number of calls, and what is done over a connection to them.
+//! Files in memory that fail after a number of calls, and what is done over a connection to them.
 //! Only here is their store named.
 ghost use Rattle.std.specs.Prelude.{◌≡◌, false, IfOk, IsTrue};
 ghost use Rattle.sqlite_disk.specs.Memory.{memory_is_usable};
@@ -28,10 +28,10 @@ pub(crate) const ALL_CALLS: Calls = Calls {
 /// What is done over a connection, whatever its store.
 pub(crate) trait Visit {
     /// Its result.
-    type Told;
+    type Output;
 
-    /// Does it, and gives the store back, unless it was dropped.
-    fn visit<S: Alter + Drop>(self, alloc: Global, conn: Connection<S>) -> (Self::Told, Option<S>)
+    /// Does it, and returns the store, unless it was dropped.
+    fn visit<S: Alter + Drop>(self, alloc: Global, conn: Connection<S>) -> (Self::Output, Option<S>)
         requires { conn.in_transaction ≡ false };
 }
 
@@ -53,7 +53,7 @@ fn visit_fused<V: Visit + Drop>(
     db: Memory,
     calls: Calls,
     visit: V,
-) -> (Option<V::Told>, Option<Files<Fused>>)
+) -> (Option<V::Output>, Option<Files<Fused>>)
     requires log { IsTrue (memory_is_usable log) }
     requires db { IsTrue (memory_is_usable db) }
 {
@@ -61,8 +61,8 @@ fn visit_fused<V: Visit + Drop>(
     let db = Fuse::new(db, calls.db);
     match Connection::open_files(alloc, Files { log, db }, Options::new(1)) {
         Ok(conn) => {
-            let (told, store) = visit.visit(alloc, conn);
-            (Some(told), store.map(|store| store.close()))
+            let (output, store) = visit.visit(alloc, conn);
+            (Some(output), store.map(|store| store.close()))
         }
         Err((_, left)) => (None, Some(left.into_files())),
     }
@@ -73,12 +73,12 @@ pub(crate) fn visit_new<V: Visit + Drop>(
     alloc: Global,
     calls: Calls,
     visit: V,
-) -> (Option<V::Told>, Option<Files<Fused>>) {
+) -> (Option<V::Output>, Option<Files<Fused>>) {
     visit_fused(alloc, Memory::new(alloc), Memory::new(alloc), calls, visit)
 }
 
 /// The result of a visit to new files that take all calls.
-pub(crate) fn told_of_new<V: Visit + Drop>(alloc: Global, visit: V) -> Option<V::Told> {
+pub(crate) fn output_of_new<V: Visit + Drop>(alloc: Global, visit: V) -> Option<V::Output> {
     visit_new(alloc, ALL_CALLS, visit).0
 }
 
@@ -88,7 +88,7 @@ pub(crate) fn visit_again<V: Visit + Drop>(
     files: &Files<Fused>,
     calls: Calls,
     visit: V,
-) -> Result<(Option<V::Told>, Option<Files<Fused>>), Fail> {
+) -> Result<(Option<V::Output>, Option<Files<Fused>>), Fail> {
     let log = file(alloc, files.log.inner().bytes())?;
     let db = file(alloc, files.db.inner().bytes())?;
     Ok(visit_fused(alloc, log, db, calls, visit))

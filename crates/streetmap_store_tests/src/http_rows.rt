@@ -1,8 +1,8 @@
 //! The rows of HTTP over a keeper in memory, over tables, and with an index over each: the answers
 //! are the same bytes.
 use crate::answers::answers;
-use crate::files::{Visit, told_of_new};
-use crate::keepers::{Came, OverNew, Task};
+use crate::files::{Visit, output_of_new};
+use crate::keepers::{Outcome, OverNew, Task};
 use crate::rows::{COUNT, ROWS};
 use serde_json::Value;
 use sqlite::{Alter, Connection};
@@ -60,7 +60,7 @@ fn is_answered_so<K: Keeper>(alloc: Global, keeper: &mut K, row: Row<'_>) -> boo
 }
 
 impl Task for Row<'_> {
-    type Told = bool;
+    type Output = bool;
 
     /// Whether a new keeper gives these answers to the requests of the row.
     fn run<K: Keeper>(self, alloc: Global, keeper: &mut K) -> bool {
@@ -73,7 +73,7 @@ impl Task for Row<'_> {
 struct OverIndexedTables<'a>(Row<'a>);
 
 impl Visit for OverIndexedTables<'_> {
-    type Told = bool;
+    type Output = bool;
 
     fn visit<S: Alter + Drop>(self, alloc: Global, conn: Connection<S>) -> (bool, Option<S>) {
         match TableKeeper::make(alloc, conn) {
@@ -95,10 +95,10 @@ fn differing(alloc: Global, row: Row<'_>) -> Option<&'static str> {
     if !is_answered_so(alloc, &mut indexed, row) {
         return Some("with an index over memory");
     }
-    if told_of_new(alloc, OverNew(row)) != Some(Came::Told(true)) {
+    if output_of_new(alloc, OverNew(row)) != Some(Outcome::Done(true)) {
         return Some("over tables");
     }
-    if told_of_new(alloc, OverIndexedTables(row)) != Some(true) {
+    if output_of_new(alloc, OverIndexedTables(row)) != Some(true) {
         return Some("with an index over tables");
     }
     None

@@ -11,17 +11,17 @@ use streetmap_tables::TablesFault;
 /// What is done over a keeper, whatever it is.
 pub(crate) trait Task {
     /// Its result.
-    type Told;
+    type Output;
 
     /// Does it.
-    fn run<K: Keeper>(self, alloc: Global, keeper: &mut K) -> Self::Told;
+    fn run<K: Keeper>(self, alloc: Global, keeper: &mut K) -> Self::Output;
 }
 
 /// The result of a task over tables.
 #[derive(Clone, Copy, PartialEq)]
-pub(crate) enum Came<T> {
+pub(crate) enum Outcome<T> {
     /// There was a keeper, and this is the result.
-    Told(T),
+    Done(T),
     /// The tables are not this product's.
     NotOurs,
     /// There was no keeper, for another reason.
@@ -33,20 +33,20 @@ pub(crate) enum Came<T> {
 pub(crate) struct OverNew<T>(pub(crate) T);
 
 impl<T: Task + Drop> Visit for OverNew<T> {
-    type Told = Came<T::Told>;
+    type Output = Outcome<T::Output>;
 
     fn visit<S: Alter + Drop>(
         self,
         alloc: Global,
         conn: Connection<S>,
-    ) -> (Came<T::Told>, Option<S>) {
+    ) -> (Outcome<T::Output>, Option<S>) {
         let OverNew(task) = self;
         match TableKeeper::make(alloc, conn) {
             Ok(mut keeper) => {
-                let told = task.run(alloc, &mut keeper);
-                (Came::Told(told), Some(keeper.release().into_store()))
+                let output = task.run(alloc, &mut keeper);
+                (Outcome::Done(output), Some(keeper.release().into_store()))
             }
-            Err((_, conn)) => (Came::Refused, Some(conn.into_store())),
+            Err((_, conn)) => (Outcome::Refused, Some(conn.into_store())),
         }
     }
 }
@@ -56,21 +56,21 @@ impl<T: Task + Drop> Visit for OverNew<T> {
 pub(crate) struct OverOpened<T>(pub(crate) T);
 
 impl<T: Task + Drop> Visit for OverOpened<T> {
-    type Told = Came<T::Told>;
+    type Output = Outcome<T::Output>;
 
     fn visit<S: Alter + Drop>(
         self,
         alloc: Global,
         conn: Connection<S>,
-    ) -> (Came<T::Told>, Option<S>) {
+    ) -> (Outcome<T::Output>, Option<S>) {
         let OverOpened(task) = self;
         match TableKeeper::adopt(alloc, conn) {
             Ok(mut keeper) => {
-                let told = task.run(alloc, &mut keeper);
-                (Came::Told(told), Some(keeper.release().into_store()))
+                let output = task.run(alloc, &mut keeper);
+                (Outcome::Done(output), Some(keeper.release().into_store()))
             }
-            Err((TablesFault::NotOurs, conn)) => (Came::NotOurs, Some(conn.into_store())),
-            Err((_, conn)) => (Came::Refused, Some(conn.into_store())),
+            Err((TablesFault::NotOurs, conn)) => (Outcome::NotOurs, Some(conn.into_store())),
+            Err((_, conn)) => (Outcome::Refused, Some(conn.into_store())),
         }
     }
 }

@@ -7,6 +7,8 @@
 #[cfg(test)]
 mod answers;
 #[cfg(test)]
+mod crashes;
+#[cfg(test)]
 mod files;
 #[cfg(test)]
 mod http_rows;
@@ -18,5 +20,3 @@ mod opening;
 mod rows;
 #[cfg(test)]
 mod states;
-#[cfg(test)]
-mod stops;

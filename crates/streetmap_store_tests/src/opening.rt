@@ -1,5 +1,5 @@
 //! Tables of a connection, created beside others.
-use crate::files::{Visit, told_of_new};
+use crate::files::{Visit, output_of_new};
 use sqlite::{Alter, Connection};
 use std::alloc::Global;
 use std::test::Fail;
@@ -41,22 +41,22 @@ const BESIDE: &str =
 struct MakeBeside;
 
 impl Visit for MakeBeside {
-    type Told = [bool; 4];
+    type Output = [bool; 4];
 
     fn visit<S: Alter + Drop>(self, _: Global, conn: Connection<S>) -> ([bool; 4], Option<S>) {
         let mut conn = conn;
         let is_taken = ran(&mut conn, BESIDE) && taken(&mut conn);
         let is_made = ran(&mut conn, "DROP VIEW Streetmap_Batches") && made(&mut conn);
         let is_opened = taken(&mut conn) && opens(&mut conn);
-        let is_spared = notes(&mut conn) == Some(1);
-        let seen = [is_taken, is_made, is_opened, is_spared];
+        let is_kept = notes(&mut conn) == Some(1);
+        let seen = [is_taken, is_made, is_opened, is_kept];
         (seen, Some(conn.into_store()))
     }
 }
 
 #[test]
 fn tables_are_made_once_and_opened(rt: HostRuntime) -> Result<(), Fail> {
-    let seen = told_of_new(rt.alloc(), MakeBeside);
+    let seen = output_of_new(rt.alloc(), MakeBeside);
     assert_eq!(rt; seen, Some([true; 4]));
     Ok(())
 }

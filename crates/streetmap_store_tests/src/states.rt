@@ -2,7 +2,7 @@
 //! opened again.
 use crate::answers::{answers, is_answered};
 use crate::files::{ALL_CALLS, Fused, visit_again};
-use crate::keepers::{Came, OverOpened, Task};
+use crate::keepers::{Outcome, OverOpened, Task};
 use sqlite_disk::{Crash, Files};
 use std::alloc::Global;
 use std::test::Fail;
@@ -67,7 +67,7 @@ pub(crate) enum Seen {
     /// The tables are not this product's.
     NotOurs,
     /// The state after this number of batches; and if all act again, then that after all.
-    Behind(usize),
+    After(usize),
     /// Anything else.
     Other,
 }
@@ -91,13 +91,13 @@ pub(crate) struct Look<'a> {
 }
 
 impl Task for Look<'_> {
-    type Told = Seen;
+    type Output = Seen;
 
     /// What is seen of a keeper.
     fn run<K: Keeper>(self, alloc: Global, keeper: &mut K) -> Seen {
         match place(alloc, keeper, self.states) {
             Some(count) if !self.acts_again || acts_again(alloc, keeper, self.states) => {
-                Seen::Behind(count)
+                Seen::After(count)
             }
             _ => Seen::Other,
         }
@@ -107,9 +107,9 @@ impl Task for Look<'_> {
 /// What is seen of files that are opened again.
 fn reopened(alloc: Global, files: &Files<Fused>, look: Look<'_>) -> Result<Seen, Fail> {
     match visit_again(alloc, files, ALL_CALLS, OverOpened(look))?.0 {
-        Some(Came::Told(seen)) => Ok(seen),
-        Some(Came::NotOurs) => Ok(Seen::NotOurs),
-        Some(Came::Refused) | None => Ok(Seen::Other),
+        Some(Outcome::Done(seen)) => Ok(seen),
+        Some(Outcome::NotOurs) => Ok(Seen::NotOurs),
+        Some(Outcome::Refused) | None => Ok(Seen::Other),
     }
 }
 

@@ -3,14 +3,14 @@ use Rattle.std.proofs.Common.{◌≡◌, true, false, List, [], ◌∷◌, ◌++
 use Rattle.streetmap_http.specs.declared.fault.FramingFault.{FramingFault}
 use Rattle.streetmap_batch.specs.Text.{Text}
 use Rattle.streetmap_batch.specs.BatchValue.{BatchValue}
+use Rattle.streetmap_ledger.specs.Model.{Model}
 use Rattle.streetmap_ledger.specs.declared.reply.Fault.TheVariants.{Memory}
 use Rattle.streetmap_routes.specs.Ask.{faulty, batch}
 use Rattle.streetmap_bodies.specs.declared.request_fault.RequestFault.{RequestFault}
 use Rattle.streetmap_bodies.specs.declared.request_fault.RequestFault.TheVariants.{Framing, Keeper}
 use Rattle.streetmap_web.specs.Response.{ResponseValue, RequestValue, AnswerSent, broken_request, fault_response, response_text, sent_so, sent_as}
-use Rattle.streetmap_web.specs.Standing.{Standing, RequestOutcome, as_asked, no_memory, answer_by}
-use Rattle.streetmap_web.specs.Sight.{Sight, StandsSo}
-use Rattle.streetmap_web.specs.Responds.{ComesOut, AnswersAsk, RefusesBy, unasked_of}
+use Rattle.streetmap_web.specs.Standing.{Standing, RequestOutcome, as_asked, no_memory, answer_by, StandsSo}
+use Rattle.streetmap_web.specs.Responds.{ComesOut, AnswersAsk, RefusesBy, by_none}
 use Rattle.streetmap_web.specs.Exchanges.{HttpExchange, standing_after, standing_after_all}
 use Rattle.streetmap_web.specs.Coming.{ComesAll}
 use Rattle.streetmap_web.proofs.Standings.{as_asked_is_no_failure, no_memory_is_no_failure, fault_sent}
@@ -20,41 +20,42 @@ use Rattle.streetmap_web.proofs.Statuses.{starved_well}
 no_batch : (fault : RequestFault) (b : BatchValue) → faulty fault ≡ batch b → ⊥
 no_batch fault b e = cc
 
-module _ {K : Type 0} (sight : Sight K) (root : Text) (x : Standing) where
+module _ {K : Type 0} (model : Model K) (root : Text) (x : Standing) where
   -- what was sent is the answer
-  pub for_answer : (request : RequestValue) (outcome : RequestOutcome) (sent : AnswerSent) (old new : K) → ComesOut sight root x request outcome sent old new
-      → ComesOut sight root x request outcome (sent_as request (answer_by root x request.ask outcome)) old new
-  for_answer request outcome sent old new one = subst (λ (s : AnswerSent). ComesOut sight root x request outcome s old new) one.sent_is one
+  pub for_answer : (request : RequestValue) (outcome : RequestOutcome) (sent : AnswerSent) (old new : K) → ComesOut model root x request outcome sent old new
+      → ComesOut model root x request outcome (sent_as request (answer_by root x request.ask outcome)) old new
+  for_answer request outcome sent old new one = subst (λ (s : AnswerSent). ComesOut model root x request outcome s old new) one.sent_is one
 
-  -- memory was refused before the keeper was asked
-  pub starved_comes : (request : RequestValue) (sent : AnswerSent) (k : K) → sent ≡ sent_as request (fault_response (Keeper Memory)) → StandsSo sight k x
-      → ComesOut sight root x request no_memory sent k k
+  -- memory ran out before the keeper was called
+  pub starved_comes : (request : RequestValue) (sent : AnswerSent) (k : K) → sent ≡ sent_as request (fault_response (Keeper Memory)) → StandsSo model k x
+      → ComesOut model root x request no_memory sent k k
   starved_comes request sent k is h = record {
     can = can_lack_memory x request.ask;
     sent_is = is ∙ ap (sent_as request) (sym (no_memory_response root x request.ask));
-    standing = no_memory_after x (StandsSo sight k) request.ask h;
-    leaves = no_memory_leaves x request.ask (sight.may_leave k);
-    batch_answered = λ b e. unasked_of refl is;
+    standing = no_memory_after x (StandsSo model k) request.ask h;
+    leaves = no_memory_leaves x request.ask (model.may_leave k);
+    batch_answered = λ b e. by_none refl is;
     device = λ e. absurd (no_memory_is_no_failure e);
     shuts = λ asks e. absurd (starved_well (ap (λ (p : ResponseValue). p.status) (sym (no_memory_response root x request.ask)) ∙ e));
   }
 
-  -- a request that breaks a rule of framing asks no keeper
-  broken_comes : (bare : Bool) (fault : FramingFault) (sent : AnswerSent) (k : K) → sent ≡ sent_as (broken_request bare fault) (fault_response (Framing fault)) → StandsSo sight k x
-      → ComesOut sight root x (broken_request bare fault) as_asked sent k k
+  -- a request that breaks a rule of framing calls no keeper
+  broken_comes : (bare : Bool) (fault : FramingFault) (sent : AnswerSent) (k : K)
+      → sent ≡ sent_as (broken_request bare fault) (fault_response (Framing fault)) → StandsSo model k x
+      → ComesOut model root x (broken_request bare fault) as_asked sent k k
   broken_comes bare fault sent k is h = record {
     can = can_be_as_asked x fault;
     sent_is = is ∙ ap (sent_as (broken_request bare fault)) (sym (faulty_response root x fault));
-    standing = faulty_after x (StandsSo sight k) fault h;
-    leaves = faulty_leaves x fault (sight.may_leave k);
+    standing = faulty_after x (StandsSo model k) fault h;
+    leaves = faulty_leaves x fault (model.may_leave k);
     batch_answered = λ b e. absurd (no_batch (Framing fault) b e);
     device = λ e. absurd (as_asked_is_no_failure e);
     shuts = λ asks e. absurd (let bad : false ≡ true = asks in cc);
   }
 
-  -- it is told of the rule, or memory was refused for that
-  pub refused_comes : (text : Text) (bare : Bool) (fault : FramingFault) (k : K) → RefusesBy text bare fault → StandsSo sight k x
-      → AnswersAsk sight root x (broken_request bare fault) (sent_so text true) k k
+  -- it is told of the rule, or memory ran out for that
+  pub refused_comes : (text : Text) (bare : Bool) (fault : FramingFault) (k : K) → RefusesBy text bare fault → StandsSo model k x
+      → AnswersAsk model root x (broken_request bare fault) (sent_so text true) k k
   refused_comes text bare fault k (answer, inl is, same) h =
       let text_is : text ≡ response_text true bare (fault_response (Framing fault)) = same ∙ ap (λ f. response_text true bare (fault_response f)) is in
       (as_asked, broken_comes bare fault (sent_so text true) k (ap (λ (t : Text). sent_so t true) text_is) h)
@@ -62,8 +63,10 @@ module _ {K : Type 0} (sight : Sight K) (root : Text) (x : Standing) where
       let text_is : text ≡ response_text true bare (fault_response (Keeper Memory)) = same ∙ ap (λ f. response_text true bare (fault_response f)) is in
       (no_memory, starved_comes (broken_request bare fault) (sent_so text true) k (fault_sent (broken_request bare fault) Memory text text_is) h)
 
--- requests behind others
-pub comes_behind : {K : Type 0} (sight : Sight K) (root : Text) (x : Standing) (first mid last : K) (es fs : List HttpExchange) → ComesAll sight root x first es mid → ComesAll sight root (standing_after_all x es) mid fs last
-    → ComesAll sight root x first (es ++ fs) last
-comes_behind sight root x first mid last [] fs before behind = subst (λ k. ComesAll sight root x k fs last) before behind
-comes_behind sight root x first mid last (e ∷ es) fs before behind = (before.0, before.1, comes_behind sight root (standing_after x e) before.0 mid last es fs before.2 behind)
+-- requests after others
+pub comes_on : {K : Type 0} (model : Model K) (root : Text) (x : Standing) (first mid last : K) (es fs : List HttpExchange)
+    → ComesAll model root x first es mid → ComesAll model root (standing_after_all x es) mid fs last
+    → ComesAll model root x first (es ++ fs) last
+comes_on model root x first mid last [] fs before later = subst (λ k. ComesAll model root x k fs last) before later
+comes_on model root x first mid last (e ∷ es) fs before later =
+    (before.0, before.1, comes_on model root (standing_after x e) before.0 mid last es fs before.2 later)

@@ -1,17 +1,15 @@
 -- Exchanges, one after the other.
-use Rattle.std.proofs.Common.{◌≡◌, ◌++◌, List, [], ◌∷◌, Bool, true, false, refl, sym, subst, ap, ◌∙◌, Some, append_assoc, append-nil}
-use Rattle.std.specs.Prelude.{Option, ⊤}
+use Rattle.std.proofs.Common.{◌≡◌, ◌++◌, List, [], ◌∷◌, Bool, true, false, refl, sym, subst, ap, ◌∙◌, append_assoc, append-nil}
 use Rattle.streetmap_batch.specs.Text.{Text}
 use Rattle.streetmap_batch.specs.BatchValue.{BatchValue}
 use Rattle.streetmap_ledger.specs.State.{State}
 use Rattle.streetmap_ledger.specs.Batches.{after_all}
-use Rattle.streetmap_ledger.specs.Keep.{LeavesOnly}
 use Rattle.streetmap_ledger.specs.declared.reply.Cause.{Cause}
 use Rattle.streetmap_ledger.specs.declared.reply.Fault.TheVariants.{Memory, Device}
 use Rattle.streetmap_routes.specs.Ask.{AskValue, faulty, landing_page, api_text, conformance_classes, all_collections, one_collection, page, feature, batch}
 use Rattle.streetmap_web.specs.Response.{closes_with, state_in}
 use Rattle.streetmap_web.specs.Standing.{Standing, RequestOutcome, of_state, shut, unknown, as_asked, no_memory, device_failed}
-use Rattle.streetmap_web.specs.Standing.{of_keeper, CanBe, answer_by, after, Leaves, LeavesAsBefore, IsKnown}
+use Rattle.streetmap_web.specs.Standing.{of_keeper, CanBe, answer_by, after}
 use Rattle.streetmap_web.specs.Exchanges.{HttpExchange, IsExchange, GoOn, closes, standing_after, standing_after_all, all_requests, all_answers, answer_bytes, batches_of, with_batch, with_answered, after_batches}
 use Rattle.streetmap_web.proofs.Standings.{fault_closes}
 
@@ -24,27 +22,30 @@ pub requests-more : (es : List HttpExchange) (e : HttpExchange) → all_requests
 requests-more [] e = append-nil e.bytes
 requests-more (f ∷ es) e = ap (λ l. f.bytes ++ l) (requests-more es e) ∙ sym (append_assoc f.bytes (all_requests es) e.bytes)
 
-pub answers-more : (root : Text) (x : Standing) (es : List HttpExchange) (e : HttpExchange) → all_answers root x (es ++ e ∷ []) ≡ all_answers root x es ++ answer_bytes root (standing_after_all x es) e
+pub answers-more : (root : Text) (x : Standing) (es : List HttpExchange) (e : HttpExchange)
+    → all_answers root x (es ++ e ∷ []) ≡ all_answers root x es ++ answer_bytes root (standing_after_all x es) e
 answers-more root x [] e = append-nil (answer_bytes root x e)
 answers-more root x (f ∷ es) e =
     let y = standing_after x f in
     ap (λ l. answer_bytes root x f ++ l) (answers-more root y es e)
     ∙ sym (append_assoc (answer_bytes root x f) (all_answers root y es) (answer_bytes root (standing_after_all y es) e))
 
-pub standing-more : (x : Standing) (es : List HttpExchange) (e : HttpExchange) → standing_after_all x (es ++ e ∷ []) ≡ standing_after (standing_after_all x es) e
+pub standing-more : (x : Standing) (es : List HttpExchange) (e : HttpExchange)
+    → standing_after_all x (es ++ e ∷ []) ≡ standing_after (standing_after_all x es) e
 standing-more x [] e = refl
 standing-more x (f ∷ es) e = standing-more (standing_after x f) es e
 
--- ---- what a stop may leave
+-- ---- the condition after exchanges
 
--- the connection closes behind a fault, so what leaves it open was answered as asked
-open_as_asked : (root : Text) (s : State) (ask : AskValue) (asked : Bool) (o : RequestOutcome) → CanBe (of_state s) ask o → closes_with asked (answer_by root (of_state s) ask o) ≡ false → o ≡ as_asked
+-- the connection closes after a fault, so what leaves it open was answered as requested
+open_as_asked : (root : Text) (s : State) (ask : AskValue) (asked : Bool) (o : RequestOutcome) → CanBe (of_state s) ask o
+    → closes_with asked (answer_by root (of_state s) ask o) ≡ false → o ≡ as_asked
 open_as_asked root s ask asked as_asked can h = refl
 open_as_asked root s ask asked no_memory can h = let e : true ≡ false = fault_closes asked Memory ∙ h in cc
 open_as_asked root s ask asked device_failed can h = let e : true ≡ false = fault_closes asked Device ∙ h in cc
 open_as_asked root s ask asked (of_keeper shown) can h = absurd can
 
-pub batch_acts : (s : State) (ask : AskValue) (bs : List BatchValue) → after_all s (with_batch ask bs) ≡ after_all (state_in s ask) bs
+batch_acts : (s : State) (ask : AskValue) (bs : List BatchValue) → after_all s (with_batch ask bs) ≡ after_all (state_in s ask) bs
 batch_acts s (faulty fault) bs = refl
 batch_acts s landing_page bs = refl
 batch_acts s api_text bs = refl
@@ -55,14 +56,16 @@ batch_acts s (page name q) bs = refl
 batch_acts s (feature name id) bs = refl
 batch_acts s (batch b) bs = refl
 
-as_asked_acts : (s : State) (ask : AskValue) (o : RequestOutcome) (bs : List BatchValue) → o ≡ as_asked → after_all s (with_answered ask o bs) ≡ after_all (state_in s ask) bs
+as_asked_acts : (s : State) (ask : AskValue) (o : RequestOutcome) (bs : List BatchValue) → o ≡ as_asked
+    → after_all s (with_answered ask o bs) ≡ after_all (state_in s ask) bs
 as_asked_acts s ask o bs e = ap (λ p. after_all s (with_answered ask p bs)) e ∙ batch_acts s ask bs
 
 as_asked_after : (s : State) (ask : AskValue) (o : RequestOutcome) → o ≡ as_asked → after (of_state s) ask o ≡ of_state (state_in s ask)
 as_asked_after s ask o e = ap (after (of_state s) ask) e
 
 -- exchanges that leave the connection open take a state to the one after their batches
-pub states_after : (root : Text) (s : State) (es : List HttpExchange) → GoOn root (of_state s) es → standing_after_all (of_state s) es ≡ of_state (after_all s (batches_of es))
+states_after : (root : Text) (s : State) (es : List HttpExchange) → GoOn root (of_state s) es
+    → standing_after_all (of_state s) es ≡ of_state (after_all s (batches_of es))
 states_after root s [] h = refl
 states_after root s (e ∷ es) (first, opens, more) =
     let is : e.outcome ≡ as_asked = open_as_asked root s e.request.ask e.request.closes e.outcome first.can opens in
@@ -72,7 +75,7 @@ states_after root s (e ∷ es) (first, opens, more) =
     ∙ ap of_state (sym (as_asked_acts s e.request.ask e.outcome (batches_of es) is))
 
 -- a shut keeper stays shut
-pub stays_shut : (why : Cause) (es : List HttpExchange) → standing_after_all (shut why) es ≡ shut why
+stays_shut : (why : Cause) (es : List HttpExchange) → standing_after_all (shut why) es ≡ shut why
 stays_shut why [] = refl
 stays_shut why (e ∷ es) = stays_shut why es
 
@@ -81,68 +84,7 @@ stays_unknown : (es : List HttpExchange) → standing_after_all unknown es ≡ u
 stays_unknown [] = refl
 stays_unknown (e ∷ es) = stays_unknown es
 
--- the batches of one more exchange
-abbrev after_each : (s : State) (ask : AskValue) (o : RequestOutcome) → State
-after_each s ask as_asked = state_in s ask
-after_each s ask no_memory = s
-after_each s ask device_failed = s
-after_each s ask (of_keeper shown) = s
-
-each_acts : (s : State) (ask : AskValue) (o : RequestOutcome) (bs : List BatchValue) → after_all s (with_answered ask o bs) ≡ after_all (after_each s ask o) bs
-each_acts s ask as_asked bs = batch_acts s ask bs
-each_acts s ask no_memory bs = refl
-each_acts s ask device_failed bs = refl
-each_acts s ask (of_keeper shown) bs = refl
-
-batches-more : (s : State) (es : List HttpExchange) (e : HttpExchange) → e.outcome ≡ as_asked → after_all s (batches_of (es ++ e ∷ [])) ≡ state_in (after_all s (batches_of es)) e.request.ask
-batches-more s [] e is = as_asked_acts s e.request.ask e.outcome [] is
-batches-more s (f ∷ es) e is =
-    each_acts s f.request.ask f.outcome (batches_of (es ++ e ∷ []))
-    ∙ batches-more (after_each s f.request.ask f.outcome) es e is
-    ∙ ap (λ t. state_in t e.request.ask) (sym (each_acts s f.request.ask f.outcome (batches_of es)))
-
-leaves_state : (t : State) (known : Type 0) (old new : Option State → Type 0) (ask : AskValue) (o : RequestOutcome) → o ≡ as_asked → known
-    → Leaves (of_state t) ask o known old new → LeavesOnly new (Some (state_in t ask))
-leaves_state t known old new ask o is k leaves = subst (λ p. Leaves (of_state t) ask p known old new) is leaves k
-
--- what a stop may leave after exchanges that leave the connection open
-abbrev pub LeavesAll : Standing → List HttpExchange → (old new : Option State → Type 0) → Type 0
-LeavesAll (of_state s) es old new = LeavesOnly old (Some s) → LeavesOnly new (Some (after_all s (batches_of es)))
-LeavesAll (shut why) es old new = LeavesAsBefore old new
-LeavesAll unknown es old new = ⊤
-
-pub LeavesAll-none : (x : Standing) (left : Option State → Type 0) → LeavesAll x [] left left
-LeavesAll-none (of_state s) left = λ only. only
-LeavesAll-none (shut why) left = λ o. (λ h. h, λ h. h)
-LeavesAll-none unknown left = tt
-
-pub LeavesAll-more : (root : Text) (x : Standing) (es : List HttpExchange) (e : HttpExchange) (old middle new : Option State → Type 0) → GoOn root x es
-    → IsExchange (standing_after_all x es) e → closes root (standing_after_all x es) e ≡ false → LeavesAll x es old middle
-    → Leaves (standing_after_all x es) e.request.ask e.outcome (IsKnown (standing_after_all x es) middle) middle new → LeavesAll x (es ++ e ∷ []) old new
-LeavesAll-more root (of_state s) es e old middle new go_on is_one opens all leaves = λ only.
-    let t : State = after_all s (batches_of es) in
-    let same : standing_after_all (of_state s) es ≡ of_state t = states_after root s es go_on in
-    let can : CanBe (of_state t) e.request.ask e.outcome = subst (λ y. CanBe y e.request.ask e.outcome) same is_one.can in
-    let is : e.outcome ≡ as_asked = open_as_asked root t e.request.ask e.request.closes e.outcome can (subst (λ y. closes root y e ≡ false) same opens) in
-    let one : Leaves (of_state t) e.request.ask e.outcome (IsKnown (of_state t) middle) middle new = subst (λ y. Leaves y e.request.ask e.outcome (IsKnown y middle) middle new) same leaves in
-    subst (λ u. LeavesOnly new (Some u)) (sym (batches-more s es e is)) (leaves_state t (LeavesOnly middle (Some t)) middle new e.request.ask e.outcome is (all only) one)
-LeavesAll-more root unknown es e old middle new go_on is_one opens all leaves = tt
-LeavesAll-more root (shut why) es e old middle new go_on is_one opens all leaves =
-    let one : Leaves (shut why) e.request.ask e.outcome (IsKnown (shut why) middle) middle new = subst (λ y. Leaves y e.request.ask e.outcome (IsKnown y middle) middle new) (stays_shut why es) leaves in
-    λ o. (λ h. (all o).0 ((one o).0 h), λ h. (one o).1 ((all o).1 h))
-
--- what is known after them
-pub known_after : (root : Text) (x : Standing) (es : List HttpExchange) (old middle : Option State → Type 0) → GoOn root x es → LeavesAll x es old middle → IsKnown x old → IsKnown (standing_after_all x es) middle
-known_after root (of_state s) es old middle go_on all known = subst (λ y. IsKnown y middle) (sym (states_after root s es go_on)) (all known)
-known_after root (shut why) es old middle go_on all known = subst (λ y. IsKnown y middle) (sym (stays_shut why es)) tt
-known_after root unknown es old middle go_on all known = subst (λ y. IsKnown y middle) (sym (stays_unknown es)) tt
-
 pub batches_after : (root : Text) (x : Standing) (es : List HttpExchange) → GoOn root x es → standing_after_all x es ≡ after_batches x (batches_of es)
 batches_after root (of_state s) es go_on = states_after root s es go_on
 batches_after root (shut why) es go_on = stays_shut why es
 batches_after root unknown es go_on = stays_unknown es
-
-pub as_before_after : (x : Standing) (es : List HttpExchange) (old middle : Option State → Type 0) (why : Cause) → standing_after_all x es ≡ shut why → LeavesAll x es old middle → (root : Text) → GoOn root x es → LeavesAsBefore old middle
-as_before_after (of_state s) es old middle why e all root go_on = let wrong : of_state (after_all s (batches_of es)) ≡ shut why = sym (states_after root s es go_on) ∙ e in cc
-as_before_after (shut cause) es old middle why e all root go_on = all
-as_before_after unknown es old middle why e all root go_on = let wrong : unknown ≡ shut why = sym (stays_unknown es) ∙ e in cc

@@ -11,7 +11,9 @@ use Rattle.streetmap_web.specs.Standing.{Standing}
 use Rattle.streetmap_web.specs.StreamEnds.{EndsSo}
 use Rattle.streetmap_web.specs.Turns.{end_of}
 use Rattle.streetmap_web.specs.Exchanges as web
-use Rattle.streetmap_web.specs.Exchanges.{HttpExchange, Around, IsExchange, TurnSays, last_of}
+use Rattle.streetmap_ledger.specs.Model.{Model}
+use Rattle.streetmap_web.specs.Exchanges.{HttpExchange, IsExchange}
+use Rattle.streetmap_web.specs.ServedStream.{Around, TurnSays, last_of}
 use Rattle.streetmap_web.specs.ServingClients.{AnsweredInTurn, IsAnswerTo}
 use Rattle.streetmap_web.specs.declared.serving.End.{End}
 use Rattle.streetmap_web.specs.declared.serving.End.TheVariants as variants
@@ -60,7 +62,8 @@ pub record IsLast (root : Text) (y : Standing) (a : Around) (end : End) (last : 
   pub ends : EndsSo end (closes_last root y last) unsent left a.input_after
 
 module _ (root : Text) (y : Standing) (a : Around) where
-  one : (end : End) (w : HttpExchange) → IsExchange y w → Consumes a.input_before a.input_after w.bytes → (part unsent : Text) → Appends a.output_before a.output_after part
+  one : (end : End) (w : HttpExchange) → IsExchange y w → Consumes a.input_before a.input_after w.bytes → (part unsent : Text)
+      → Appends a.output_before a.output_after part
       → web.answer_bytes root y w ≡ part ++ unsent → EndsSo end (web.closes root y w) unsent a.input_after a.input_after → IsLast root y a end (w ∷ [])
   one end w is read part unsent written parts ends = record {
     answered = (is_answer root y w is, tt);
@@ -89,13 +92,16 @@ module _ (root : Text) (y : Standing) (a : Around) where
     ends = ends;
   }
 
-  pub is_last : (turn : Turn) (says : TurnSays turn root y a) → turn ≢ Open → IsLast root y a (end_of turn) (last_of turn root y a says)
-  is_last Open says shut = absurd (shut refl)
-  is_last Closed says shut =
-      one variants.Ended says.0 says.1.is says.1.read (web.answer_bytes root y says.0) [] says.2 (sym (append-nil (web.answer_bytes root y says.0))) (refl, inl (says.3, refl))
-  is_last (WriteFailed begun) says shut =
+  pub is_last : {K : Type 0} (model : Model K) (new : K) (turn : Turn) (says : TurnSays model turn root y a new) → turn ≢ Open
+      → IsLast root y a (end_of turn) (last_of model turn root y a new says)
+  is_last model new Open says shut = absurd (shut refl)
+  is_last model new Closed says shut =
+      one variants.Ended says.0 says.1.is says.1.read (web.answer_bytes root y says.0) [] says.2 (sym (append-nil (web.answer_bytes root y says.0)))
+      (refl, inl (says.3, refl))
+  is_last model new (WriteFailed begun) says shut =
       let text = web.answer_bytes root y says.0 in
-      one variants.WriteFailed says.0 says.1.is says.1.read (take says.2 text) (drop says.2 text) says.5 (sym (take-append-drop says.2 text)) (more_left says.2 text says.3, refl)
-  is_last Ended says shut = none variants.Ended says.0.written (refl, inr (says.1, says.2, says.3, says.4))
-  is_last Truncated says shut = none variants.Truncated says.0.written (refl, (says.1, says.2, says.3, says.4))
-  is_last ReadFailed says shut = none variants.ReadFailed says.written refl
+      one variants.WriteFailed says.0 says.1.is says.1.read (take says.2 text) (drop says.2 text) says.5 (sym (take-append-drop says.2 text))
+      (more_left says.2 text says.3, refl)
+  is_last model new Ended says shut = none variants.Ended says.0.written (refl, inr (says.1, says.2, says.3, says.4))
+  is_last model new Truncated says shut = none variants.Truncated says.0.written (refl, (says.1, says.2, says.3, says.4))
+  is_last model new ReadFailed says shut = none variants.ReadFailed says.written refl

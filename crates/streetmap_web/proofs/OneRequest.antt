@@ -9,17 +9,20 @@ use Rattle.streetmap_http.specs.declared.fault.FramingFault.{FramingFault}
 use Rattle.streetmap_http.proofs.Fronts.{front_unique}
 use Rattle.streetmap_batch.specs.Text.{Text}
 use Rattle.streetmap_web.specs.Response.{AnswerSent, request_of, broken_request, sent_so}
-use Rattle.streetmap_web.specs.Standing.{Standing}
-use Rattle.streetmap_web.specs.Sight.{Sight, StandsSo}
-use Rattle.streetmap_web.specs.Responds.{AnswersAsk, RefusesBy}
+use Rattle.streetmap_ledger.specs.Model.{Model}
+use Rattle.streetmap_web.specs.Standing.{Standing, StandsSo}
+use Rattle.streetmap_web.specs.Responds.{Answers, AnswersAsk, TellsBatch, RefusesBy}
+use Rattle.streetmap_web.specs.Answering.{AnswersOne}
 use Rattle.streetmap_web.specs.Exchanges.{whole, broken}
 use Rattle.streetmap_web.specs.Coming.{AnswersRequest}
+use Rattle.streetmap_web.proofs.CallsInARow.{no_calls}
 use Rattle.streetmap_web.proofs.Coming.{refused_comes}
 
-module _ {K : Type 0} (sight : Sight K) (root : Text) (x : Standing) where
+module _ {K : Type 0} (model : Model K) (root : Text) (x : Standing) where
   -- a whole request
-  pub whole_answered : (h : HeadValue) (bytes body : Text) (sent : AnswerSent) (old new : K) → IsRequest bytes h body → AnswersAsk sight root x (request_of h body) sent old new
-      → AnswersRequest sight root x bytes sent old new
+  whole_answered : (h : HeadValue) (bytes body : Text) (sent : AnswerSent) (old new : K) → IsRequest bytes h body
+      → AnswersAsk model root x (request_of h body) sent old new
+      → AnswersRequest model root x bytes sent old new
   whole_answered h bytes body sent old new is (outcome, one) = record {
     exchange = record { bytes = bytes; request = request_of h body; outcome = outcome };
     bytes_are = refl;
@@ -28,10 +31,10 @@ module _ {K : Type 0} (sight : Sight K) (root : Text) (x : Standing) where
   }
 
   -- one that breaks a rule of framing
-  pub broken_answered : (bytes text : Text) (bare : Bool) (fault : FramingFault) (k : K) → Breaks bytes bare fault → RefusesBy text bare fault → StandsSo sight k x
-      → AnswersRequest sight root x bytes (sent_so text true) k k
+  broken_answered : (bytes text : Text) (bare : Bool) (fault : FramingFault) (k : K) → Breaks bytes bare fault → RefusesBy text bare fault → StandsSo model k x
+      → AnswersRequest model root x bytes (sent_so text true) k k
   broken_answered bytes text bare fault k breaks refuses h =
-      let (outcome, one) = refused_comes sight root x text bare fault k refuses h in
+      let (outcome, one) = refused_comes model root x text bare fault k refuses h in
       record {
         exchange = record { bytes = bytes; request = broken_request bare fault; outcome = outcome };
         bytes_are = refl;
@@ -42,7 +45,7 @@ module _ {K : Type 0} (sight : Sight K) (root : Text) (x : Standing) where
 -- ---- bytes are one request
 
 -- which breaks no rule
-pub not_broken : (bytes body : Text) (h : HeadValue) (bare : Bool) (fault : FramingFault) → IsRequest bytes h body → Breaks bytes bare fault → ⊥
+not_broken : (bytes body : Text) (h : HeadValue) (bare : Bool) (fault : FramingFault) → IsRequest bytes h body → Breaks bytes bare fault → ⊥
 not_broken bytes body h bare fault is breaks =
     let front : request (record { bytes = bytes; head = h; body = body }) ≡ stops (refused bytes bare fault) =
     front_unique bytes _ _ (is, ([], sym (append-nil bytes))) (breaks, ([], sym (append-nil bytes))) in
@@ -54,14 +57,35 @@ same_request r q e = cc
 same_front : (bytes : Text) (h k : HeadValue) (a b : Text) → IsRequest bytes h a → IsRequest bytes k b
     → ◌≡◌ {A = Request} (record { bytes = bytes; head = h; body = a }) (record { bytes = bytes; head = k; body = b })
 same_front bytes h k a b one other =
-    same_request _ _ (front_unique bytes (request (record { bytes = bytes; head = h; body = a })) (request (record { bytes = bytes; head = k; body = b })) (one, ([], sym (append-nil bytes))) (other, ([], sym (append-nil bytes))))
+    let one_is = request (record { bytes = bytes; head = h; body = a }) in
+    let other_is = request (record { bytes = bytes; head = k; body = b }) in
+    same_request _ _ (front_unique bytes one_is other_is (one, ([], sym (append-nil bytes))) (other, ([], sym (append-nil bytes))))
 
 -- and says one thing
-pub said_of : (bytes : Text) (h k : HeadValue) (a b : Text) (P : HeadValue → Text → Type 0) → IsRequest bytes h a → IsRequest bytes k b → P k b → P h a
+said_of : (bytes : Text) (h k : HeadValue) (a b : Text) (P : HeadValue → Text → Type 0) → IsRequest bytes h a → IsRequest bytes k b → P k b → P h a
 said_of bytes h k a b P one other says =
     let same = same_front bytes h k a b one other in
     subst (λ (r : Request). P r.head r.body) (sym same) says
 
--- what splitting says where it is known what the bytes say
+-- ---- what is said of one request
+
+module _ {K : Type 0} (model : Model K) (root : Text) where
+  pub whole_answers : (h : HeadValue) (bytes body : Text) (sent : AnswerSent) (old new : K) → IsRequest bytes h body
+      → Answers model root (request_of h body) sent old new → AnswersOne model root old bytes sent new
+  whole_answers h bytes body sent old new is says = record {
+    calls = says.calls;
+    answered = λ clean x stands. whole_answered model root x h bytes body sent old new is (says.answered clean x stands);
+    batch_answered = λ k a one. said_of bytes k h a body (λ k a. TellsBatch model (request_of k a) sent old new) one is says.batch_answered;
+  }
+
+  pub broken_answers : (bytes text : Text) (bare : Bool) (fault : FramingFault) (k : K) → Breaks bytes bare fault → RefusesBy text bare fault
+      → AnswersOne model root k bytes (sent_so text true) k
+  broken_answers bytes text bare fault k breaks refuses = record {
+    calls = no_calls model k;
+    answered = λ clean x stands. broken_answered model root x bytes text bare fault k breaks refuses stands;
+    batch_answered = λ h body is. absurd (not_broken bytes body h bare fault is breaks);
+  }
+
+-- what splitting says if it is known what the bytes say
 pub split_as : (f g : Framed) (body bytes : Text) → f ≡ g → SplitsAs (framing_value f) body bytes → SplitsAs (framing_value g) body bytes
 split_as f g body bytes is says = subst (λ k. SplitsAs (framing_value k) body bytes) is says

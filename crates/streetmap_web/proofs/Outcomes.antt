@@ -1,4 +1,4 @@
--- Requests that were answered as asked, or for which memory was refused.
+-- Requests that were answered as requested, or for which memory ran out.
 use Rattle.std.proofs.Common.{◌≡◌, refl}
 use Rattle.std.specs.Prelude.{Option}
 use Rattle.streetmap_http.specs.declared.fault.FramingFault.{FramingFault}
@@ -9,7 +9,7 @@ use Rattle.streetmap_routes.specs.Ask.{AskValue, faulty}
 use Rattle.streetmap_bodies.specs.declared.request_fault.RequestFault.TheVariants.{Keeper, Framing}
 use Rattle.streetmap_web.specs.Response.{fault_response}
 use Rattle.streetmap_web.specs.Standing.{Standing, of_state, shut, unknown, as_asked, no_memory, answer_by}
-use Rattle.streetmap_web.specs.Standing.{after, CanBe, Leaves, LeavesUntouched, IsKnown}
+use Rattle.streetmap_web.specs.Standing.{after, CanBe, Leaves}
 
 pub faulty_after : (x : Standing) (stands : Standing → Type 0) (fault : FramingFault) → stands x → stands (after x (faulty (Framing fault)) as_asked)
 faulty_after (of_state s) stands fault h = h
@@ -21,8 +21,8 @@ faulty_response root (of_state s) fault = refl
 faulty_response root (shut why) fault = refl
 faulty_response root unknown fault = refl
 
-pub faulty_leaves : (x : Standing) (fault : FramingFault) (leaves : Option State → Type 0) → Leaves x (faulty (Framing fault)) as_asked (IsKnown x leaves) leaves leaves
-faulty_leaves (of_state s) fault leaves = λ only. only
+pub faulty_leaves : (x : Standing) (fault : FramingFault) (leaves : Option State → Type 0) → Leaves x (faulty (Framing fault)) as_asked leaves leaves
+faulty_leaves (of_state s) fault leaves = tt
 faulty_leaves (shut why) fault leaves = λ o. (λ h. h, λ h. h)
 faulty_leaves unknown fault leaves = tt
 
@@ -36,8 +36,8 @@ no_memory_after (of_state s) stands ask h = h
 no_memory_after (shut why) stands ask h = h
 no_memory_after unknown stands ask h = h
 
-pub no_memory_leaves : (x : Standing) (ask : AskValue) (leaves : Option State → Type 0) → Leaves x ask no_memory (IsKnown x leaves) leaves leaves
-no_memory_leaves (of_state s) ask leaves = λ only. only
+pub no_memory_leaves : (x : Standing) (ask : AskValue) (leaves : Option State → Type 0) → Leaves x ask no_memory leaves leaves
+no_memory_leaves (of_state s) ask leaves = tt
 no_memory_leaves (shut why) ask leaves = λ o. (λ h. h, λ h. h)
 no_memory_leaves unknown ask leaves = tt
 
@@ -50,9 +50,3 @@ pub can_lack_memory : (x : Standing) (ask : AskValue) → CanBe x ask no_memory
 can_lack_memory (of_state s) ask = tt
 can_lack_memory (shut why) ask = tt
 can_lack_memory unknown ask = tt
-
--- where nothing was acted on
-pub stays : (x : Standing) (leaves : Option State → Type 0) → LeavesUntouched x (IsKnown x leaves) leaves leaves
-stays (of_state s) leaves = λ known. known
-stays (shut why) leaves = λ o. (λ h. h, λ h. h)
-stays unknown leaves = tt

@@ -1,28 +1,18 @@
 -- Requests of a stream with their answers.
-use Rattle.std.specs.Prelude.{◌≡◌, ◌≢◌, ℕ, ◌<◌, ◌+◌, ◌++◌, List, [], ◌∷◌, Bool, true, false}
-use Rattle.std.specs.Prelude.{length, take, Option, nat_lt, if◌then◌else◌, ⊤}
+use Rattle.std.specs.Prelude.{◌≡◌, ◌++◌, List, [], ◌∷◌, Bool, false, ⊤}
 use Rattle.std.specs.List.{flat_map}
-use Rattle.std.specs.Io.KnownBytes.{Consumes, Appends, Keeps, IsAtEnd}
-use Rattle.streetmap_http.specs.Head.{IsHead, IsBlank}
-use Rattle.streetmap_http.specs.Streams.{IsUnfinished}
+use Rattle.streetmap_http.specs.Head.{IsHead}
 use Rattle.streetmap_http.specs.Framing.{HeadValue, sized, Frames, Breaks, IsRequest}
 use Rattle.streetmap_http.specs.declared.fault.FramingFault.{FramingFault}
 use Rattle.streetmap_batch.specs.Text.{Text}
 use Rattle.streetmap_batch.specs.BatchValue.{BatchValue}
-use Rattle.streetmap_ledger.specs.State.{State}
 use Rattle.streetmap_ledger.specs.Batches.{after_all}
 use Rattle.streetmap_routes.specs.Ask.{AskValue, batch}
 use Rattle.streetmap_web.specs.Response.{ResponseValue, RequestValue, request_of, broken_request}
 use Rattle.streetmap_web.specs.Response.{AnswerSent, sent_as, closes_with, response_text}
 use Rattle.streetmap_web.specs.Standing.{Standing, RequestOutcome, as_asked, no_memory}
 use Rattle.streetmap_web.specs.Standing.{device_failed, of_keeper}
-use Rattle.streetmap_web.specs.Standing.{CanBe, answer_by, after, Leaves, LeavesUntouched}
-use Rattle.streetmap_web.specs.Standing.{of_state, shut, unknown}
-use Rattle.streetmap_web.specs.Turns.{begun_in, end_of}
-use Rattle.streetmap_web.specs.declared.serving.End.{End}
-use Rattle.streetmap_web.specs.declared.serving.Turn.{Turn}
-use Rattle.streetmap_web.specs.declared.serving.Turn.TheVariants.{Open, Closed, Ended, Truncated}
-use Rattle.streetmap_web.specs.declared.serving.Turn.TheVariants.{ReadFailed, WriteFailed}
+use Rattle.streetmap_web.specs.Standing.{CanBe, answer_by, after, of_state, shut, unknown}
 
 -- one request of the stream: its bytes, what it says, and its outcome
 pub record HttpExchange : Type 0 where
@@ -107,83 +97,3 @@ abbrev pub after_batches : Standing → List BatchValue → Standing
 after_batches (of_state s) bs = of_state (after_all s bs)
 after_batches (shut why) bs = shut why
 after_batches unknown bs = unknown
-
--- ---- ends
-
--- a keeper, a reader and a writer before and after; what was known of the states that a crash may
--- leave; and by which exchanges the first keeper became the second
-pub record Around : Type 1 where
-  pub input_before : Option Text
-  pub input_after : Option Text
-  pub output_before : Option Text
-  pub output_after : Option Text
-  pub stands : Standing → Type 0
-  pub known : Type 0
-  pub crash_before : Option State → Type 0
-  pub crash_after : Option State → Type 0
-  pub comes : List HttpExchange → Type 0
-
--- a request was read and acted on: its bytes are off the reader, the keeper is in the condition
--- after it, and a crash leaves what `Leaves` allows
-pub record Acted (x : Standing) (e : HttpExchange) (a : Around) : Type 0 where
-  pub is : IsExchange x e
-  pub read : Consumes a.input_before a.input_after e.bytes
-  pub stands : a.stands (standing_after x e)
-  pub leaves : Leaves x e.request.ask e.outcome a.known a.crash_before a.crash_after
-
--- no request was acted on, and nothing was written
-pub record AnswersNothing (x : Standing) (a : Around) : Type 0 where
-  pub written : Keeps a.output_before a.output_after
-  pub stands : a.stands x
-  pub leaves : LeavesUntouched x a.known a.crash_before a.crash_after
-
--- what a turn did
-abbrev pub TurnSays : Turn → Text → Standing → Around → Type 0
-TurnSays Open root x a = (e : HttpExchange) × Acted x e a
-    × Appends a.output_before a.output_after (answer_bytes root x e) × (closes root x e ≡ false)
-TurnSays Closed root x a = (e : HttpExchange) × Acted x e a
-    × Appends a.output_before a.output_after (answer_bytes root x e) × (closes root x e ≡ true)
-TurnSays (WriteFailed begun) root x a = (e : HttpExchange) × Acted x e a × (n : ℕ)
-    × (n < length (answer_bytes root x e)) × (begun ≡ nat_lt 0 n)
-    × Appends a.output_before a.output_after (take n (answer_bytes root x e))
-TurnSays Ended root x a = AnswersNothing x a × (bytes : Text) × IsBlank bytes
-    × Consumes a.input_before a.input_after bytes × IsAtEnd a.input_after
-TurnSays Truncated root x a = AnswersNothing x a × (bytes : Text) × IsUnfinished bytes
-    × Consumes a.input_before a.input_after bytes × IsAtEnd a.input_after
-TurnSays ReadFailed root x a = AnswersNothing x a
-
--- the request that was answered in a turn, if one was
-abbrev pub last_of :
-    (turn : Turn) (root : Text) (x : Standing) (a : Around) → TurnSays turn root x a
-    → List HttpExchange
-last_of Open root x a says = says.0 ∷ []
-last_of Closed root x a says = says.0 ∷ []
-last_of (WriteFailed begun) root x a says = says.0 ∷ []
-last_of Ended root x a says = []
-last_of Truncated root x a says = []
-last_of ReadFailed root x a says = []
-
--- what a turn did, and that its request led from the first keeper to the second
-abbrev pub TurnComes : Turn → Text → Standing → Around → Type 0
-TurnComes turn root x a =
-    (says : TurnSays turn root x a) × a.comes (last_of turn root x a says)
-
--- what was served: exchanges that leave the connection open, and then the turn that ends it; all of
--- them together led from the first keeper to the second
-pub record ServesExchanges (root : Text) (end : End) (count : ℕ) (x : Standing) (a : Around)
-    : Type 0 where
-  pub exchanges : List HttpExchange
-  pub turn : Turn
-  pub middle : Option Text
-  pub written : Option Text
-  pub go_on : GoOn root x exchanges
-  pub read : Consumes a.input_before middle (all_requests exchanges)
-  pub answered : Appends a.output_before written (all_answers root x exchanges)
-  pub batches : standing_after_all x exchanges ≡ after_batches x (batches_of exchanges)
-  pub ends :
-      TurnSays turn root (standing_after_all x exchanges)
-      (record a { input_before = middle; output_before = written })
-  pub end_is : end ≡ end_of turn
-  pub closed : turn ≢ Open
-  pub counted : count ≡ (if begun_in turn then length exchanges + 1 else length exchanges)
-  pub comes : a.comes (exchanges ++ last_of turn root _ _ ends)

@@ -1,15 +1,13 @@
 pub mod Response
 pub mod Standing
-pub mod Sight
 pub mod Responds
 pub mod Turns
 pub mod StreamEnds
 pub mod Exchanges
 pub mod Coming
-pub mod Beginnings
+pub mod ServedStream
 pub mod Answering
 pub mod Log
 pub mod Refusing
 pub mod ServingClients
-pub mod SurvivingClients
 pub mod Watching

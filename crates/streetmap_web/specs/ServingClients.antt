@@ -2,6 +2,7 @@
 use Rattle.std.specs.Prelude.{◌≡◌, ◌≤◌, ℕ, List, [], ◌∷◌, length, map, flat_map, All, ⊤}
 use Rattle.mio.specs.declared.net.stream.TcpStream.{TcpStream}
 use Rattle.streetmap_batch.specs.Text.{Text}
+use Rattle.streetmap_ledger.specs.Model.{Model}
 use Rattle.streetmap_connections.specs.declared.slot.Slot.{Slot}
 use Rattle.streetmap_connections.specs.Clients.{exchanges_of, IsOrderly}
 use Rattle.streetmap_connections.specs.History.{Exchange}
@@ -13,8 +14,7 @@ use Rattle.streetmap_connections.specs.Timeline.{Timeline}
 use Rattle.streetmap_web.specs.Coming.{ComesAll}
 use Rattle.streetmap_web.specs.Exchanges as web
 use Rattle.streetmap_web.specs.Refusing.{IsRefusal}
-use Rattle.streetmap_web.specs.Sight.{Sight, StandsSo}
-use Rattle.streetmap_web.specs.Standing.{Standing}
+use Rattle.streetmap_web.specs.Standing.{Standing, StandsSo}
 
 -- the exchange is this request of the web, answered by a keeper in this condition
 pub record IsAnswerTo (root : Text) (x : Standing) (e : Exchange) (w : web.HttpExchange)
@@ -41,8 +41,8 @@ AnsweredInTurn root x (e ∷ es) (w ∷ ws) = IsAnswerTo root x e w
 -- not answered; what was sent to it are their answers, as far as they were sent, and then at most
 -- the refusal of a request for which memory ran out: the fixed answer 503. These requests led from
 -- the first keeper to the second: each batch was answered by the result of `apply`, or the keeper
--- was never called for it.
-pub record ServesClients {K : Type 0} (sight : Sight K) (root : Text) (x : Standing) (old new : K)
+-- was never called for it, and of each request it is said what a crash may leave after it.
+pub record ServesClients {K : Type 0} (model : Model K) (root : Text) (x : Standing) (old new : K)
     (before after : List (Slot TcpStream)) : Type 0 where
   pub exchanges : List Exchange
   pub interleaved : GoesOnAs (map exchanges_of (flat_map clients_in before)) exchanges
@@ -54,17 +54,17 @@ pub record ServesClients {K : Type 0} (sight : Sight K) (root : Text) (x : Stand
       → AreRefused IsRefusal (flat_map refusals_in after)
   pub requests : List web.HttpExchange
   pub answered : AnsweredInTurn root x exchanges requests
-  pub standing : StandsSo sight new (web.standing_after_all x requests)
-  pub comes : ComesAll sight root x old requests new
+  pub standing : StandsSo model new (web.standing_after_all x requests)
+  pub comes : ComesAll model root x old requests new
 
 -- The clients of one place that was empty before: they were served one after the other. The
 -- requests are those of the clients' own lists, one list after the other, in the order in which the
 -- clients were admitted. If the call is done, at least that number of them ended.
-pub record ServesInRow {K : Type 0} (sight : Sight K) (root : Text) (x : Standing) (old new : K)
+pub record ServesInRow {K : Type 0} (model : Model K) (root : Text) (x : Standing) (old new : K)
     (count : ℕ) (Done : Type 0) : Type 0 where
   pub before : List (Slot TcpStream)
   pub after : List (Slot TcpStream)
   pub nobody : flat_map clients_in before ≡ []
-  pub serves : ServesClients sight root x old new before after
+  pub serves : ServesClients model root x old new before after
   pub in_row : serves.exchanges ≡ flat_map exchanges_of (flat_map clients_in after)
   pub counted : Done → count ≤ length (ended_in after)

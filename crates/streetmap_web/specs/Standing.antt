@@ -1,8 +1,9 @@
 -- The condition of a keeper, how requests change it, and what a crash may leave.
-use Rattle.std.specs.Prelude.{◌≡◌, ◌↔◌, true, false, Option, Some, ⊤}
+use Rattle.std.specs.Prelude.{◌≡◌, true, false, Option, Some, ⊤}
 use Rattle.streetmap_batch.specs.Text.{Text}
 use Rattle.streetmap_ledger.specs.State.{State}
-use Rattle.streetmap_ledger.specs.Keep.{LeavesOnly, LeavesEither}
+use Rattle.streetmap_ledger.specs.Model.{Model}
+use Rattle.streetmap_ledger.specs.Keep.{LeavesEither, LeavesSame}
 use Rattle.streetmap_ledger.specs.declared.reply.Cause.{Cause}
 use Rattle.streetmap_ledger.specs.declared.reply.Cause.TheVariants as causes
 use Rattle.streetmap_ledger.specs.declared.reply.Fault.TheVariants.{Memory, Device}
@@ -11,18 +12,23 @@ use Rattle.streetmap_web.specs.Response.{ResponseValue, fault_response, response
 use Rattle.streetmap_web.specs.Response.{asks_state, state_in}
 use Rattle.streetmap_bodies.specs.declared.request_fault.RequestFault.TheVariants.{Keeper}
 
+-- calls led from the first keeper to the second, or none was made: they spared what else the store
+-- has, and took none that failed for clean
+pub record ByCalls {K : Type 0} (model : Model K) (old new : K) : Type 0 where
+  pub spared : model.spares old new
+  pub began_clean : model.is_clean new → model.is_clean old
+
 -- a keeper represents a state, or it is shut; or nothing is known of it
 pub data Standing : Type 0 where
   of_state : State → Standing
   shut : Cause → Standing
   unknown : Standing
 
--- the keeper that represents these states, and that this shut, is in this condition; every keeper
--- is in the unknown one
-abbrev pub KeeperStands : (State → Type 0) → Option Cause → Standing → Type 0
-KeeperStands stands cause (of_state s) = stands s
-KeeperStands stands cause (shut why) = cause ≡ Some why
-KeeperStands stands cause unknown = ⊤
+-- the keeper is in this condition; every keeper is in the unknown one
+abbrev pub StandsSo : {K : Type 0} → Model K → K → Standing → Type 0
+StandsSo model keeper (of_state s) = model.represents keeper s
+StandsSo model keeper (shut why) = model.cause keeper ≡ Some why
+StandsSo model keeper unknown = ⊤
 
 -- the outcome of a request: it was answered as requested, memory ran out, or the device failed; or
 -- this is the answer of a keeper of which nothing is known
@@ -67,35 +73,14 @@ after (of_state s) ask (of_keeper shown) = of_state s
 after (shut why) ask outcome = shut why
 after unknown ask outcome = unknown
 
--- what a crash may leave after a request, if before it could leave only the state
-abbrev pub StateLeaves : State → AskValue → RequestOutcome → (Option State → Type 0) → Type 0
-StateLeaves s ask as_asked left = LeavesOnly left (Some (state_in s ask))
-StateLeaves s ask no_memory left = LeavesOnly left (Some s)
-StateLeaves s ask device_failed left = LeavesEither left (Some s) (Some (state_in s ask))
-StateLeaves s ask (of_keeper shown) left = LeavesOnly left (Some s)
-
--- exactly what it could leave before
-abbrev pub LeavesAsBefore : (old new : Option State → Type 0) → Type 0
-LeavesAsBefore old new = (o : Option State) → new o ↔ old o
-
--- what is known before: if the keeper represents a state, a crash may leave only that
-abbrev pub IsKnown : Standing → (Option State → Type 0) → Type 0
-IsKnown (of_state s) left = LeavesOnly left (Some s)
-IsKnown (shut why) left = ⊤
-IsKnown unknown left = ⊤
-
--- what a crash may leave after a request, if this was known before; after one to a shut keeper
--- exactly what it could leave before
-abbrev pub Leaves :
-    Standing → AskValue → RequestOutcome → (known : Type 0) → (old new : Option State → Type 0)
+-- what a crash may leave after a request. If the device failed, it is the state before or the one
+-- after; after a request to a shut keeper it is exactly what it could leave before. A keeper that
+-- still represents a state leaves that state, by its model.
+abbrev pub Leaves : Standing → AskValue → RequestOutcome → (old new : Option State → Type 0)
     → Type 0
-Leaves (of_state s) ask outcome known old new = known → StateLeaves s ask outcome new
-Leaves (shut why) ask outcome known old new = LeavesAsBefore old new
-Leaves unknown ask outcome known old new = ⊤
-
--- what a crash may leave if nothing was acted on
-abbrev pub LeavesUntouched : Standing → (known : Type 0) → (old new : Option State → Type 0)
-    → Type 0
-LeavesUntouched (of_state s) known old new = known → LeavesOnly new (Some s)
-LeavesUntouched (shut why) known old new = LeavesAsBefore old new
-LeavesUntouched unknown known old new = ⊤
+Leaves (of_state s) ask as_asked old new = ⊤
+Leaves (of_state s) ask no_memory old new = ⊤
+Leaves (of_state s) ask device_failed old new = LeavesEither new (Some s) (Some (state_in s ask))
+Leaves (of_state s) ask (of_keeper shown) old new = ⊤
+Leaves (shut why) ask outcome old new = LeavesSame old new
+Leaves unknown ask outcome old new = ⊤

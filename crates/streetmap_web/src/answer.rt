@@ -1,24 +1,13 @@
 //! Answers to requests, over any keeper.
-ghost use Rattle.std.specs.Prelude.{◌≡◌, ◌≤◌, ◌++◌, ◌||◌, ◌==◌, [], true, Some, IfOk, IsErrOf};
+ghost use Rattle.std.specs.Prelude.{◌≡◌, ◌≤◌, ◌||◌, ◌==◌, [], true, IfOk};
 ghost use Rattle.std.specs.Prelude.{string_bytes, string_len, string_capacity};
-ghost use Rattle.streetmap_ledger.specs.Keep.{LeavesOnly};
-ghost use Rattle.streetmap_ledger.specs.State.{State};
-ghost use Rattle.streetmap_ledger.specs.declared.reply.Cause.{Cause};
 ghost use Rattle.streetmap_connections.specs.Answers.{answer_text};
 ghost use Rattle.streetmap_http.specs.AnswerHead.{head_text};
-ghost use Rattle.streetmap_http.specs.Framing.{is_bare as is_bare_of};
-ghost use Rattle.streetmap_batch.specs.BatchValue.{BatchValue};
-ghost use Rattle.streetmap_routes.specs.Ask.{ask_of, batch};
 ghost use Rattle.streetmap_routes.specs.BaseView.{root_of};
 ghost use Rattle.streetmap_http.specs.FramingView.{head_value};
-ghost use Rattle.streetmap_web.specs.Response.{response_text, closes_with, head_of, fault_response};
+ghost use Rattle.streetmap_web.specs.Response.{response_text, head_of, fault_response};
 ghost use Rattle.streetmap_web.specs.Response.{request_of, sent_so};
-ghost use Rattle.streetmap_web.specs.Standing.{Standing, KeeperStands, LeavesAsBefore};
-ghost use Rattle.streetmap_web.specs.Sight.{sight_of};
-ghost use Rattle.streetmap_web.specs.Responds.{response_value, AnswersAsk, TriesIn};
-ghost use Rattle.streetmap_web.specs.Responds.{TriesShut, TriesAny, AnswerLeaves, BatchTries};
-ghost use Rattle.streetmap_web.specs.Responds.{TellsBatch};
-ghost use Rattle.streetmap_web.specs.Responds.{RefusesBy};
+ghost use Rattle.streetmap_web.specs.Responds.{response_value, Sends, Answers, RefusesBy};
 ghost use Rattle.streetmap_bodies.specs.declared.request_fault.RequestFault.TheVariants.{Framing};
 ghost use Rattle.streetmap_bodies.specs.declared.request_fault.RequestFault.TheVariants as faults;
 
@@ -124,32 +113,8 @@ fn try_answer<K: Keeper>(
     request: RequestHead,
     body: &[u8],
 ) -> Result<(Answer, bool), Fault>
-    ensures batch_answered { (b : BatchValue) →
-        ask_of request.entry.method.now request.entry.target.now body.now ≡ batch b →
-        BatchTries b.key request.entry.closes (is_bare_of request.entry.method.now) result
-        (λ r. K.applies keeper.old b r keeper.new) (keeper.new ≡ keeper.old) }
-    ensures any { TriesAny (root_of base.now)
-        (ask_of request.entry.method.now request.entry.target.now body.now)
-        request.entry.closes (is_bare_of request.entry.method.now) result (K.cause keeper.new) }
-    ensures spared { K.spares keeper.old keeper.new }
-    ensures began_clean { K.is_clean keeper.new → K.is_clean keeper.old }
-    ensures answers { K.is_clean keeper.new → (s : State) → K.stands keeper.old s →
-        TriesIn (root_of base.now) s
-        (ask_of request.entry.method.now request.entry.target.now body.now)
-        request.entry.closes (is_bare_of request.entry.method.now) result
-        (K.stands keeper.new) (K.cause keeper.new) }
-    ensures shut { (why : Cause) → K.cause keeper.old ≡ Some why →
-        TriesShut (root_of base.now)
-        (ask_of request.entry.method.now request.entry.target.now body.now)
-        request.entry.closes (is_bare_of request.entry.method.now) result
-        × (K.cause keeper.new ≡ Some why)
-        × LeavesAsBefore (K.may_leave keeper.old) (K.may_leave keeper.new) }
-    ensures device { K.is_clean keeper.new → (s : State) → K.stands keeper.old s →
-        IsErrOf result Fault.Device → K.fails keeper.old keeper.new }
-    ensures leaves { K.is_clean keeper.new → (s : State) → K.stands keeper.old s →
-        LeavesOnly (K.may_leave keeper.old) (Some s) →
-        AnswerLeaves s (ask_of request.entry.method.now request.entry.target.now body.now)
-        result (K.may_leave keeper.new) }
+    ensures { Sends K.model (root_of base.now)
+        (request_of (head_value request.entry) body.now) keeper.old keeper.new result }
 {
     let Ok(room) = String::with_capacity(alloc, HEAD_ROOM) else {
         return Err(Fault::Memory);
@@ -177,15 +142,8 @@ pub(crate) fn answer_to<K: Keeper>(
     request: RequestHead,
     body: &[u8],
 ) -> (Answer, bool)
-    ensures batch_answered { TellsBatch K.applies
+    ensures { Answers K.model (root_of base.now)
         (request_of (head_value request.entry) body.now)
-        (sent_so (answer_text result.0) result.1) keeper.old keeper.new }
-    ensures spared { K.spares keeper.old keeper.new }
-    ensures began_clean { K.is_clean keeper.new → K.is_clean keeper.old }
-    ensures answers { K.is_clean keeper.new → (x : Standing) →
-        KeeperStands (K.stands keeper.old) (K.cause keeper.old) x →
-        AnswersAsk (sight_of K.stands K.cause K.may_leave K.is_clean K.applies K.spares K.fails)
-        (root_of base.now) x (request_of (head_value request.entry) body.now)
         (sent_so (answer_text result.0) result.1) keeper.old keeper.new }
 {
     match try_answer(alloc, keeper, base, request, body) {

@@ -3,7 +3,6 @@ ghost use Rattle.std.specs.Prelude.{◌≡◌, ◌≤◌, length, take};
 ghost use Rattle.streetmap_connections.specs.Cuts.{IfWhole, IfWaits, HasNone, HasNoneBefore};
 ghost use Rattle.streetmap_http.specs.Arrivals.{IsAnswered};
 ghost use Rattle.streetmap_routes.specs.BaseView.{root_of};
-ghost use Rattle.streetmap_web.specs.Sight.{sight_of};
 ghost use Rattle.streetmap_web.specs.Response.{sent_so};
 ghost use Rattle.streetmap_web.specs.Answering.{AnswersOne};
 ghost use Rattle.streetmap_web.specs.Refusing.{IsFrontBare, IsRefusal};
@@ -64,8 +63,8 @@ impl<K: Keeper, W: Write> Service for KeeperService<K, W> {
     ghost is_request = { IsAnswered };
 
     ghost answers = { λ old request text closes new. (new.base ≡ old.base)
-        × AnswersOne (sight_of K.stands K.cause K.may_leave K.is_clean K.applies K.spares K.fails)
-        (root_of old.base) old.keeper request (sent_so text closes) new.keeper };
+        × AnswersOne K.model (root_of old.base) old.keeper request (sent_so text closes)
+        new.keeper };
 
     ghost refuses = { IsRefusal };
 

@@ -4,9 +4,9 @@
 //! batch; the fixed 503 with the state as it was, if memory ran out; or the 500 of the fault that
 //! shut the keeper. `serve` reads requests one after the other and writes their answers, in order,
 //! up to the first that closes the connection. Its contract says so for any keeper, reader and
-//! writer that show their bytes (`specs/Exchanges`, `ServesExchanges`), and what a crash may leave.
-//! Of each batch it says that it was answered as the keeper answered it (`specs/Responds`,
-//! `ComesOut`).
+//! writer that show their bytes (`specs/ServedStream`, `ServesExchanges`). Of each request it says
+//! what a crash may leave after it, and of each batch that it was answered as the keeper answered
+//! it (`specs/Responds`, `ComesOut`).
 //!
 //! For an edge with many connections there are the two halves of a turn: `streetmap_http` says what
 //! received bytes hold of a request, and `answer_request` answers the bytes of one. `serve_clients`

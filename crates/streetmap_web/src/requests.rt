@@ -1,15 +1,9 @@
 //! One request, answered over its bytes.
-ghost use Rattle.std.specs.Prelude.{◌≡◌};
 ghost use Rattle.streetmap_http.specs.Arrivals.{IsAnswered};
-ghost use Rattle.streetmap_http.specs.Framing.{HeadValue, IsRequest};
-ghost use Rattle.streetmap_batch.specs.Text.{Text};
 ghost use Rattle.streetmap_routes.specs.BaseView.{root_of};
-ghost use Rattle.streetmap_web.specs.Coming.{AnswersRequest};
 ghost use Rattle.streetmap_connections.specs.Answers.{answer_text};
-ghost use Rattle.streetmap_web.specs.Responds.{TellsBatch};
-ghost use Rattle.streetmap_web.specs.Response.{request_of, sent_so};
-ghost use Rattle.streetmap_web.specs.Sight.{sight_of};
-ghost use Rattle.streetmap_web.specs.Standing.{Standing, KeeperStands};
+ghost use Rattle.streetmap_web.specs.Answering.{AnswersOne};
+ghost use Rattle.streetmap_web.specs.Response.{sent_so};
 
 use crate::answer::{answer_to, refused};
 use httparse::spans::EMPTY_HEADER_SPAN;
@@ -31,21 +25,8 @@ pub fn answer_request<K: Keeper>(
     request: &[u8],
 ) -> (Answer, bool)
     requires { IsAnswered request.now }
-    // Over a keeper in this condition: the answer in that condition, and the condition afterwards.
-    // After a 503 for lack of memory the state is as it was, and after a 500 the keeper is shut.
-    ensures answers { K.is_clean keeper.new → (x : Standing) →
-        KeeperStands (K.stands keeper.old) (K.cause keeper.old) x →
-        AnswersRequest (sight_of K.stands K.cause K.may_leave K.is_clean K.applies K.spares K.fails)
-        (root_of base.now) x request.now (sent_so (answer_text result.0) result.1)
-        keeper.old keeper.new }
-    // A batch is answered as the keeper answered it, whatever the reply is; 503 is sent if the
-    // keeper answered so, or was never called.
-    ensures batch_answered { (h : HeadValue) (body : Text) → IsRequest request.now h body →
-        TellsBatch K.applies (request_of h body) (sent_so (answer_text result.0) result.1)
-        keeper.old keeper.new }
-    // All else that the store has is kept.
-    ensures spared { K.spares keeper.old keeper.new }
-    ensures began_clean { K.is_clean keeper.new → K.is_clean keeper.old }
+    ensures { AnswersOne K.model (root_of base.now) keeper.old request.now
+        (sent_so (answer_text result.0) result.1) keeper.new }
 {
     let mut headers = [EMPTY_HEADER_SPAN; FIELD_LIMIT];
     let (framed, body) = split_request(request, &mut headers);

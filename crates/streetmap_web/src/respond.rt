@@ -1,25 +1,19 @@
 //! The answer to a request, over any keeper.
-ghost use Rattle.std.specs.Prelude.{◌≡◌, ◌≤◌, Some, None, IfOk, IfErr, IsErrOf, OnErr, [], ⊤};
+ghost use Rattle.std.specs.Prelude.{◌≡◌, ◌≤◌, Some, None, IfOk, OnErr, []};
 ghost use Rattle.std.specs.Prelude.{string_bytes, string_len, string_capacity};
 ghost use Rattle.std.specs.Option.{option_map};
 ghost use Rattle.serde_json.specs.Written.{compact_text};
 ghost use Rattle.streetmap_query.specs.Views.{query_value};
-ghost use Rattle.streetmap_batch.specs.BatchValue.{BatchValue};
 ghost use Rattle.streetmap_batch.specs.Text.{Text};
 ghost use Rattle.streetmap_batch.specs.BatchView.{batch_value};
-ghost use Rattle.streetmap_ledger.specs.Keep.{LeavesOnly};
-ghost use Rattle.streetmap_ledger.specs.State.{State};
 ghost use Rattle.streetmap_ledger.specs.PageView.{page_value};
 ghost use Rattle.streetmap_ledger.specs.SummaryView.{summary_value, summary_values};
-ghost use Rattle.streetmap_ledger.specs.declared.reply.Cause.{Cause};
 ghost use Rattle.streetmap_routes.specs.Ask as spec;
 ghost use Rattle.streetmap_web.specs.Response as spec_response;
 ghost use Rattle.streetmap_web.specs.Response.{fault_response, found};
 ghost use Rattle.streetmap_bodies.specs.Bodies as spec_bodies;
-ghost use Rattle.streetmap_web.specs.Standing.{LeavesAsBefore};
 ghost use Rattle.streetmap_routes.specs.AskView.{ask_value};
-ghost use Rattle.streetmap_web.specs.Responds.{response_value, RespondsIn, RespondsShut};
-ghost use Rattle.streetmap_web.specs.Responds.{RespondsAny, AnswerLeaves, BatchResponds};
+ghost use Rattle.streetmap_web.specs.Responds.{response_value, IsResponse, Responds};
 ghost use Rattle.streetmap_http.specs.declared.answer_head.MediaType.TheVariants.{Json, GeoJson};
 ghost use Rattle.streetmap_http.specs.declared.answer_head.MediaType.TheVariants.{Html};
 
@@ -120,24 +114,8 @@ fn replied(body: String, batch: &Batch, reply: Reply) -> Response
 
 /// Applies a batch. Once it was applied no memory is allocated: the keeper's reply is the answer.
 fn respond_batch<K: Keeper>(alloc: Global, keeper: &mut K, batch: &Batch) -> Result<Response, Fault>
-    ensures batch_answered { BatchResponds (batch_value batch.now).key result
-        (λ r. K.applies keeper.old (batch_value batch.now) r keeper.new) (keeper.new ≡ keeper.old) }
-    ensures any { (root : Text) →
-        RespondsAny root (spec.batch (batch_value batch.now)) result (K.cause keeper.new) }
-    ensures spared { K.spares keeper.old keeper.new }
-    ensures began_clean { K.is_clean keeper.new → K.is_clean keeper.old }
-    ensures responds { K.is_clean keeper.new → (s : State) → K.stands keeper.old s →
-        (root : Text) → RespondsIn root s (spec.batch (batch_value batch.now)) result
-        (K.stands keeper.new) (K.cause keeper.new) }
-    ensures shut { (why : Cause) → K.cause keeper.old ≡ Some why →
-        ((root : Text) → RespondsShut root (spec.batch (batch_value batch.now)) result)
-        × (K.cause keeper.new ≡ Some why)
-        × LeavesAsBefore (K.may_leave keeper.old) (K.may_leave keeper.new) }
-    ensures device { K.is_clean keeper.new → (s : State) → K.stands keeper.old s →
-        IsErrOf result Fault.Device → K.fails keeper.old keeper.new }
-    ensures leaves { K.is_clean keeper.new → (s : State) → K.stands keeper.old s →
-        LeavesOnly (K.may_leave keeper.old) (Some s) →
-        AnswerLeaves s (spec.batch (batch_value batch.now)) result (K.may_leave keeper.new) }
+    ensures { (root : Text) → Responds K.model root (spec.batch (batch_value batch.now)) IsResponse
+        keeper.old keeper.new result }
 {
     let Ok(body) = String::with_capacity(alloc, BODY_ROOM) else {
         return Err(Fault::Memory);
@@ -176,23 +154,8 @@ fn respond_page<K: Keeper>(
     name: &str,
     query: &Query,
 ) -> Result<Response, Fault>
-    ensures any { RespondsAny root.now (spec.page name.now (query_value query.now)) result
-        (K.cause keeper.new) }
-    ensures spared { K.spares keeper.old keeper.new }
-    ensures began_clean { K.is_clean keeper.new → K.is_clean keeper.old }
-    ensures responds { K.is_clean keeper.new → (s : State) → K.stands keeper.old s →
-        RespondsIn root.now s (spec.page name.now (query_value query.now)) result
-        (K.stands keeper.new) (K.cause keeper.new) }
-    ensures shut { (why : Cause) → K.cause keeper.old ≡ Some why →
-        RespondsShut root.now (spec.page name.now (query_value query.now)) result
-        × (K.cause keeper.new ≡ Some why)
-        × LeavesAsBefore (K.may_leave keeper.old) (K.may_leave keeper.new) }
-    ensures device { K.is_clean keeper.new → (s : State) → K.stands keeper.old s →
-        IsErrOf result Fault.Device → K.fails keeper.old keeper.new }
-    ensures leaves { K.is_clean keeper.new → (s : State) → K.stands keeper.old s →
-        LeavesOnly (K.may_leave keeper.old) (Some s) →
-        AnswerLeaves s (spec.page name.now (query_value query.now)) result
-        (K.may_leave keeper.new) }
+    ensures { Responds K.model root.now (spec.page name.now (query_value query.now)) IsResponse
+        keeper.old keeper.new result }
 {
     match keeper.page(name, query) {
         Ok(page) => or_starved(found_page(alloc, root, name, query, &page)),
@@ -227,22 +190,8 @@ fn respond_feature<K: Keeper>(
     name: &str,
     id: &str,
 ) -> Result<Response, Fault>
-    ensures any { RespondsAny root.now (spec.feature name.now id.now) result
-        (K.cause keeper.new) }
-    ensures spared { K.spares keeper.old keeper.new }
-    ensures began_clean { K.is_clean keeper.new → K.is_clean keeper.old }
-    ensures responds { K.is_clean keeper.new → (s : State) → K.stands keeper.old s →
-        RespondsIn root.now s (spec.feature name.now id.now) result
-        (K.stands keeper.new) (K.cause keeper.new) }
-    ensures shut { (why : Cause) → K.cause keeper.old ≡ Some why →
-        RespondsShut root.now (spec.feature name.now id.now) result
-        × (K.cause keeper.new ≡ Some why)
-        × LeavesAsBefore (K.may_leave keeper.old) (K.may_leave keeper.new) }
-    ensures device { K.is_clean keeper.new → (s : State) → K.stands keeper.old s →
-        IsErrOf result Fault.Device → K.fails keeper.old keeper.new }
-    ensures leaves { K.is_clean keeper.new → (s : State) → K.stands keeper.old s →
-        LeavesOnly (K.may_leave keeper.old) (Some s) →
-        AnswerLeaves s (spec.feature name.now id.now) result (K.may_leave keeper.new) }
+    ensures { Responds K.model root.now (spec.feature name.now id.now) IsResponse
+        keeper.old keeper.new result }
 {
     match keeper.feature(name, id) {
         Ok(feature) => or_starved(found_feature(alloc, root, name, &feature)),
@@ -272,22 +221,8 @@ fn respond_collection<K: Keeper>(
     root: &str,
     name: &str,
 ) -> Result<Response, Fault>
-    ensures any { RespondsAny root.now (spec.one_collection name.now) result
-        (K.cause keeper.new) }
-    ensures spared { K.spares keeper.old keeper.new }
-    ensures began_clean { K.is_clean keeper.new → K.is_clean keeper.old }
-    ensures responds { K.is_clean keeper.new → (s : State) → K.stands keeper.old s →
-        RespondsIn root.now s (spec.one_collection name.now) result
-        (K.stands keeper.new) (K.cause keeper.new) }
-    ensures shut { (why : Cause) → K.cause keeper.old ≡ Some why →
-        RespondsShut root.now (spec.one_collection name.now) result
-        × (K.cause keeper.new ≡ Some why)
-        × LeavesAsBefore (K.may_leave keeper.old) (K.may_leave keeper.new) }
-    ensures device { K.is_clean keeper.new → (s : State) → K.stands keeper.old s →
-        IsErrOf result Fault.Device → K.fails keeper.old keeper.new }
-    ensures leaves { K.is_clean keeper.new → (s : State) → K.stands keeper.old s →
-        LeavesOnly (K.may_leave keeper.old) (Some s) →
-        AnswerLeaves s (spec.one_collection name.now) result (K.may_leave keeper.new) }
+    ensures { Responds K.model root.now (spec.one_collection name.now) IsResponse
+        keeper.old keeper.new result }
 {
     match keeper.collection(name) {
         Ok(summary) => or_starved(found_collection(alloc, root, &summary)),
@@ -314,22 +249,8 @@ fn respond_collections<K: Keeper>(
     keeper: &mut K,
     root: &str,
 ) -> Result<Response, Fault>
-    ensures any { RespondsAny root.now spec.all_collections result
-        (K.cause keeper.new) }
-    ensures spared { K.spares keeper.old keeper.new }
-    ensures began_clean { K.is_clean keeper.new → K.is_clean keeper.old }
-    ensures responds { K.is_clean keeper.new → (s : State) → K.stands keeper.old s →
-        RespondsIn root.now s spec.all_collections result
-        (K.stands keeper.new) (K.cause keeper.new) }
-    ensures shut { (why : Cause) → K.cause keeper.old ≡ Some why →
-        RespondsShut root.now spec.all_collections result
-        × (K.cause keeper.new ≡ Some why)
-        × LeavesAsBefore (K.may_leave keeper.old) (K.may_leave keeper.new) }
-    ensures device { K.is_clean keeper.new → (s : State) → K.stands keeper.old s →
-        IsErrOf result Fault.Device → K.fails keeper.old keeper.new }
-    ensures leaves { K.is_clean keeper.new → (s : State) → K.stands keeper.old s →
-        LeavesOnly (K.may_leave keeper.old) (Some s) →
-        AnswerLeaves s spec.all_collections result (K.may_leave keeper.new) }
+    ensures { Responds K.model root.now spec.all_collections IsResponse
+        keeper.old keeper.new result }
 {
     match keeper.collections() {
         Ok(summaries) => or_starved(found_collections(alloc, root, summaries.as_slice())),
@@ -378,25 +299,8 @@ pub(crate) fn respond_to<K: Keeper>(
     root: &str,
     ask: &Ask,
 ) -> Result<Response, Fault>
-    ensures batch_answered { (b : BatchValue) → ask_value ask.now ≡ spec.batch b →
-        BatchResponds b.key result
-        (λ r. K.applies keeper.old b r keeper.new) (keeper.new ≡ keeper.old) }
-    ensures any { RespondsAny root.now (ask_value ask.now) result
-        (K.cause keeper.new) }
-    ensures spared { K.spares keeper.old keeper.new }
-    ensures began_clean { K.is_clean keeper.new → K.is_clean keeper.old }
-    ensures responds { K.is_clean keeper.new → (s : State) → K.stands keeper.old s →
-        RespondsIn root.now s (ask_value ask.now) result
-        (K.stands keeper.new) (K.cause keeper.new) }
-    ensures shut { (why : Cause) → K.cause keeper.old ≡ Some why →
-        RespondsShut root.now (ask_value ask.now) result
-        × (K.cause keeper.new ≡ Some why)
-        × LeavesAsBefore (K.may_leave keeper.old) (K.may_leave keeper.new) }
-    ensures device { K.is_clean keeper.new → (s : State) → K.stands keeper.old s →
-        IsErrOf result Fault.Device → K.fails keeper.old keeper.new }
-    ensures leaves { K.is_clean keeper.new → (s : State) → K.stands keeper.old s →
-        LeavesOnly (K.may_leave keeper.old) (Some s) →
-        AnswerLeaves s (ask_value ask.now) result (K.may_leave keeper.new) }
+    ensures { Responds K.model root.now (ask_value ask.now) IsResponse
+        keeper.old keeper.new result }
 {
     match ask {
         Ask::Faulty(fault) => or_starved(faulty(alloc, *fault)),

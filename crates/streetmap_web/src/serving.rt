@@ -8,11 +8,9 @@ ghost use Rattle.streetmap_http.specs.Sending.{SentSays};
 ghost use Rattle.streetmap_http.specs.FramingView.{framing_value, head_value};
 ghost use Rattle.streetmap_batch.specs.Text.{Text};
 ghost use Rattle.streetmap_routes.specs.BaseView.{root_of};
-ghost use Rattle.streetmap_web.specs.Coming.{around};
 ghost use Rattle.streetmap_connections.specs.Answers.{answer_text};
-ghost use Rattle.streetmap_web.specs.Sight.{sight_of};
-ghost use Rattle.streetmap_web.specs.Standing.{Standing, KeeperStands};
-ghost use Rattle.streetmap_web.specs.Exchanges.{TurnComes, ServesExchanges};
+ghost use Rattle.streetmap_web.specs.Standing.{Standing, StandsSo, ByCalls};
+ghost use Rattle.streetmap_web.specs.ServedStream.{around, TurnComes, ServesExchanges};
 ghost use Rattle.streetmap_web.specs.Turns.{turn_after, end_of, begun_in, FillSays, RefuseSays};
 
 use crate::answer::{answer_to, fixed, refused};
@@ -162,16 +160,14 @@ fn answer_turn<K: Keeper, R: Read, W: Write>(
     reader: &mut R,
     writer: &mut W,
 ) -> Turn
-    ensures spared { K.spares keeper.old keeper.new }
-    ensures began_clean { K.is_clean keeper.new → K.is_clean keeper.old }
-    ensures says { K.is_clean keeper.new → (bytes : Text) (left : Option Text) (x : Standing) →
+    ensures calls { ByCalls K.model keeper.old keeper.new }
+    ensures says { K.model.is_clean keeper.new →
+        (bytes : Text) (left : Option Text) (x : Standing) →
         IsHead bytes → Frames bytes (sized (head_value head.entry)) →
-        Consumes left (R.remaining reader.old) bytes →
-        KeeperStands (K.stands keeper.old) (K.cause keeper.old) x →
-        TurnComes result (root_of base.now) x
-        (around (sight_of K.stands K.cause K.may_leave K.is_clean K.applies K.spares K.fails)
-        (root_of base.now) x left (R.remaining reader.new)
-        (W.contents writer.old) (W.contents writer.new) keeper.old keeper.new) }
+        Consumes left (R.remaining reader.old) bytes → StandsSo K.model keeper.old x →
+        TurnComes K.model result (root_of base.now) x
+        (around left (R.remaining reader.new) (W.contents writer.old) (W.contents writer.new))
+        keeper.old keeper.new }
 {
     let Ok(room) = body_room(alloc, head.len) else {
         let bare = is_bare(head.method);
@@ -197,14 +193,11 @@ fn take_turn<K: Keeper, R: Read, W: Write>(
     buf: &mut [u8],
 ) -> Turn
     requires { length buf.old ≡ HEAD_LIMIT }
-    ensures spared { K.spares keeper.old keeper.new }
-    ensures began_clean { K.is_clean keeper.new → K.is_clean keeper.old }
-    ensures says { K.is_clean keeper.new → (x : Standing) →
-        KeeperStands (K.stands keeper.old) (K.cause keeper.old) x →
-        TurnComes result (root_of base.now) x
-        (around (sight_of K.stands K.cause K.may_leave K.is_clean K.applies K.spares K.fails)
-        (root_of base.now) x (R.remaining reader.old) (R.remaining reader.new)
-        (W.contents writer.old) (W.contents writer.new) keeper.old keeper.new) }
+    ensures calls { ByCalls K.model keeper.old keeper.new }
+    ensures says { K.model.is_clean keeper.new → (x : Standing) → StandsSo K.model keeper.old x →
+        TurnComes K.model result (root_of base.now) x
+        (around (R.remaining reader.old) (R.remaining reader.new)
+        (W.contents writer.old) (W.contents writer.new)) keeper.old keeper.new }
 {
     let (end, len) = read_head(reader, buf);
     match end {
@@ -242,18 +235,16 @@ pub fn serve<K: Keeper, R: BufRead, W: Write>(
     // the bytes of the requests, the writer got exactly the answers, and the keeper represents the
     // state after their batches. Each batch was answered by the result of `apply`, or the keeper
     // was never called for it. The last turn says how serving ends, and nothing was applied or
-    // written in one without an answer; the number of answers returned is the number begun. If a
-    // crash could leave only the state before, it may leave only the state afterwards, or, if the
-    // device failed at the last request, that state or the one before it.
-    ensures serves { K.is_clean keeper.new → (x : Standing) →
-        KeeperStands (K.stands keeper.old) (K.cause keeper.old) x →
-        ServesExchanges (root_of base.now) result.end result.answers x
-        (around (sight_of K.stands K.cause K.may_leave K.is_clean K.applies K.spares K.fails)
-        (root_of base.now) x (R.remaining reader.old) (R.remaining reader.new)
-        (W.contents writer.old) (W.contents writer.new) keeper.old keeper.new) }
+    // written in one without an answer; the number of answers returned is the number begun. If the
+    // device failed at the last request, a crash leaves the state before it or the one after it;
+    // else the keeper represents a state still, and a crash leaves that.
+    ensures serves { K.model.is_clean keeper.new → (x : Standing) →
+        StandsSo K.model keeper.old x →
+        ServesExchanges K.model (root_of base.now) result.end result.answers x
+        (around (R.remaining reader.old) (R.remaining reader.new)
+        (W.contents writer.old) (W.contents writer.new)) keeper.old keeper.new }
     // All else that the store has is kept.
-    ensures spared { K.spares keeper.old keeper.new }
-    ensures began_clean { K.is_clean keeper.new → K.is_clean keeper.old }
+    ensures calls { ByCalls K.model keeper.old keeper.new }
 {
     let mut buf = [0u8; HEAD_LIMIT];
     for answers in 0..u64::MAX {

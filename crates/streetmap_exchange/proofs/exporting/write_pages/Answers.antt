@@ -4,28 +4,38 @@ use Rattle.std.specs.Io.KnownBytes.{Appends}
 use Rattle.streetmap_ledger.specs.PageView.{page_value}
 use Rattle.streetmap_text_lines.specs.Written.{AppendsBeginning, AppendsLess}
 use Rattle.streetmap_exchange.proofs.ExportLemmas.{Underway, is_any, begins, begins_early, begins_less, breaks_off, breaks_off_less}
-use Rattle.streetmap_exchange.proofs.ExportLemmas.{stands_less, stands_between, goes_further, write_ends, page_ends, end_exports, page_part, some_before, some_here}
+use Rattle.streetmap_exchange.proofs.ExportLemmas.{less_written, part_written, write_reads, end_reads, goes_further, write_ends, page_ends, end_exports, page_part, some_before, some_here}
+use Rattle.streetmap_replay.specs.Calls.{AreReads}
+use Rattle.streetmap_replay.proofs.CallsInTurn.{no_reads_open, no_fault_read, reads_then}
+use Rattle.streetmap_exchange.specs.ExportFaults.{export_answer}
 use Rattle.streetmap_exchange.proofs.exporting.write_pages.Goals as goal
 use Rattle.streetmap_exchange.proofs.exporting.write_pages.Goals.{then-later, else-later}
 
 pub returns-in_err-write_bytes-clause-exports : goal.returns-in_err-write_bytes-clause-exports
-returns-in_err-write_bytes-clause-exports g c = λ clean s stands first.
+returns-in_err-write_bytes-clause-exports g c = λ h s e first.
     let p = err_from_is_err_and c.from_residual.result c.from_residual.ensures.1 in
-    write_ends s _ c.from_residual.result c.in_err-write_bytes.field-0.0 _ _ (g.K.Keeper.stands c.args.keeper.now) (p.1 ∙ ap (λ x. Err x) p.2) c.in_err-write_bytes.ensures.fault (begins_early s _ _ _ _ first c.in_err-write_bytes.ensures.err)
-    (λ is. begins_less s _ _ _ _ first (c.in_err-write_bytes.ensures.less (ap (λ x. Err x) is))) stands
+    write_ends s _ c.from_residual.result c.in_err-write_bytes.field-0.0 _ _ (p.1 ∙ ap (λ x. Err x) p.2) c.in_err-write_bytes.ensures.fault (begins_early s _ _ _ _ first c.in_err-write_bytes.ensures.err)
+    (λ is. begins_less s _ _ _ _ first (c.in_err-write_bytes.ensures.less (ap (λ x. Err x) is)))
+
+pub returns-in_err-write_bytes-clause-reads : goal.returns-in_err-write_bytes-clause-reads
+returns-in_err-write_bytes-clause-reads g c =
+    let p = err_from_is_err_and c.from_residual.result c.from_residual.ensures.1 in
+    write_reads c.from_residual.result c.in_err-write_bytes.field-0.0 (p.1 ∙ ap (λ x. Err x) p.2) c.in_err-write_bytes.ensures.fault (no_reads_open c.args.keeper.now c.requires)
 
 pub loop-turn-init : goal.loop-turn-init
 loop-turn-init g c = record {
-  clean = λ h. h;
-  open_before = c.requires;
-  open_now = c.requires;
-  stands = λ h s e. e;
-  underway = λ h s e first. begins s _ _ _ _ (g.met.K.Keeper.well_formed c.args.keeper.now s e) first c.in_ok-write_bytes.ensures.ok;
-  leaves = λ h s e only. only;
+  reads = no_reads_open c.args.keeper.now c.requires;
+  underway = λ h s e first. begins s _ _ _ _ (g.K.Keeper.model.well_formed c.args.keeper.now s e) first c.in_ok-write_bytes.ensures.ok;
 }
 
+pub returns-in_err-write_part-clause-reads : goal.returns-in_err-write_part-clause-reads
+returns-in_err-write_part-clause-reads g c =
+    let r = c.from_residual-in_err-write_part in
+    let p = err_from_is_err_and r.result r.ensures.1 in
+    write_reads r.result c.in_err-write_part.field-0.0 (p.1 ∙ ap (λ x. Err x) p.2) c.in_err-write_part.ensures.fault c.loop-turn.invariant.reads
+
 pub returns-in_err-write_part-clause-exports : goal.returns-in_err-write_part-clause-exports
-returns-in_err-write_part-clause-exports g c = λ clean s stands first.
+returns-in_err-write_part-clause-exports g c = λ h s e first.
     let inv = c.loop-turn.invariant in
     let p = err_from_is_err_and c.from_residual-in_err-write_part.result c.from_residual-in_err-write_part.ensures.1 in
     let before = g.W.Write.contents c.loop-turn.writer in
@@ -33,39 +43,41 @@ returns-in_err-write_part-clause-exports g c = λ clean s stands first.
     let part = subst (AppendsBeginning before after)
     (page_part c.loop-turn.later c.as_slice.result.now _ c.as_slice.ensures.value)
     c.in_err-write_part.ensures.err in
-    write_ends s _ c.from_residual-in_err-write_part.result c.in_err-write_part.field-0.0 _ _ (g.K.Keeper.stands c.loop-turn.keeper) (p.1 ∙ ap (λ x. Err x) p.2) c.in_err-write_part.ensures.fault (breaks_off s _ _ before after _ _ (inv.underway clean s stands first) part)
-    (λ is. breaks_off_less s _ _ before after _ _ (inv.underway clean s stands first)
+    write_ends s _ c.from_residual-in_err-write_part.result c.in_err-write_part.field-0.0 _ _ (p.1 ∙ ap (λ x. Err x) p.2) c.in_err-write_part.ensures.fault (breaks_off s _ _ before after _ _ (inv.underway h s e first) part)
+    (λ is. breaks_off_less s _ _ before after _ _ (inv.underway h s e first)
     (subst (AppendsLess before after)
     (page_part c.loop-turn.later c.as_slice.result.now _ c.as_slice.ensures.value)
     (c.in_err-write_part.ensures.less (ap (λ x. Err x) is))))
-    (inv.stands clean s stands)
+
+pub returns-in_err-page-in-Some-clause-reads : goal.returns-in_err-page-in-Some-clause-reads
+returns-in_err-page-in-Some-clause-reads g c =
+    let r = c.from_residual-in_err-page-in-Some in
+    let p = err_from_is_err_and r.result r.ensures.1 in
+    subst (λ x. AreReads g.K.Keeper.model c.args.keeper.now c.page_behind.new.keeper (export_answer x)) (sym (p.1 ∙ ap (λ x. Err x) p.2))
+    (reads_then (no_fault_read c.loop-turn.invariant.reads) c.in_err-page-in-Some.ensures.reads)
 
 pub returns-in_err-page-in-Some-clause-exports : goal.returns-in_err-page-in-Some-clause-exports
-returns-in_err-page-in-Some-clause-exports g c = λ clean s stands first.
+returns-in_err-page-in-Some-clause-exports g c = λ h s e first.
     let inv = c.loop-turn.invariant in
     let r = c.from_residual-in_err-page-in-Some in
     let p = err_from_is_err_and r.result r.ensures.1 in
     let says = c.in_err-page-in-Some.ensures in
-    let began = says.began_clean clean in
+    let began = says.reads.calls.began_clean h in
     let before = g.W.Write.contents c.loop-turn.writer in
     let after = g.W.Write.contents c.write_part.new.writer in
     let part = subst (Appends before after) (page_part c.loop-turn.later c.as_slice.result.now _ c.as_slice.ensures.value) c.in_ok-write_part.ensures.ok in
-    page_ends s _ (Some c.in-Some.id) r.result c.in_err-page-in-Some.field-0.0 _ _ (g.K.Keeper.stands c.page_behind.new.keeper) (p.1 ∙ ap (λ x. Err x) p.2) (says.shows clean s (inv.stands began s stands)) (stands_between s _ _ before after _ _ (inv.underway began s stands first) part)
+    page_ends s _ (Some c.in-Some.id) r.result c.in_err-page-in-Some.field-0.0 _ _ (p.1 ∙ ap (λ x. Err x) p.2) (says.shows h s (inv.reads.stays began s e)) (part_written s _ _ before after _ _ (inv.underway began s e first) part)
 
-pub returns-in_err-page-in-Some-clause-leaves : goal.returns-in_err-page-in-Some-clause-leaves
-returns-in_err-page-in-Some-clause-leaves g c = λ h s e only.
-    let inv = c.loop-turn.invariant in
-    let says = c.in_err-page-in-Some.ensures in
-    let began = says.began_clean h in
-    says.leaves h s (inv.stands began s e) (inv.leaves began s e only)
+pub returns-in-None-clause-reads : goal.returns-in-None-clause-reads
+returns-in-None-clause-reads g c = end_reads c.write_end.result c.write_end.ensures.fault c.loop-turn.invariant.reads
 
 pub returns-in-None-clause-exports : goal.returns-in-None-clause-exports
-returns-in-None-clause-exports g c = λ clean s stands first.
+returns-in-None-clause-exports g c = λ h s e first.
     let inv = c.loop-turn.invariant in
     let before = g.W.Write.contents c.loop-turn.writer in
     let after = g.W.Write.contents c.write_part.new.writer in
     let part = subst (Appends before after) (page_part c.loop-turn.later c.as_slice.result.now _ c.as_slice.ensures.value) c.in_ok-write_part.ensures.ok in
-    end_exports s _ _ before after (g.W.Write.contents c.write_end.new.writer) _ _ c.write_end.result (g.K.Keeper.stands c.loop-turn.keeper) (inv.underway clean s stands first) (sym c.next_id.ensures ∙ c.in-None.is) part c.write_end.ensures.ok c.write_end.ensures.err c.write_end.ensures.less c.write_end.ensures.flush c.write_end.ensures.fault (inv.stands clean s stands)
+    end_exports s _ _ before after (g.W.Write.contents c.write_end.new.writer) _ _ c.write_end.result (inv.underway h s e first) (sym c.next_id.ensures ∙ c.in-None.is) part c.write_end.ensures.ok c.write_end.ensures.err c.write_end.ensures.less c.write_end.ensures.flush c.write_end.ensures.fault
 
 pub loop-turn-preserved : goal.loop-turn-preserved
 loop-turn-preserved g c =
@@ -81,19 +93,13 @@ loop-turn-preserved g c =
       | else-later w ↦ some_here c.loop-turn.later c.if-later.later w.is_empty.result page.features (vec_len c.loop-turn.page.features) w.if-later.false (omega (arith, c.loop-turn.page.features.ok.0)) w.is_empty.ensures w.later-is
     ] in
     record {
-      clean = λ h. inv.clean (says.began_clean h);
-      open_before = inv.open_before;
-      open_now = says.faults.1;
-      stands = λ h s e. (says.shows h s (inv.stands (says.began_clean h) s e)).1;
+      reads = reads_then (no_fault_read inv.reads) says.reads;
       underway = λ h s e first.
-          let began = says.began_clean h in
-          let shown = says.shows h s (inv.stands began s e) in
+          let began = says.reads.calls.began_clean h in
+          let shown = says.shows h s (inv.reads.stays began s e) in
           subst (λ b. Underway s c.args.collection.now (g.W.Write.contents c.args.writer.now) after b (page_value c.in_ok-page-in-Some.page)) later
-          (goes_further s c.args.collection.now _ before after _ page _ c.in-Some.id (inv.underway began s e first) more shown.0 part);
-      leaves = λ h s e only. let began = says.began_clean h in says.leaves h s (inv.stands began s e) (inv.leaves began s e only);
+          (goes_further s c.args.collection.now _ before after _ page _ c.in-Some.id (inv.underway began s e first) more shown part);
     }
 
 pub returns-clause-exports : goal.returns-clause-exports
-returns-clause-exports g c = λ clean s stands first.
-    let inv = c.loop-turn.invariant in
-    (stands_less s _ _ _ _ _ (inv.underway clean s stands first), inv.stands clean s stands)
+returns-clause-exports g c = λ h s e first. less_written s _ _ _ _ _ (c.loop-turn.invariant.underway h s e first)

@@ -5,8 +5,5 @@ pub returns-in-Ok : goal.returns-in-Ok
 returns-in-Ok g c =
     let says = c.in-Ok.ensures in
     rw c.new.ensures.keeper (record {
-      opened = λ clean s held. (
-        elim held [ inl is ↦ (says.opened clean s is).0 | inr is ↦ (says.carried clean s is).0 ],
-        c.new.ensures.index s,
-      );
+      opened = λ clean s held. (elim held [ inl is ↦ says.opened clean s is | inr is ↦ says.carried clean s is ], c.new.ensures.index s);
     })

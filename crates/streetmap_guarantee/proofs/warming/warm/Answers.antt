@@ -1,21 +1,14 @@
+use Rattle.streetmap_ledger.proofs.Calls.{read_made, read_after, read_then, read_failed}
 use Rattle.streetmap_guarantee.proofs.warming.warm.Goals as goal
 
-pub returns-in_err-collection-clause-leaves : goal.returns-in_err-collection-clause-leaves
-returns-in_err-collection-clause-leaves g c clean s stands only =
-    let says = c.in_err-collection.ensures in
-    let before = c.loop-summary.invariant in
-    let clean_before = says.began_clean clean in
-    says.leaves clean s (before.stands clean_before s stands) (before.leaves clean_before s stands only)
+pub returns-in_err-summaries : goal.returns-in_err-summaries
+returns-in_err-summaries g c = read_failed c.in_err-summaries.ensures
+
+pub loop-summary-init : goal.loop-summary-init
+loop-summary-init g c = read_made c.in_ok-summaries.ensures (λ s e is. tt)
 
 pub loop-summary-preserved : goal.loop-summary-preserved
-loop-summary-preserved g c =
-    let says = c.in_ok-collection.ensures in
-    let before = c.loop-summary.invariant in
-    record {
-      spared = g.met.K.Keeper.spares_then c.args.keeper.now c.loop-summary.keeper c.collection.new.self before.spared says.spared;
-      clean = λ clean. before.clean (says.began_clean clean);
-      stands = λ clean s stands. (says.tells clean s (before.stands (says.began_clean clean) s stands)).1;
-      leaves = λ clean s stands only.
-          let clean_before = says.began_clean clean in
-          says.leaves clean s (before.stands clean_before s stands) (before.leaves clean_before s stands only);
-    }
+loop-summary-preserved g c = read_after c.loop-summary.invariant c.in_ok-collection.ensures (λ s e is also. tt)
+
+pub returns-in_err-collection : goal.returns-in_err-collection
+returns-in_err-collection g c = read_failed (read_then {Both = λ s x. Unit {0}} c.loop-summary.invariant c.in_err-collection.ensures (λ s x e is also. tt))

@@ -6,6 +6,7 @@ use Rattle.streetmap_query.specs.Views.{query_value}
 use Rattle.streetmap_ledger.specs.Pages.{candidates}
 use Rattle.streetmap_ledger.specs.Folds.{IsFoldOf}
 use Rattle.streetmap_ledger.proofs.Examining.{left_out}
+use Rattle.streetmap_ledger.proofs.Calls.{no_read, read_so, read_then, read_made, read_failed, read_after}
 use Rattle.streetmap_outlines.specs.Outlines.{AreExtentsOf}
 use Rattle.streetmap_outlines.specs.Outlines.{Pairs}
 use Rattle.streetmap_index.specs.Taking.{IsExamined}
@@ -16,12 +17,7 @@ use Rattle.streetmap_index.proofs.page.take_outlined.Goals as goal
 pub loop-place-init : goal.loop-place-init
 loop-place-init g c = record {
   within = omega arith;
-  is_open = c.requires.is_open;
-  spared = g.met.K.Keeper.spares_itself _;
-  clean = λ h. h;
-  stands = λ h s e. e;
-  leaves = λ h s e only. only;
-  going = λ h s d met fs e there bounded pairs held. record { met = met; left = fs; whole = refl {a = met ++ fs}; pairs = pairs; holds = held };
+  look = no_read c.args.keeper.now tt c.requires (λ s e d met fs there bounded pairs held. record { met = met; left = fs; whole = refl {a = met ++ fs}; pairs = pairs; holds = held });
 }
 
 pub loop-place-preserved-then-lies_outside : goal.loop-place-preserved-then-lies_outside
@@ -35,15 +31,10 @@ loop-place-preserved-then-lies_outside g c =
     let fold = c.loop-place.fold in
     record {
       within = omega arith;
-      is_open = inv.is_open;
-      spared = inv.spared;
-      clean = inv.clean;
-      stands = inv.stands;
-      leaves = inv.leaves;
-      going = λ h s d met all e there bounded pairs held.
+      look = read_so inv.look (λ s _ e going d met all there bounded pairs held.
           let kept = subst (λ es. AreExtentsOf es os) (sym c.as_slice-extents.ensures.value) (subst (λ xs. AreExtentsOf chunk.extents.items xs) (sym c.as_slice-outlines.ensures.value) bounded.extents) in
-          goes_on q fold fold d.features (met ++ all) o (drop (i + 1) os) (subst (Going q fold d.features (met ++ all)) (turn os i o c.loop-place-test.true c.index-outlines-place.is) (inv.going h s d met all e there bounded pairs held))
-          (λ fs f entry holds. left_out c.args.query.now fold fs f entry.made (c.lies_outside.ensures.passed_over c.if-lies_outside.true q os o f c.window_of-window.ensures kept (slice_get_read os (length os) i o refl c.loop-place-test.true c.index-outlines-place.is) entry.known) holds);
+          goes_on q fold fold d.features (met ++ all) o (drop (i + 1) os) (subst (Going q fold d.features (met ++ all)) (turn os i o c.loop-place-test.true c.index-outlines-place.is) (going d met all there bounded pairs held))
+          (λ fs f entry holds. left_out c.args.query.now fold fs f entry.made (c.lies_outside.ensures.passed_over c.if-lies_outside.true q os o f c.window_of-window.ensures kept (slice_get_read os (length os) i o refl c.loop-place-test.true c.index-outlines-place.is) entry.known) holds));
     }
 
 pub loop-place-preserved-then-take_unread : goal.loop-place-preserved-then-take_unread
@@ -55,20 +46,14 @@ loop-place-preserved-then-take_unread g c =
     let o = c.index-outlines-place.result in
     record {
       within = omega arith;
-      is_open = inv.is_open;
-      spared = inv.spared;
-      clean = inv.clean;
-      stands = inv.stands;
-      leaves = inv.leaves;
-      going = λ h s d met all e there bounded pairs held.
-          goes_on q c.loop-place.fold c.take_unread.new.fold d.features (met ++ all) o (drop (i + 1) os) (subst (Going q c.loop-place.fold d.features (met ++ all)) (turn os i o c.loop-place-test.true c.index-outlines-place.is) (inv.going h s d met all e there bounded pairs held))
-          (λ fs f entry holds. c.take_unread.ensures.taken c.if-take_unread.true fs f entry.known entry.made holds);
+      look = read_so inv.look (λ s _ e going d met all there bounded pairs held.
+          goes_on q c.loop-place.fold c.take_unread.new.fold d.features (met ++ all) o (drop (i + 1) os) (subst (Going q c.loop-place.fold d.features (met ++ all)) (turn os i o c.loop-place-test.true c.index-outlines-place.is) (going d met all there bounded pairs held))
+          (λ fs f entry holds. c.take_unread.ensures.taken c.if-take_unread.true fs f entry.known entry.made holds));
     }
 
 pub loop-place-preserved : goal.loop-place-preserved
 loop-place-preserved g c =
     let inv = c.loop-place.invariant in
-    let says = c.in-Ok-true.ensures in
     let q = query_value c.args.query.now in
     let os = c.as_slice-outlines.result.now in
     let i = c.loop-place.place in
@@ -79,52 +64,28 @@ loop-place-preserved g c =
     let next = c.index-outlines-place.is in
     record {
       within = omega (arith, subst (λ l. n ≤ length l) (rest_is os (i + 1)) c.run_length-more.ensures.within, length-drop (i + 1) os);
-      is_open = says.faults.1;
-      spared = g.met.K.Keeper.spares_then _ _ _ inv.spared says.spared;
-      clean = λ h. inv.clean (says.began_clean h);
-      stands = λ h s e. (says.takes h s (inv.stands (says.began_clean h) s e)).1;
-      leaves = λ h s e only. says.leaves h s (inv.stands (says.began_clean h) s e) (inv.leaves (says.began_clean h) s e only);
-      going = λ h s d met all e there bounded pairs held.
-          goes_on_behind q c.loop-place.fold c.take_run.new.fold d.features (met ++ all) run (drop (i + 1 + n) os) (subst (Going q c.loop-place.fold d.features (met ++ all)) (sym (run_whole os i n o low next)) (inv.going (says.began_clean h) s d met all e there bounded pairs held))
+      look = read_after inv.look c.in-Ok-true.ensures (λ s e going one d met all there bounded pairs held.
+          goes_on_behind q c.loop-place.fold c.take_run.new.fold d.features (met ++ all) run (drop (i + 1 + n) os) (subst (Going q c.loop-place.fold d.features (met ++ all)) (sym (run_whole os i n o low next)) (going d met all there bounded pairs held))
           (λ fs gs entries before.
           let same = c.take_unread.ensures.unchanged c.if-take_unread.false in
           let examined = All-cons (IsExamined q) o (take n (drop (i + 1) os)) (c.take_unread.ensures.candidate c.if-take_unread.false) (subst (λ l. All (IsExamined q) (take n l)) (rest_is os (i + 1)) c.run_length-more.ensures.examined) in
-          let takes = (says.takes h s (inv.stands (says.began_clean h) s e)).0 c.in-Ok-true.field-0-test d q (candidates q fs) gs there (subst (λ l. Pairs d.features l gs) (sym (run_front os i n o low next)) entries) in
+          let takes = one c.in-Ok-true.field-0-test d q (candidates q fs) gs there (subst (λ l. Pairs d.features l gs) (sym (run_front os i n o low next)) entries) in
           run_held q c.loop-place.fold c.take_run.new.fold d.features run fs gs examined entries before
-          (λ holds. takes (subst (λ fold. IsFoldOf q fold (candidates q fs)) (sym same) holds)));
+          (λ holds. takes (subst (λ fold. IsFoldOf q fold (candidates q fs)) (sym same) holds))));
     }
 
-pub returns-in-Ok-false-clause-leaves : goal.returns-in-Ok-false-clause-leaves
-returns-in-Ok-false-clause-leaves g c = λ h s e only.
-    let inv = c.loop-place.invariant in
-    let says = c.in-Ok-false.ensures in
-    says.leaves h s (inv.stands (says.began_clean h) s e) (inv.leaves (says.began_clean h) s e only)
+pub returns-in-Err : goal.returns-in-Err
+returns-in-Err g c =
+    let model = g.K.Keeper.model in
+    read_failed (read_then c.loop-place.invariant.look c.in-Err.ensures (λ s y e going one. one))
 
-pub returns-in-Err-clause-leaves : goal.returns-in-Err-clause-leaves
-returns-in-Err-clause-leaves g c = λ h s e only.
-    let inv = c.loop-place.invariant in
-    let says = c.in-Err.ensures in
-    says.leaves h s (inv.stands (says.began_clean h) s e) (inv.leaves (says.began_clean h) s e only)
+pub returns-in-Ok-false : goal.returns-in-Ok-false
+returns-in-Ok-false g c = read_after c.loop-place.invariant.look c.in-Ok-false.ensures (λ s e going one taken. absurd cc)
 
-pub returns-clause-takes : goal.returns-clause-takes
-returns-clause-takes g c = λ h s e.
-    let inv = c.loop-place.invariant in
+pub returns : goal.returns
+returns g c =
     let q = query_value c.args.query.now in
-    let os = c.as_slice-outlines.result.now in (
-      λ taken d met all there bounded pairs held.
-          let kept = subst (λ xs. Pairs d.features xs all) (sym c.as_slice-outlines.ensures.value) pairs in
-          all_held q c.loop-place.fold d.features (met ++ all) (subst (Going q c.loop-place.fold d.features (met ++ all)) (drop_all c.loop-place.place os (omega arith)) (inv.going h s d met all e there bounded kept held)),
-      inv.stands h s e,
-    )
-
-pub returns-in-Ok-false-clause-spared : goal.returns-in-Ok-false-clause-spared
-returns-in-Ok-false-clause-spared g c = g.met.K.Keeper.spares_then _ _ _ c.loop-place.invariant.spared c.in-Ok-false.ensures.spared
-
-pub returns-in-Err-clause-spared : goal.returns-in-Err-clause-spared
-returns-in-Err-clause-spared g c = g.met.K.Keeper.spares_then _ _ _ c.loop-place.invariant.spared c.in-Err.ensures.spared
-
-pub returns-in-Err-clause-device : goal.returns-in-Err-clause-device
-returns-in-Err-clause-device g c = λ h s e failed.
-    let inv = c.loop-place.invariant in
-    let says = c.in-Err.ensures in
-    g.met.K.Keeper.fails_later _ _ _ inv.spared says.spared (says.device h s (inv.stands (says.began_clean h) s e) failed)
+    let os = c.as_slice-outlines.result.now in
+    read_made c.loop-place.invariant.look (λ s e going taken d met all there bounded pairs held.
+    let kept = subst (λ xs. Pairs d.features xs all) (sym c.as_slice-outlines.ensures.value) pairs in
+    all_held q c.loop-place.fold d.features (met ++ all) (subst (Going q c.loop-place.fold d.features (met ++ all)) (drop_all c.loop-place.place os (omega arith)) (going d met all there bounded kept held)))

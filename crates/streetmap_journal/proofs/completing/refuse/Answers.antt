@@ -1,8 +1,8 @@
-use Rattle.std.proofs.Common.{rules}
+use Rattle.streetmap_replay.proofs.CallsInTurn.{failed_read, lost_read}
 use Rattle.streetmap_journal.proofs.completing.refuse.Goals as goal
 
-pub returns-in-Err-clause-faults : goal.returns-in-Err-clause-faults
-returns-in-Err-clause-faults c = search rules
+pub returns-in-Ok : goal.returns-in-Ok
+returns-in-Ok g c = lost_read c.in-Ok.ensures
 
-pub returns-in-Err-clause-keeps : goal.returns-in-Err-clause-keeps
-returns-in-Err-clause-keeps c = search rules
+pub returns-in-Err : goal.returns-in-Err
+returns-in-Err g c = failed_read c.in-Err.ensures

@@ -1,40 +1,71 @@
-use Rattle.std.proofs.Common.{rules, ◌≡◌, true, sym, ◌∙◌, ap}
+use Rattle.std.proofs.Common.{◌≡◌, true, sym, ◌∙◌, ap, subst}
 use Rattle.streetmap_batch.specs.BatchView.{batch_value}
 use Rattle.streetmap_ledger.specs.Laws.{is_accepted}
 use Rattle.streetmap_ledger.specs.Batches.{act}
-use Rattle.streetmap_journal.proofs.LineBehindBatch.{accepted_holds, refused_leaves}
+use Rattle.streetmap_ledger.specs.State.{State}
+use Rattle.streetmap_replay.proofs.CallsInTurn.{call_from}
+use Rattle.streetmap_journal.specs.Telling.{IsFor}
+use Rattle.streetmap_journal.proofs.LineBehindBatch.{accepted_holds, repeated_stays, refused_stays}
+use Rattle.streetmap_journal.proofs.Over.{not_asked}
 use Rattle.streetmap_journal.proofs.keeper.apply_and_note.Goals as goal
 
-pub returns-in-Ok-Accepted-clause-acts : goal.returns-in-Ok-Accepted-clause-acts
-returns-in-Ok-Accepted-clause-acts g c = λ h s e holds.
-    let says = c.in-Ok-Accepted.ensures.acts h s e in
-    let is = c.in-Ok-Accepted.field-0-is in
+pub returns-in-Ok-Accepted-clause-applied : goal.returns-in-Ok-Accepted-clause-applied
+returns-in-Ok-Accepted-clause-applied g c = let it = rw c.in-Ok-Accepted.field-0-is at c.in-Ok-Accepted.ensures in it.applied
+
+pub returns-in-Ok-Accepted-clause-call : goal.returns-in-Ok-Accepted-clause-call
+returns-in-Ok-Accepted-clause-call g c = let it = rw c.in-Ok-Accepted.field-0-is at c.in-Ok-Accepted.ensures in it.call
+
+pub returns-in-Ok-Accepted-clause-writes : goal.returns-in-Ok-Accepted-clause-writes
+returns-in-Ok-Accepted-clause-writes g c = let it = rw c.in-Ok-Accepted.field-0-is at c.in-Ok-Accepted.ensures in it.writes
+
+pub returns-in-Ok-Accepted-clause-noted : goal.returns-in-Ok-Accepted-clause-noted
+returns-in-Ok-Accepted-clause-noted g c = λ h s e before.
+    let says = c.in-Ok-Accepted.ensures.writes h s e in
     let b = batch_value c.args.batch.now in
-    let well = g.met.K.Keeper.well_formed in
-    let accepted : is_accepted (act s b).reply ≡ true = ap is_accepted (sym says.0 ∙ is) in (
-      sym is ∙ says.0,
-      (
-        says.1,
-        (
-          c.note.ensures.told holds.0,
-          λ tells. accepted_holds s b (well c.args.keeper.now s e)
-              (well c.apply.new.self (act s b).state says.1) accepted _ _ _ _ _
-              (c.as_slice.ensures.value ∙ c.in-Ok.ensures) c.note.ensures.line (holds.1 tells),
-        ),
-      ),
+    let well = g.K.Keeper.model.well_formed in
+    let accepted : is_accepted (act s b).reply ≡ true = ap is_accepted (sym says.0 ∙ c.in-Ok-Accepted.field-0-is) in (
+      c.note.ensures.told before.0,
+      λ tells. accepted_holds s b (well c.args.keeper.now s e)
+          (well c.apply.new.self (act s b).state says.1) accepted _ _ _ _ _
+          (c.as_slice.ensures.value ∙ c.in-Ok.ensures) c.note.ensures.line (before.1 tells),
     )
 
-pub returns-in_default-clause-leaves : goal.returns-in_default-clause-leaves
-returns-in_default-clause-leaves g c = λ h s e only.
-    refused_leaves s (batch_value c.args.batch.now) c.refuse.result
-    (g.K.Keeper.stands c.refuse.new.keeper) (g.K.Keeper.may_leave c.refuse.new.keeper)
-    (c.refuse.ensures.keeps h s e) (c.refuse.ensures.leaves h s e only)
+pub returns-in-Ok-Repeated-clause-applied : goal.returns-in-Ok-Repeated-clause-applied
+returns-in-Ok-Repeated-clause-applied g c = let it = rw c.in-Ok-Repeated.field-0-is at c.in-Ok-Repeated.ensures in it.applied
 
-pub returns-in-Ok-Repeated-clause-acts : goal.returns-in-Ok-Repeated-clause-acts
-returns-in-Ok-Repeated-clause-acts c = search rules
+pub returns-in-Ok-Repeated-clause-call : goal.returns-in-Ok-Repeated-clause-call
+returns-in-Ok-Repeated-clause-call g c = let it = rw c.in-Ok-Repeated.field-0-is at c.in-Ok-Repeated.ensures in it.call
 
-pub returns-in-Ok-Refused-clause-acts : goal.returns-in-Ok-Refused-clause-acts
-returns-in-Ok-Refused-clause-acts c = search rules
+pub returns-in-Ok-Repeated-clause-writes : goal.returns-in-Ok-Repeated-clause-writes
+returns-in-Ok-Repeated-clause-writes g c = let it = rw c.in-Ok-Repeated.field-0-is at c.in-Ok-Repeated.ensures in it.writes
 
-pub returns-clause-acts : goal.returns-clause-acts
-returns-clause-acts c = search rules
+pub returns-in-Ok-Repeated-clause-noted : goal.returns-in-Ok-Repeated-clause-noted
+returns-in-Ok-Repeated-clause-noted g c = λ h s e before.
+    let W = g.W.JournalWriter in
+    let says = c.in-Ok-Repeated.ensures.writes h s e in
+    let b = batch_value c.args.batch.now in
+    let same = repeated_stays s b c.in-Ok-Repeated.counts c.in-Ok-Repeated.serial (sym says.0 ∙ c.in-Ok-Repeated.field-0-is) in
+    subst (λ (t : State). IsFor W.contents W.told W.is_kept c.args.journal.now t) (sym same) before
+
+pub returns-in-Ok-Refused-clause-applied : goal.returns-in-Ok-Refused-clause-applied
+returns-in-Ok-Refused-clause-applied g c = let it = rw c.in-Ok-Refused.field-0-is at c.in-Ok-Refused.ensures in it.applied
+
+pub returns-in-Ok-Refused-clause-call : goal.returns-in-Ok-Refused-clause-call
+returns-in-Ok-Refused-clause-call g c = let it = rw c.in-Ok-Refused.field-0-is at c.in-Ok-Refused.ensures in it.call
+
+pub returns-in-Ok-Refused-clause-writes : goal.returns-in-Ok-Refused-clause-writes
+returns-in-Ok-Refused-clause-writes g c = let it = rw c.in-Ok-Refused.field-0-is at c.in-Ok-Refused.ensures in it.writes
+
+pub returns-in-Ok-Refused-clause-noted : goal.returns-in-Ok-Refused-clause-noted
+returns-in-Ok-Refused-clause-noted g c = λ h s e before.
+    let W = g.W.JournalWriter in
+    let says = c.in-Ok-Refused.ensures.writes h s e in
+    let b = batch_value c.args.batch.now in
+    let same = refused_stays s b c.in-Ok-Refused.why c.in-Ok-Refused.place (sym says.0 ∙ c.in-Ok-Refused.field-0-is) in
+    subst (λ (t : State). IsFor W.contents W.told W.is_kept c.args.journal.now t) (sym same) before
+
+pub returns-in_default-clause-call : goal.returns-in_default-clause-call
+returns-in_default-clause-call g c = call_from c.refuse.ensures.calls
+
+pub returns-in_default-clause-writes : goal.returns-in_default-clause-writes
+returns-in_default-clause-writes g c = λ h s e. not_asked g.K.Keeper.model c.args.keeper.now c.refuse.new.keeper s (batch_value c.args.batch.now) c.refuse.result (c.refuse.ensures.stays h s e)

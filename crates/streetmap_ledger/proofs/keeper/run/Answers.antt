@@ -1,8 +1,9 @@
-use Rattle.std.proofs.Common.{◌≡◌, map, ◌+◌, ◌∷◌, ◌++◌, [], length, take, Some, sym, ap, subst, ◌∙◌, rules, arith}
+use Rattle.std.proofs.Common.{◌≡◌, map, ◌+◌, ◌∷◌, ◌++◌, [], length, take, Some, Err, sym, ap, subst, ◌∙◌, rules, arith}
 use Rattle.streetmap_ledger.specs.State.{State}
 use Rattle.streetmap_ledger.specs.Batches.{replies_of}
+use Rattle.streetmap_ledger.specs.Keep.{RunEnds}
 use Rattle.streetmap_batch.specs.BatchView.{batch_value}
-use Rattle.streetmap_ledger.proofs.Runs.{replies_last, taken, after_more, leaves_at}
+use Rattle.streetmap_ledger.proofs.Runs.{replies_last, taken, after_more, ends_at}
 use Rattle.streetmap_ledger.proofs.keeper.run.Goals as goal
 use Rattle.streetmap_ledger.proofs.keeper.run.Goals.{else-loop-batch-test, then-loop-batch-test+in-Err}
 
@@ -19,30 +20,30 @@ loop-batch-preserved g c =
       count = search rules;
       room = search rules;
       running = inv.running;
-      spared = g.met.K.Keeper.spares_then _ _ _ inv.spared says.spared;
-      clean = λ h. inv.clean (says.began_clean h);
-      cause = says.faults.1 ∙ (sym says.faults.0 ∙ inv.cause);
-      stands = λ h s e. subst (g.K.Keeper.stands c.apply.new.self) (next s) (says.acts h _ (inv.stands (says.began_clean h) s e)).1;
-      replies = λ h s e. c.push_reserved.ensures.items ∙ (ap (λ rs. rs ++ c.in-Ok-apply.reply ∷ []) (inv.replies (says.began_clean h) s e)
-          ∙ (ap (λ r. replies_of s (take i all) ++ r ∷ []) (says.acts h _ (inv.stands (says.began_clean h) s e)).0
+      spared = g.K.Keeper.model.spares_then _ _ _ inv.spared says.call.spared;
+      clean = λ h. inv.clean (says.call.began_clean h);
+      cause = says.call.faults.1 ∙ (sym says.call.faults.0 ∙ inv.cause);
+      represents = λ h s e. subst (g.K.Keeper.model.represents c.apply.new.self) (next s) (says.writes h _ (inv.represents (says.call.began_clean h) s e)).1;
+      replies = λ h s e. c.push_reserved.ensures.items ∙ (ap (λ rs. rs ++ c.in-Ok-apply.reply ∷ []) (inv.replies (says.call.began_clean h) s e)
+          ∙ (ap (λ r. replies_of s (take i all) ++ r ∷ []) (says.writes h _ (inv.represents (says.call.began_clean h) s e)).0
           ∙ (sym (replies_last s (take i all) b) ∙ ap (replies_of s) (sym more))));
-      leaves = λ h s e only o left. says.leaves h _ (inv.stands (says.began_clean h) s e) (inv.leaves (says.began_clean h) s e only) o left ∙ ap Some (next s);
     }
 
-pub returns-clause-leaves : goal.returns-clause-leaves
-returns-clause-leaves g c h s e only =
+pub returns-clause-ends : goal.returns-clause-ends
+returns-clause-ends g c h s e =
+    let model = g.K.Keeper.model in
     let inv = c.loop-batch.invariant in
     let i = c.loop-batch.batch-index in
     let all = map batch_value c.args.batches.now in
     elim c.loop-batch-test.branch [
       | else-loop-batch-test w ↦
           let clean = rw w.keeper-is at h in
-          rw (w.fault-is, inv.running, w.keeper-is, inv.count) (inv.leaves clean s e only)
+          rw (w.fault-is, inv.running, w.keeper-is, inv.count) (inv.represents clean s e)
       | then-loop-batch-test+in-Err w ↦
           let clean = rw w.keeper-is at h in
-          let says = w.in-Err.ensures in
+          let wrote = w.in-Err.ensures in
           let b = batch_value w.batch-item.result in
           let more : take (i + 1) all ≡ take i all ++ b ∷ [] = taken c.args.batches.now i w.batch-item.result (omega arith) w.batch-item.is in
-          let before = says.began_clean clean in
-          rw (w.fault-is, w.keeper-is) (leaves_at s all (length c.loop-batch.replies.items) i b w.in-Err.stopped _ inv.count more (says.leaves clean _ (inv.stands before s e) (inv.leaves before s e only)))
+          let ended = ends_at model _ _ _ s all (length c.loop-batch.replies.items) i b w.in-Err.stopped inv.count more (model.fails_later _ _ _ inv.spared wrote.call.spared) (wrote.writes clean _ (inv.represents (wrote.call.began_clean clean) s e)) in
+          rw w.fault-is (subst (λ k. RunEnds model c.args.keeper.now k s all (length c.loop-batch.replies.items) (Some w.in-Err.stopped)) (sym w.keeper-is) ended)
     ]

@@ -2,13 +2,12 @@ use Rattle.std.proofs.Common.{◌≡◌, map, length, take, vec_capacity, Some, 
 use Rattle.streetmap_ledger.specs.State.{State}
 use Rattle.streetmap_ledger.specs.Batches.{after_all, replies_of}
 use Rattle.streetmap_batch.specs.BatchView.{batch_value}
-use Rattle.streetmap_ledger.specs.Keep.{LeavesOnly}
 use Rattle.streetmap_ledger.proofs.keeper.run.Given as goal
 
 -- what is so as long as no batch ended the run
 abbrev pub invariant-loop-batch : goal.invariant-loop-batch
 invariant-loop-batch g l =
-    let k = g.K.Keeper in
+    let k = g.K.Keeper.model in
     record {
       count : length l.replies.items ≡ l.batch-index;
       room : vec_capacity l.replies ≡ length l.batches;
@@ -16,7 +15,6 @@ invariant-loop-batch g l =
       spared : k.spares l.fn.keeper l.keeper;
       clean : k.is_clean l.keeper → k.is_clean l.fn.keeper;
       cause : k.cause l.keeper ≡ k.cause l.fn.keeper;
-      stands : k.is_clean l.keeper → (s : State) → k.stands l.fn.keeper s → k.stands l.keeper (after_all s (take l.batch-index (map batch_value l.batches)));
-      replies : k.is_clean l.keeper → (s : State) → k.stands l.fn.keeper s → l.replies.items ≡ replies_of s (take l.batch-index (map batch_value l.batches));
-      leaves : k.is_clean l.keeper → (s : State) → k.stands l.fn.keeper s → LeavesOnly (k.may_leave l.fn.keeper) (Some s) → LeavesOnly (k.may_leave l.keeper) (Some (after_all s (take l.batch-index (map batch_value l.batches))));
+      represents : k.is_clean l.keeper → (s : State) → k.represents l.fn.keeper s → k.represents l.keeper (after_all s (take l.batch-index (map batch_value l.batches)));
+      replies : k.is_clean l.keeper → (s : State) → k.represents l.fn.keeper s → l.replies.items ≡ replies_of s (take l.batch-index (map batch_value l.batches));
     }

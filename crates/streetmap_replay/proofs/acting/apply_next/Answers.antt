@@ -1,26 +1,14 @@
-use Rattle.std.proofs.Common.{rules, ◌≡◌, Bool, cond, Ok, Err, subst, sym, ◌∙◌}
+use Rattle.std.proofs.Common.{Ok}
 use Rattle.streetmap_batch.specs.BatchView.{batch_value}
-use Rattle.streetmap_replay.specs.Following.{acted, not_next, acted_next, is_next}
-use Rattle.streetmap_replay.specs.Acting.{OutcomeLeaves}
-use Rattle.streetmap_replay.proofs.ToldBatches.{look_leaves}
+use Rattle.streetmap_replay.specs.Following.{acted_next}
+use Rattle.streetmap_replay.proofs.ToldBatches.{next_followed, next_not, next_failed}
 use Rattle.streetmap_replay.proofs.acting.apply_next.Goals as goal
 
-pub returns-in-Ok-true-clause-leaves : goal.returns-in-Ok-true-clause-leaves
-returns-in-Ok-true-clause-leaves g c = λ h s e only.
-    let began = c.apply.ensures.began_clean h in
-    let next = c.in-Ok-true.ensures.tells began s e in
-    let outcome = acted s (Ok (batch_value c.args.batch.now)) in
-    subst (λ (t : Bool). OutcomeLeaves s (cond t outcome (Err not_next)) c.apply.result
-    (g.K.Keeper.may_leave c.apply.new.keeper)) (sym c.in-Ok-true.field-0-test ∙ next.0)
-    (c.apply.ensures.leaves h s next.1 (c.in-Ok-true.ensures.leaves began s e only))
+pub returns-in-Ok-true : goal.returns-in-Ok-true
+returns-in-Ok-true g c = next_followed c.args.serial (batch_value c.args.batch.now) c.in-Ok-true.ensures c.in-Ok-true.field-0-test c.apply.ensures
 
-pub returns-in-Err-clause-leaves : goal.returns-in-Err-clause-leaves
-returns-in-Err-clause-leaves g c = λ h s e only.
-    look_leaves {T = Bool} s (acted_next s c.args.serial (Ok (batch_value c.args.batch.now)))
-    c.in-Err.fault (λ (t : Bool). t ≡ is_next s c.args.serial (batch_value c.args.batch.now))
-    (g.K.Keeper.stands c.is_next.new.keeper)
-    (g.K.Keeper.may_leave c.is_next.new.keeper) (c.in-Err.ensures.tells h s e)
-    (c.in-Err.ensures.leaves h s e only)
+pub returns-in-Ok-false : goal.returns-in-Ok-false
+returns-in-Ok-false g c = next_not c.args.serial (batch_value c.args.batch.now) c.in-Ok-false.ensures c.in-Ok-false.field-0-test
 
-pub returns-in-Ok-false-clause-follows : goal.returns-in-Ok-false-clause-follows
-returns-in-Ok-false-clause-follows c = search rules
+pub returns-in-Err : goal.returns-in-Err
+returns-in-Err g c = next_failed (λ s. acted_next s c.args.serial (Ok (batch_value c.args.batch.now))) c.in-Err.ensures

@@ -1,21 +1,15 @@
 use Rattle.std.proofs.Common.{◌≡◌, length, ap, ◌∙◌, rules, arith}
 use Rattle.streetmap_connections.specs.declared.limits.Limits.{Limits}
 use Rattle.streetmap_connections.specs.Served.{slots_of}
-use Rattle.streetmap_web.specs.Sight.{Sight, sight_of}
-use Rattle.streetmap_web.proofs.RequestsInTurn.{none_in_row, none_survives}
-use Rattle.streetmap_web.proofs.clients.serve_count.Given.{Over}
+use Rattle.streetmap_web.proofs.CallsInARow.{no_calls}
+use Rattle.streetmap_web.proofs.RequestsInTurn.{none_in_row}
 use Rattle.streetmap_web.proofs.clients.serve_count.Goals as goal
 
-abbrev seen : (g : Over) → Sight g.row.K.Denot
-seen g =
-    let k = g.K.Keeper in
-    sight_of k.stands k.cause k.may_leave k.is_clean k.applies k.spares k.fails
-
 pub returns-in_err-clients-clause-serves : goal.returns-in_err-clients-clause-serves
-returns-in_err-clients-clause-serves g c clean x stands = none_in_row (seen g) c.args.service.now clean x stands c.args.count _ (λ done. search rules)
+returns-in_err-clients-clause-serves g c clean x stands = none_in_row g.K.Keeper.model c.args.service.now clean x stands c.args.count _ (λ done. search rules)
 
-pub returns-in_err-clients-clause-survives : goal.returns-in_err-clients-clause-survives
-returns-in_err-clients-clause-survives g c clean s stands only = none_survives (seen g) c.args.service.now clean s stands only
+pub returns-in_err-clients-clause-calls : goal.returns-in_err-clients-clause-calls
+returns-in_err-clients-clause-calls g c = no_calls g.K.Keeper.model c.args.service.now.keeper
 
 pub returns-clause-serves : goal.returns-clause-serves
 returns-clause-serves g c clean x stands =

@@ -1,5 +1,11 @@
-use Rattle.std.proofs.Common.{sym}
+use Rattle.std.proofs.Common.{refl, sym}
+use Rattle.streetmap_ledger.proofs.Calls.{read_so}
+use Rattle.streetmap_index.proofs.Over.{read_beside}
 use Rattle.streetmap_index.proofs.keeper.IndexedKeeper.page_known.Goals as goal
 
-pub returns-in-Some-clause-shows : goal.returns-in-Some-clause-shows
-returns-in-Some-clause-shows g c = λ h s e index. c.page_with.ensures.shows h s e (index.0 _ _ (sym c.in-Some.ensures.value))
+pub returns-in-Some : goal.returns-in-Some
+returns-in-Some g c =
+    read_so (read_beside c.page_with.ensures refl) (λ s x e is. is (e.1.0 _ _ (sym c.in-Some.ensures.value)))
+
+pub returns-in-None : goal.returns-in-None
+returns-in-None g c = read_beside c.page.ensures refl

@@ -1,58 +1,77 @@
-use Rattle.std.proofs.Common.{Some, refl}
+use Rattle.std.proofs.Common.{Some, Result, Err, refl}
+use Rattle.streetmap_ledger.specs.declared.reply.Fault.{Fault}
+use Rattle.streetmap_ledger.specs.declared.reply.Reply.{Reply}
 use Rattle.streetmap_batch.specs.BatchView.{batch_value}
-use Rattle.streetmap_journal.specs.Telling.{IsWholeUnless, ReachesUnless}
-use Rattle.streetmap_journal.proofs.LooksInTurn.{of_reply}
+use Rattle.streetmap_replay.proofs.CallsInTurn.{call_from, call_after}
+use Rattle.streetmap_journal.specs.Telling.{IsFor, IsWholeUnless, ReachesUnless}
+use Rattle.streetmap_journal.proofs.Over.{of_reply, state_by, writes_from, not_asked, none_for, for_after, call_over, writes_over}
 use Rattle.streetmap_journal.proofs.Telling.{fails_through, with_reply}
-use Rattle.streetmap_journal.proofs.LineBehindBatch.{refused_leaves}
 use Rattle.streetmap_journal.proofs.keeper.JournaledKeeperKeeper.apply.Goals as goal
 
-pub returns-in-Err-clause-leaves : goal.returns-in-Err-clause-leaves
-returns-in-Err-clause-leaves g c = λ h s e only.
-    refused_leaves s (batch_value c.args.batch.now) c.in-Err.fault
-    (g.K.Keeper.stands c.complete.new.keeper) (g.K.Keeper.may_leave c.complete.new.keeper)
-    (c.in-Err.ensures.keeps h s e.0) (c.in-Err.ensures.leaves h s e.0 only)
+-- the lines that were missing could not be written, as the keeper failed
+pub returns-in-Err : goal.returns-in-Err
+returns-in-Err g c =
+    let model = g.K.Keeper.model in
+    let W = g.W.JournalWriter in
+    let says = c.in-Err.ensures in
+    record {
+      applied = (c.complete.new.keeper, says.reads.calls.spared, tt);
+      call = call_over model W.contents W.told W.is_kept W.fails (call_from says.reads.calls);
+      writes = λ h s e.
+          let before = rw c.in-Some.is at e.1 in
+          let b = batch_value c.args.batch.now in
+          let after : IsFor W.contents W.told W.is_kept c.complete.new.journal s = (says.told before.0, λ tells. says.holds h s e.0 (before.1 tells)) in
+          writes_over model W.contents W.told W.is_kept W.fails c.args.self.now (record c.args.self.now { keeper = c.complete.new.keeper; journal = Some c.complete.new.journal }) s b (Err c.in-Err.fault)
+          (not_asked model c.args.self.now.keeper c.complete.new.keeper s b c.in-Err.fault (says.reads.stays h s e.0)) after;
+    }
 
-pub returns-in-Ok-clause-acts : goal.returns-in-Ok-clause-acts
-returns-in-Ok-clause-acts g c = λ h s e.
-    let was = c.apply_and_note.ensures.began_clean h in
-    let it = c.in-Ok.ensures.keeps was s e.0 in
-    let journal = rw c.in-Some.is at e.1 in
-    c.apply_and_note.ensures.acts h s it
-    (c.in-Ok.ensures.told journal.0, λ tells. c.in-Ok.ensures.holds was s e.0 (journal.1 tells))
-
-pub returns-in-Ok-clause-leaves : goal.returns-in-Ok-clause-leaves
-returns-in-Ok-clause-leaves g c = λ h s e only.
-    let was = c.apply_and_note.ensures.began_clean h in
-    c.apply_and_note.ensures.leaves h s (c.in-Ok.ensures.keeps was s e.0)
-    (c.in-Ok.ensures.leaves was s e.0 only)
-
-pub returns-in-Ok-clause-applied : goal.returns-in-Ok-clause-applied
-returns-in-Ok-clause-applied g c =
-    let K = g.K.Keeper in
+pub returns-in-Ok : goal.returns-in-Ok
+returns-in-Ok g c =
+    let model = g.K.Keeper.model in
     let W = g.W.JournalWriter in
     let b = batch_value c.args.batch.now in
     let first = c.in-Some.journal in
     let mid = c.complete.new.journal in
     let last = c.apply_and_note.new.journal in
+    let says = c.in-Ok.ensures in
+    let noted = c.apply_and_note.ensures in
     let reaches : IsWholeUnless W.fails first last = λ is.
     fails_through W.goes W.fails g.met.W.JournalWriter.fails_later g.met.W.JournalWriter.fails_still first.writer mid.writer
-    last.writer mid.is_behind c.in-Ok.ensures.goes c.apply_and_note.ensures.goes
-    (c.in-Ok.ensures.failed refl) (λ whole. c.apply_and_note.ensures.failed whole is) in (
-      c.complete.new.keeper,
-      c.in-Ok.ensures.spared,
-      with_reply (λ r. K.applies c.complete.new.keeper b r c.apply_and_note.new.keeper)
-          (ReachesUnless W.fails c.args.self.now.journal (Some last)) c.apply_and_note.result
-          (rw c.in-Some.is reaches)
-          c.apply_and_note.ensures.applied,
-    )
+    last.writer mid.is_behind says.goes noted.goes (says.failed refl) (λ whole. noted.failed whole is) in
+    record {
+      applied = (
+        c.complete.new.keeper,
+        says.reads.calls.spared,
+        with_reply (λ r. model.applies c.complete.new.keeper b r c.apply_and_note.new.keeper)
+            (ReachesUnless W.fails c.args.self.now.journal (Some last)) c.apply_and_note.result
+            (rw c.in-Some.is reaches) noted.applied,
+      );
+      call = call_over model W.contents W.told W.is_kept W.fails (call_after says.reads.calls noted.call);
+      writes = λ h s e.
+          let was = noted.call.began_clean h in
+          let it = says.reads.stays was s e.0 in
+          let before = rw c.in-Some.is at e.1 in
+          let completed : IsFor W.contents W.told W.is_kept mid s = (says.told before.0, λ tells. says.holds was s e.0 (before.1 tells)) in
+          writes_over model W.contents W.told W.is_kept W.fails c.args.self.now (record c.args.self.now { keeper = c.apply_and_note.new.keeper; journal = Some last }) s b c.apply_and_note.result
+          (writes_from model c.args.self.now.keeper c.complete.new.keeper c.apply_and_note.new.keeper s b c.apply_and_note.result (model.fails_later _ _ _ says.reads.calls.spared noted.call.spared) (noted.writes h s it))
+          (for_after W.contents W.told W.is_kept s b c.apply_and_note.result mid last noted.untouched (noted.noted h s it completed) completed);
+    }
 
-pub returns-in-None-clause-applied : goal.returns-in-None-clause-applied
-returns-in-None-clause-applied g c = (
-  c.args.self.now.keeper,
-  g.met.K.Keeper.spares_itself _,
-  with_reply (λ r. g.K.Keeper.applies c.args.self.now.keeper (batch_value c.args.batch.now) r
-      c.apply.new.self) (ReachesUnless g.W.JournalWriter.fails c.args.self.now.journal c.args.self.now.journal)
-      c.apply.result (rw c.in-None.is tt)
-      (of_reply (λ r. g.K.Keeper.applies c.args.self.now.keeper (batch_value c.args.batch.now) r
-      c.apply.new.self) c.apply.result c.apply.ensures.applied),
-)
+pub returns-in-None : goal.returns-in-None
+returns-in-None g c =
+    let model = g.K.Keeper.model in
+    let W = g.W.JournalWriter in
+    let b = batch_value c.args.batch.now in
+    let journal = c.args.self.now.journal in
+    let says = c.apply.ensures in
+    let applies : Result Reply Fault → Type 0 = λ r. model.applies c.args.self.now.keeper b r c.apply.new.self in
+    record {
+      applied = (
+        c.args.self.now.keeper,
+        model.spares_itself c.args.self.now.keeper,
+        with_reply applies (ReachesUnless W.fails journal journal) c.apply.result (rw c.in-None.is tt) (of_reply applies c.apply.result says.applied),
+      );
+      call = call_over model W.contents W.told W.is_kept W.fails says.call;
+      writes = λ h s e. writes_over model W.contents W.told W.is_kept W.fails c.args.self.now (record c.args.self.now { keeper = c.apply.new.self }) s b c.apply.result (says.writes h s e.0)
+          (none_for W.contents W.told W.is_kept journal (state_by s b c.apply.result) c.in-None.is);
+    }

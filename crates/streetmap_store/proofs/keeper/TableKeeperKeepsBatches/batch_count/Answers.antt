@@ -1,12 +1,9 @@
-use Rattle.std.proofs.Common.{rules, refl}
-use Rattle.sqlite.specs.Held.{state}
-use Rattle.streetmap_store.specs.Sparing.{spares_itself}
+use Rattle.std.proofs.Common.{sym}
+use Rattle.streetmap_ledger.proofs.Calls.{no_read, shut_read, open_of, shut_of}
 use Rattle.streetmap_store.proofs.keeper.TableKeeperKeepsBatches.batch_count.Goals as goal
 
-pub returns-clause-spared : goal.returns-clause-spared
-returns-clause-spared g c =
-    let keeper = c.args.self.now in
-    (λ shut. refl, spares_itself keeper.shut keeper.count (state g.S.Store keeper.conn))
+pub returns-then-not-is_open : goal.returns-then-not-is_open
+returns-then-not-is_open g c = shut_read c.args.self.now (shut_of _ _ c.is_open.ensures c.if-not-is_open.true)
 
-pub returns-clause-counts : goal.returns-clause-counts
-returns-clause-counts c = search rules
+pub returns : goal.returns
+returns g c = no_read c.args.self.now _ (open_of _ _ c.is_open.ensures c.if-not-is_open.false) (λ s is. sym is.counted)

@@ -1,0 +1,39 @@
+//! What an index needs of a keeper.
+ghost use Rattle.std.specs.Prelude.{string_bytes};
+ghost use Rattle.streetmap_ledger.specs.Keep.{IsRead, IsFeatureOf, IsRunOf, AreOutlinesOf};
+
+use crate::{Fault, FeatureOutline, Keeper};
+use streetmap_geojson::Feature;
+
+/// A keeper that an index can be kept of: it gives the outlines of features without reading these,
+/// and reads together those whose ids lie next to each other.
+pub trait Outlined: Keeper {
+    /// The feature that an outline is of; none if there is no such collection, or no feature with
+    /// its id in it. It is looked for at the place that the outline names, if it names one.
+    fn feature_outlined(
+        &mut self,
+        collection: &str,
+        outline: &FeatureOutline,
+    ) -> Result<Option<Feature>, Fault>
+        ensures { IsRead Self.model self.old self.new result
+            (IsFeatureOf collection.now (string_bytes outline.now.id)) }
+    {
+        self.feature(collection, outline.id.as_str())
+    }
+
+    /// The features of a collection whose ids lie between two in byte order, with those two, in
+    /// byte order of ids; none if there is no such collection.
+    fn features(
+        &mut self,
+        collection: &str,
+        first: &str,
+        last: &str,
+    ) -> Result<Option<Vec<Feature>>, Fault>
+        ensures { IsRead Self.model self.old self.new result
+            (IsRunOf collection.now first.now last.now) };
+
+    /// The outlines of a collection's features, in byte order of ids; none if there is no such
+    /// collection.
+    fn outlines(&mut self, collection: &str) -> Result<Option<Vec<FeatureOutline>>, Fault>
+        ensures { IsRead Self.model self.old self.new result (AreOutlinesOf collection.now) };
+}
