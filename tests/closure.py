@@ -11,8 +11,8 @@ from dataclasses import dataclass
 from pathlib import Path
 
 CRATES = Path(__file__).resolve().parent.parent / "crates"
-# The files whose contracts and trait the theorem is.
-STATEMENT = ("town.rt", "durable.rt")
+# The files whose contract and trait the theorem is.
+STATEMENT = ("streetmap_guarantee/src/town.rt", "streetmap_ledger/src/durable.rt")
 # The crates whose definitions speak of states, requests and what is served.
 FROM_STATE_UP = (
     *("streetmap_ledger", "streetmap_routes", "streetmap_web", "streetmap_connections"),
@@ -52,8 +52,7 @@ def imports_of(text: str) -> Iterator[Module]:
 
 def closure() -> list[Module]:
     """The modules that the statement needs, in order of crates and names."""
-    source = CRATES / "streetmap_guarantee" / "src"
-    waiting = [it for name in STATEMENT for it in imports_of((source / name).read_text())]
+    waiting = [it for name in STATEMENT for it in imports_of((CRATES / name).read_text())]
     found: set[Module] = set()
     while waiting:
         module = waiting.pop()
