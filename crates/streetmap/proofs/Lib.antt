@@ -1,1 +1,5 @@
-pub mod Reads
+pub mod KeptByReads
+pub mod Nobody
+pub mod Counts
+pub mod Commands
+pub mod Readers

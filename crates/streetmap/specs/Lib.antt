@@ -1,4 +1,6 @@
 pub mod Faults
 pub mod Counted
 pub mod Kept
+pub mod Changes
 pub mod Piped
+pub mod Images

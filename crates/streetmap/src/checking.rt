@@ -1,10 +1,14 @@
 //! What reads all rows of a file.
+ghost use Rattle.std.specs.Prelude.{◌≡◌};
+ghost use Rattle.streetmap_ledger.specs.State.{State};
+ghost use Rattle.streetmap.specs.Changes.{HoldOneOf};
+
 use crate::fault;
 use sqlite::Alter;
 use streetmap_checking::check_tables;
 use streetmap_faults::ProgramFault;
 use streetmap_index::IndexedKeeper;
-use streetmap_ledger::KeepsBatches;
+use streetmap_ledger::{Durable, KeepsBatches};
 use streetmap_memory::PlainKeeper;
 use streetmap_replay::{ReplayFault, check_replay};
 use streetmap_store::TableKeeper;
@@ -30,10 +34,14 @@ fn tell_collection(rt: &HostRuntime, name: &str) {
 }
 
 /// Replays the kept batches in memory, and compares what they give with what the keeper shows.
-pub(crate) fn replay<K: KeepsBatches>(
+pub(crate) fn replay<K: Durable + KeepsBatches>(
     rt: &HostRuntime,
     keeper: &mut K,
-) -> Result<(), ProgramFault> {
+) -> Result<(), ProgramFault>
+    ensures leaves { K.model.is_clean keeper.new → (s : State) → K.model.represents keeper.old s →
+        HoldOneOf K.holds (K.leaves keeper.new) (λ t. t ≡ s) }
+    ensures began_clean { K.model.is_clean keeper.new → K.model.is_clean keeper.old }
+{
     let mut fresh = IndexedKeeper::new(rt.alloc(), PlainKeeper::new(rt.alloc()));
     match check_replay(rt.alloc(), keeper, &mut fresh) {
         Ok(()) => Ok(()),

@@ -1,8 +1,10 @@
 //! What the commands do with a file: whether it exists, and over which keeper they work.
 use crate::exchange::read_batch;
+use crate::opened::{
+    apply_file, check_file, export_file, import_file, load_file, print_file, replay_file,
+};
 use crate::same::{parts, refuse_same};
 use crate::served::{pipe_file, serve_file};
-use crate::tasks::{Task, Work};
 use crate::{fault, loading};
 use sqlite::Unknown;
 use std::fs::{OpenOptions, exists, metadata};
@@ -63,14 +65,6 @@ pub(crate) fn create(rt: &HostRuntime, path: &str) -> Result<(), ProgramFault> {
     }
 }
 
-/// Does something over the keeper of a file that exists.
-fn run_over(rt: &HostRuntime, path: &str, task: Task<'_>) -> Result<(), ProgramFault> {
-    match streetmap_store::open(rt, path, Unknown) {
-        Ok(keeper) => task.run(rt, keeper),
-        Err((refused, _)) => Err(with_cause(rt, path, fault::of_open(&refused))),
-    }
-}
-
 /// Serves the requests of standard input over a file.
 pub(crate) fn pipe(rt: &HostRuntime, path: &str, base: Base) -> Result<(), ProgramFault> {
     refuse_missing(rt, path)?;
@@ -85,17 +79,13 @@ pub(crate) fn export(
     progress: bool,
 ) -> Result<(), ProgramFault> {
     refuse_missing(rt, path)?;
-    let work = Work::Export {
-        collection,
-        progress,
-    };
-    run_over(rt, path, Task::Work(work))
+    export_file(rt, path, Unknown, collection, progress)?.ended
 }
 
 /// Prints the kept batches of a file after a serial.
 pub(crate) fn print_batches(rt: &HostRuntime, path: &str, after: u32) -> Result<(), ProgramFault> {
     refuse_missing(rt, path)?;
-    run_over(rt, path, Task::Work(Work::Batches { after }))
+    print_file(rt, path, Unknown, after)?.ended
 }
 
 /// The bytes of a file; 0 if it does not exist.
@@ -132,10 +122,10 @@ pub(crate) fn serve(
 pub(crate) fn check(rt: &HostRuntime, path: &str, replay: bool) -> Result<(), ProgramFault> {
     refuse_missing(rt, path)?;
     if replay {
-        run_over(rt, path, Task::Work(Work::Replay))?;
+        replay_file(rt, path, Unknown)?.ended?;
         refuse_missing(rt, path)?;
     }
-    run_over(rt, path, Task::Check)
+    check_file(rt, path, Unknown)
 }
 
 /// Puts the features of a text into a collection of a file. The text is read, and its batch made,
@@ -143,7 +133,7 @@ pub(crate) fn check(rt: &HostRuntime, path: &str, replay: bool) -> Result<(), Pr
 pub(crate) fn import(rt: &HostRuntime, path: &str, asked: Import<'_>) -> Result<(), ProgramFault> {
     refuse_missing(rt, path)?;
     let batch = read_batch(rt, asked)?;
-    run_over(rt, path, Task::Work(Work::Import(batch)))
+    import_file(rt, path, Unknown, &batch)?.ended
 }
 
 /// Puts the features of a text into a collection of a file by batches, or prints these.
@@ -159,7 +149,7 @@ pub(crate) fn load(
     if asked.print && (asked.opens || !asked.skip) {
         loading::print(rt, load, asked)
     } else if is_file {
-        run_over(rt, path, Task::Work(Work::Load { load, asked }))
+        load_file(rt, path, Unknown, load, asked)?.ended
     } else {
         Err(ProgramFault::NoFile)
     }
@@ -169,7 +159,7 @@ pub(crate) fn load(
 pub(crate) fn apply(rt: &HostRuntime, path: &str, text: Option<&str>) -> Result<(), ProgramFault> {
     refuse_missing(rt, path)?;
     look_for(rt, path, text)?;
-    run_over(rt, path, Task::Work(Work::Apply { text }))
+    apply_file(rt, path, Unknown, text)?.ended
 }
 
 /// Checks that a text exists, if one is named, and is another than the file.

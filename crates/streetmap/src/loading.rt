@@ -1,4 +1,11 @@
 //! Features of any number in: a load.
+ghost use Rattle.std.specs.Prelude.{◌≡◌, ◌||◌, None, IsOk, IfOk};
+ghost use Rattle.streetmap_ledger.specs.State.{State};
+ghost use Rattle.streetmap_loading.specs.Options.{load_value, load_items, load_skips};
+ghost use Rattle.streetmap.specs.Changes.{HoldOneOf, Loaded as LoadLeaves, LoadedUnless};
+ghost use Rattle.streetmap.specs.Changes.{SkipsNone};
+ghost use Rattle.streetmap.specs.Kept.{IsKept};
+
 use crate::progress::{Pace, ProgressOutput};
 use crate::{fault, progress};
 use std::fs::File;
@@ -6,7 +13,7 @@ use std::io::{BufReader, IsTerminal, Read, Stderr, Write, writer};
 use streetmap_command::LoadAsked;
 use streetmap_decimal::{Rounding, Scale, Shift};
 use streetmap_faults::ProgramFault;
-use streetmap_ledger::Keeper;
+use streetmap_ledger::{Durable, Keeper};
 use streetmap_loading::{
     End, HeldTimes, KeeperSink, LineSink, Listener, Load, LoadOptions, Loaded, Opening, TextFault,
     ask_times, check_text, load_text, print_text,
@@ -26,23 +33,16 @@ struct LoadLines<'a, W> {
     faults: W,
     /// Where lines of progress go, if they are written.
     progress: Option<ProgressOutput<W>>,
-    /// How many features were skipped.
-    passed_over: &'a mut u64,
 }
 
 impl<'a> LoadLines<'a, Stderr> {
     /// Lines on standard error, those of progress if they are asked for, or if that is a terminal.
-    fn new(
-        rt: &'a HostRuntime,
-        asked: LoadAsked<'_>,
-        passed_over: &'a mut u64,
-    ) -> LoadLines<'a, Stderr> {
+    fn new(rt: &'a HostRuntime, asked: LoadAsked<'_>) -> LoadLines<'a, Stderr> {
         LoadLines {
             rt,
             pace: Pace::new(rt, asked.text),
             faults: rt.stderr(),
             progress: progress::output(rt, asked.progress, asked.print),
-            passed_over,
         }
     }
 }
@@ -59,7 +59,6 @@ impl<W: Write> Listener for LoadLines<'_, W> {
 
     /// A line that cannot be written is left out.
     fn passed_over(&mut self, fault: TextFault) {
-        *self.passed_over = self.passed_over.saturating_add(1);
         let fault = ProgramFault::Load(End::AtFault(fault));
         if let Some(output) = &mut self.progress {
             output.clear();
@@ -146,16 +145,22 @@ fn times_of<K: Keeper>(
     rt: &HostRuntime,
     sink: &mut KeeperSink<K>,
     asked: LoadAsked<'_>,
-) -> Result<HeldTimes, ProgramFault> {
+) -> Result<HeldTimes, ProgramFault>
+    ensures { IsKept K.model sink.old.keeper sink.new.keeper (IsOk result) }
+{
     if asked.opens {
         return opened_times(rt, asked);
     }
-    let times = ask_times(sink, asked.collection);
-    times.map_err(|fault| ProgramFault::Load(End::Stopped(fault)))
+    match ask_times(sink, asked.collection) {
+        Ok(times) => Ok(times),
+        Err(fault) => Err(ProgramFault::Load(End::Stopped(fault))),
+    }
 }
 
 /// Whether the features of a collection have coordinates, and all lie within 360 of 0.
-fn lies_near_zero<K: Keeper>(keeper: &mut K, collection: &str) -> bool {
+fn lies_near_zero<K: Keeper>(keeper: &mut K, collection: &str) -> bool
+    ensures { IsKept K.model keeper.old keeper.new ⊥ }
+{
     match keeper.collection(collection) {
         Ok(Some(summary)) => summary.extent.is_some_and(|extent| {
             -360 <= extent.x0 && -360 <= extent.y0 && extent.x1 <= 360 && extent.y1 <= 360
@@ -166,38 +171,50 @@ fn lies_near_zero<K: Keeper>(keeper: &mut K, collection: &str) -> bool {
 
 /// Asks whether the coordinates of a collection that was loaded without a scale are degrees, if
 /// sentences or progress are asked for, or if standard error is a terminal.
-fn warn_of_degrees<K: Keeper>(rt: &HostRuntime, keeper: &mut K, asked: LoadAsked<'_>) {
+fn warn_of_degrees<K: Keeper>(rt: &HostRuntime, keeper: &mut K, asked: LoadAsked<'_>)
+    ensures { IsKept K.model keeper.old keeper.new ⊥ }
+{
     let is_wanted = asked.explains || asked.progress || rt.stderr().is_terminal();
-    if is_wanted && asked.scale.is_none() && lies_near_zero(keeper, asked.collection) {
+    if !is_wanted || asked.scale.is_some() {
+        return;
+    }
+    if lies_near_zero(keeper, asked.collection) {
         let _ = eprintln!(rt; "{DEGREES}");
     }
 }
 
-/// Prints the result of a load if it reached its end; else returns why it ended before.
-fn end(
+/// Prints how much was loaded, unless the text is only checked or printed.
+fn print_loaded(
     rt: &HostRuntime,
     asked: LoadAsked<'_>,
     loaded: Loaded,
-    passed_over: u64,
 ) -> Result<(), ProgramFault> {
+    if asked.check || asked.print {
+        return Ok(());
+    }
+    let features = loaded.taken.saturating_sub(asked.opens as u64);
+    let (batches, serial) = (loaded.batches, loaded.serial.unwrap_or(0));
+    println!(rt; "{{\"batches\":{batches},\"features\":{features},\"serial\":{serial}}}").map_err(
+        |_| ProgramFault::WriteFailed,
+    )
+}
+
+/// Prints the result of a load if it reached its end, and returns whether features were skipped;
+/// else returns why it ended before.
+fn end(rt: &HostRuntime, asked: LoadAsked<'_>, loaded: Loaded) -> Result<(), ProgramFault>
+    ensures whole { IsOk result → loaded.end ≡ End.All }
+    ensures none_skipped { IsOk result → loaded.skipped ≡ 0 }
+{
     if let Some(mut output) = progress::output(rt, asked.progress, asked.print) {
         output.clear();
     }
-    if !matches!(loaded.end, End::All) {
-        return Err(ProgramFault::Load(loaded.end));
-    }
-    if !asked.check && !asked.print {
-        let features = loaded.taken.saturating_sub(asked.opens as u64);
-        let (batches, serial) = (loaded.batches, loaded.serial.unwrap_or(0));
-        let line = println!(rt;
-            "{{\"batches\":{batches},\"features\":{features},\"serial\":{serial}}}"
-        );
-        line.map_err(|_| ProgramFault::WriteFailed)?;
-    }
-    if passed_over == 0 {
-        Ok(())
-    } else {
-        Err(ProgramFault::PassedOver)
+    match loaded.end {
+        End::All => match print_loaded(rt, asked, loaded) {
+            Ok(()) if loaded.skipped == 0 => Ok(()),
+            Ok(()) => Err(ProgramFault::PassedOver),
+            Err(fault) => Err(fault),
+        },
+        stopped => Err(ProgramFault::Load(stopped)),
     }
 }
 
@@ -207,7 +224,9 @@ fn print_from<R: Read + Drop>(
     input: R,
     load: Load,
     asked: LoadAsked<'_>,
-) -> Result<(), ProgramFault> {
+) -> Result<(), ProgramFault>
+    ensures { IsOk result → SkipsNone (load_skips (load_value load) (R.remaining input)) }
+{
     let Ok(reader) = BufReader::new(rt.alloc(), input) else {
         return Err(ProgramFault::Memory);
     };
@@ -215,71 +234,144 @@ fn print_from<R: Read + Drop>(
         alloc: rt.alloc(),
         writer: writer(rt),
     };
-    let mut passed_over = 0;
-    let lines = LoadLines::new(rt, asked, &mut passed_over);
-    let loaded = print_text(rt.alloc(), &mut sink, reader, load, lines);
-    end(rt, asked, loaded, passed_over)
+    let loaded = print_text(
+        rt.alloc(),
+        &mut sink,
+        reader,
+        load,
+        LoadLines::new(rt, asked),
+    );
+    end(rt, asked, loaded)
 }
 
-/// Loads the features of an input into a keeper, or reads them alone.
-fn load_from<K: Keeper, R: Read + Drop>(
+/// Reads the features of an input as a load does, and loads nothing.
+fn check_from<R: Read + Drop>(
+    rt: &HostRuntime,
+    input: R,
+    load: Load,
+    asked: LoadAsked<'_>,
+) -> Result<(), ProgramFault>
+    ensures { IsOk result → SkipsNone (load_skips (load_value load) (R.remaining input)) }
+{
+    let Ok(reader) = BufReader::new(rt.alloc(), input) else {
+        return Err(ProgramFault::Memory);
+    };
+    let loaded = check_text(rt.alloc(), reader, load, LoadLines::new(rt, asked));
+    end(rt, asked, loaded)
+}
+
+/// Loads the features of an input into a keeper.
+fn load_from<K: Durable, R: Read + Drop>(
     rt: &HostRuntime,
     sink: &mut KeeperSink<K>,
     input: R,
     load: Load,
     asked: LoadAsked<'_>,
-) -> Result<(), ProgramFault> {
+) -> Result<(), ProgramFault>
+    ensures leaves { K.model.is_clean sink.new.keeper → (s : State) →
+        K.model.represents sink.old.keeper s →
+        HoldOneOf K.holds (K.leaves sink.new.keeper) (LoadLeaves s load.each (load_value load).key
+        (load_items (load_value load) (R.remaining input)) result) }
+    ensures none_skipped { IsOk result →
+        SkipsNone (load_skips (load_value load) (R.remaining input)) }
+    ensures began_clean { K.model.is_clean sink.new.keeper → K.model.is_clean sink.old.keeper }
+{
     let Ok(reader) = BufReader::new(rt.alloc(), input) else {
         return Err(ProgramFault::Memory);
     };
-    let mut passed_over = 0;
-    let lines = LoadLines::new(rt, asked, &mut passed_over);
-    let loaded = if asked.check {
-        check_text(rt.alloc(), reader, load, lines)
-    } else {
-        load_text(rt.alloc(), sink, reader, load, lines)
-    };
-    let is_loaded = matches!(loaded.end, End::All) && !asked.check;
-    let done = end(rt, asked, loaded, passed_over);
-    if is_loaded {
+    let loaded = load_text(rt.alloc(), sink, reader, load, LoadLines::new(rt, asked));
+    let done = end(rt, asked, loaded);
+    if let End::All = loaded.end {
         warn_of_degrees(rt, &mut sink.keeper, asked);
     }
     done
 }
 
-/// Loads or prints the features of an input, as asked for.
-fn send<K: Keeper, R: Read + Drop>(
+/// Loads, checks or prints the features of an input, as asked for.
+fn send<K: Durable, R: Read + Drop>(
     rt: &HostRuntime,
     sink: &mut KeeperSink<K>,
     input: R,
     load: Load,
     asked: LoadAsked<'_>,
-) -> Result<(), ProgramFault> {
+) -> Result<(), ProgramFault>
+    ensures leaves { K.model.is_clean sink.new.keeper → (s : State) →
+        K.model.represents sink.old.keeper s → HoldOneOf K.holds (K.leaves sink.new.keeper)
+        (LoadedUnless (asked.entry.check || asked.entry.print) s load.each (load_value load).key
+        (load_items (load_value load) (R.remaining input)) result) }
+    ensures none_skipped { IsOk result →
+        SkipsNone (load_skips (load_value load) (R.remaining input)) }
+    ensures began_clean { K.model.is_clean sink.new.keeper → K.model.is_clean sink.old.keeper }
+{
     if asked.print {
         print_from(rt, input, load, asked)
+    } else if asked.check {
+        check_from(rt, input, load, asked)
     } else {
         load_from(rt, sink, input, load, asked)
     }
 }
 
-/// Loads the features of a text, or of standard input, into a keeper.
-pub(crate) fn run<K: Keeper + Drop>(
+/// The load that is asked for: if features at fault are skipped, times are held to the property of
+/// the collection.
+fn skipping<K: Keeper>(
     rt: &HostRuntime,
-    keeper: K,
+    sink: &mut KeeperSink<K>,
     load: Load,
     asked: LoadAsked<'_>,
-) -> Result<(), ProgramFault> {
-    let mut sink = KeeperSink { keeper };
-    let mut load = load;
-    if asked.skip || asked.check {
-        load = load.skipping(times_of(rt, &mut sink, asked)?);
+) -> Result<Load, ProgramFault>
+    ensures kept { IsKept K.model sink.old.keeper sink.new.keeper (IsOk result) }
+    ensures each { IfOk result (λ it. it.each ≡ load.each) }
+    ensures key { IfOk result (λ it. (load_value it).key ≡ (load_value load).key) }
+{
+    if !asked.skip && !asked.check {
+        return Ok(load);
     }
+    match times_of(rt, sink, asked) {
+        Ok(times) => Ok(load.skipping(times)),
+        Err(fault) => Err(fault),
+    }
+}
+
+/// Loads, checks or prints the features of a text, or of standard input.
+fn send_text<K: Durable>(
+    rt: &HostRuntime,
+    sink: &mut KeeperSink<K>,
+    load: Load,
+    asked: LoadAsked<'_>,
+) -> Result<(), ProgramFault>
+    // What the text has is not known here.
+    ensures leaves { K.model.is_clean sink.new.keeper → (s : State) →
+        K.model.represents sink.old.keeper s → HoldOneOf K.holds (K.leaves sink.new.keeper)
+        (LoadedUnless (asked.entry.check || asked.entry.print) s load.each (load_value load).key
+        None result) }
+    ensures began_clean { K.model.is_clean sink.new.keeper → K.model.is_clean sink.old.keeper }
+{
     let Some(path) = asked.text else {
-        return send(rt, &mut sink, rt.reader(), load, asked);
+        return send(rt, sink, rt.reader(), load, asked);
     };
     match File::open(rt, path) {
-        Ok(file) => send(rt, &mut sink, file, load, asked),
+        Ok(file) => send(rt, sink, file, load, asked),
         Err(error) => Err(fault::of_text(&error)),
+    }
+}
+
+/// Loads the features of a text, or of standard input, into a keeper, as asked for.
+pub(crate) fn run<K: Durable>(
+    rt: &HostRuntime,
+    sink: &mut KeeperSink<K>,
+    load: Load,
+    asked: LoadAsked<'_>,
+) -> Result<(), ProgramFault>
+    ensures leaves { K.model.is_clean sink.new.keeper → (s : State) →
+        K.model.represents sink.old.keeper s → HoldOneOf K.holds (K.leaves sink.new.keeper)
+        (LoadedUnless (asked.entry.check || asked.entry.print) s load.each (load_value load).key
+        None result) }
+    ensures began_clean { K.model.is_clean sink.new.keeper → K.model.is_clean sink.old.keeper }
+{
+    match skipping(rt, sink, load, asked) {
+        Ok(load) => send_text(rt, sink, load, asked),
+        Err(fault) => Err(fault),
     }
 }
 

@@ -1,13 +1,13 @@
 //! The program `streetmap`: features of a map office, kept in a file, served over HTTP, imported
 //! and exported, or read and changed by lines.
 //!
-//! Modules, in the order of reading: `files` (the keeper of a file), `tasks` (what the commands do
-//! over it), and one for each group of commands: `served` (`serve`, `pipe`), with `serving` and
-//! `journal` below it, `exchange` (`import`, `export`), with `texts` and `progress` below it,
-//! `loading` (`load`), `batches` (`batches`, `apply`), `checking` (`check`), `lines` (`lines`),
-//! `help` (help). `fault` turns faults of the crates below into that of the program, and `report`
-//! prints them. The command line, what is printed for a fault, and what the commands do in turn are
-//! in those crates.
+//! Modules, in the order of reading: `files` (whether FILE is there), `opening` (how it is opened),
+//! `served` (`serve`, `pipe`) and `opened` (the other commands): what is done to FILE, from opening
+//! it to the end. Below these: `serving` and `journal`; `exchange` (`import`, `export`), with
+//! `texts` and `progress`; `loading` (`load`); `batches` (`batches`, `apply`); `checking` (`check`).
+//! Beside them: `lines` (`lines`) and `help`. `fault` turns faults of the crates below into that of
+//! the program, and `report` prints them. The command line, what is printed for a fault, and what
+//! the commands do in turn are in those crates.
 #![tactic(auto)]
 
 mod batches;
@@ -19,12 +19,13 @@ mod help;
 mod journal;
 mod lines;
 mod loading;
+mod opened;
+mod opening;
 mod progress;
 mod report;
 mod same;
 mod served;
 mod serving;
-mod tasks;
 mod texts;
 
 use std::env;

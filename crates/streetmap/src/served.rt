@@ -4,21 +4,19 @@ ghost use Rattle.sqlite_wal.specs.Files.{image_at};
 ghost use Rattle.streetmap_ledger.specs.State.{State};
 ghost use Rattle.streetmap_routes.specs.BaseView.{root_of};
 ghost use Rattle.streetmap_connections.specs.AllClients.{clients_of, ended_of};
-ghost use Rattle.streetmap_guarantee.specs.Connections.{history_of};
+ghost use Rattle.streetmap_connections.specs.SlotClients.{client_history};
 ghost use Rattle.streetmap_guarantee.specs.Town.{GuaranteeOfTown};
-ghost use Rattle.streetmap_guarantee.specs.Images.{HoldsTables};
+ghost use Rattle.streetmap.specs.Images.{HoldsTables};
 ghost use Rattle.streetmap.specs.Piped.{GuaranteeOfPipe};
 
-use crate::fault;
-use crate::files::with_cause;
+use crate::opening::{ServedFile, open_indexed};
 use crate::serving::{Service, limits_of, pipe, serve, service_of};
 use mio::net::TcpStream;
 use sqlite::Start;
 use streetmap_command::{Connections, JournalAsked};
 use streetmap_connections::Clients;
 use streetmap_faults::ProgramFault;
-use streetmap_guarantee::{ServedFile, open_indexed};
-use streetmap_ledger::{Durable, Keeper};
+use streetmap_ledger::{Durable, Keeper, KeepsBatches};
 use streetmap_routes::Base;
 use streetmap_web::End;
 
@@ -37,20 +35,33 @@ pub(crate) struct Piped<K> {
     pub(crate) end: End,
 }
 
-/// Opens the tables of the files at a path, with an index.
-fn open_file<S: Start>(
+/// Serves the connections of a port over a keeper, with a journal if one is asked for.
+fn serve_over<K: Durable + KeepsBatches + Drop>(
     rt: &HostRuntime,
-    path: &str,
-    start: S,
-) -> Result<ServedFile<S>, ProgramFault>
-    ensures opened { IfOk result (λ keeper. ⟦<ServedFile<S> as Keeper>⟧.model.is_clean keeper →
-        (s : State) → HoldsTables (image_at S.Start) s →
-        ⟦<ServedFile<S> as Keeper>⟧.model.represents keeper s) }
+    keeper: K,
+    connections: Connections,
+    base: Base,
+    journal: Option<JournalAsked<'_>>,
+) -> Result<Town<K>, ProgramFault>
+    ensures guarantee { IfOk result (λ town.
+        K.model.is_clean town.service.keeper.keeper → (s : State) → K.model.represents keeper s →
+        GuaranteeOfTown K.holds (K.leaves town.service.keeper.keeper) (root_of base) s
+        (map client_history (clients_of town.clients))) }
+    ensures began_clean { IfOk result (λ town.
+        K.model.is_clean town.service.keeper.keeper → K.model.is_clean keeper) }
+    ensures counted { IfOk result (λ town. IsOk town.ended →
+        IfSome connections.count (λ n. n ≤ length (ended_of town.clients))) }
+    ensures few { IfOk result (λ town.
+        IfSome connections.count (λ n. length (clients_of town.clients) ≤ n)) }
 {
-    match open_indexed(rt, path, start) {
-        Ok(keeper) => Ok(keeper),
-        Err((refused, _)) => Err(with_cause(rt, path, fault::of_open(&refused))),
-    }
+    let mut clients = Clients::new(rt.alloc(), limits_of(connections.clients))?;
+    let mut service = service_of(rt, keeper, base, connections);
+    let ended = serve(rt, connections, journal, &mut clients, &mut service);
+    Ok(Town {
+        clients,
+        service,
+        ended,
+    })
 }
 
 /// Serves the connections of a port over the tables of the files at a path.
@@ -70,21 +81,34 @@ pub(crate) fn serve_file<S: Start>(
         HoldsTables (image_at S.Start) s →
         GuaranteeOfTown ⟦<ServedFile<S> as Durable>⟧.holds
         (⟦<ServedFile<S> as Durable>⟧.leaves town.service.keeper.keeper) (root_of base) s
-        (map history_of (clients_of town.clients))) }
+        (map client_history (clients_of town.clients))) }
     ensures counted { IfOk result (λ town. IsOk town.ended →
         IfSome connections.count (λ n. n ≤ length (ended_of town.clients))) }
     ensures few { IfOk result (λ town.
         IfSome connections.count (λ n. length (clients_of town.clients) ≤ n)) }
 {
-    let keeper = open_file(rt, path, start)?;
-    let mut clients = Clients::new(rt.alloc(), limits_of(connections.clients))?;
-    let mut service = service_of(rt, keeper, base, connections);
-    let ended = serve(rt, connections, journal, &mut clients, &mut service);
-    Ok(Town {
-        clients,
-        service,
-        ended,
-    })
+    let keeper = open_indexed(rt, path, start)?;
+    match serve_over(rt, keeper, connections, base, journal) {
+        Ok(town) => Ok(town),
+        Err(refused) => Err(refused),
+    }
+}
+
+/// Serves the requests of standard input over a keeper, which is handed back.
+fn pipe_over<K: Durable + Drop>(
+    rt: &HostRuntime,
+    keeper: K,
+    base: &Base,
+) -> Result<Piped<K>, ProgramFault>
+    ensures guarantee { IfOk result (λ it. K.model.is_clean it.keeper → (s : State) →
+        K.model.represents keeper s →
+        GuaranteeOfPipe K.holds (K.leaves it.keeper) (root_of base.now) s it.end) }
+    ensures began_clean { IfOk result (λ it.
+        K.model.is_clean it.keeper → K.model.is_clean keeper) }
+{
+    let mut keeper = keeper;
+    let end = pipe(rt, &mut keeper, base)?;
+    Ok(Piped { keeper, end })
 }
 
 /// Serves the requests of standard input over the tables of the files at a path.
@@ -94,12 +118,14 @@ pub(crate) fn pipe_file<S: Start>(
     start: S,
     base: &Base,
 ) -> Result<Piped<ServedFile<S>>, ProgramFault>
-    ensures guarantee { IfOk result (λ it. ⟦<ServedFile<S> as Keeper>⟧.model.is_clean it.keeper →
+    ensures { IfOk result (λ it. ⟦<ServedFile<S> as Keeper>⟧.model.is_clean it.keeper →
         (s : State) → HoldsTables (image_at S.Start) s →
         GuaranteeOfPipe ⟦<ServedFile<S> as Durable>⟧.holds
         (⟦<ServedFile<S> as Durable>⟧.leaves it.keeper) (root_of base.now) s it.end) }
 {
-    let mut keeper = open_file(rt, path, start)?;
-    let end = pipe(rt, &mut keeper, base)?;
-    Ok(Piped { keeper, end })
+    let keeper = open_indexed(rt, path, start)?;
+    match pipe_over(rt, keeper, base) {
+        Ok(it) => Ok(it),
+        Err(refused) => Err(refused),
+    }
 }

@@ -4,8 +4,8 @@ ghost use Rattle.std.specs.Prelude.{IsErr};
 ghost use Rattle.streetmap_ledger.specs.State.{State};
 ghost use Rattle.streetmap_routes.specs.BaseView.{root_of};
 ghost use Rattle.streetmap_connections.specs.AllClients.{clients_of, ended_of};
+ghost use Rattle.streetmap_connections.specs.SlotClients.{client_history};
 ghost use Rattle.streetmap_journal.specs.Telling.{IsForIf};
-ghost use Rattle.streetmap_guarantee.specs.Connections.{history_of};
 ghost use Rattle.streetmap_guarantee.specs.Town.{GuaranteeOfTown};
 ghost use Rattle.streetmap.specs.Kept.{IsKept};
 ghost use Rattle.streetmap.specs.Piped.{GuaranteeOfPipe};
@@ -166,7 +166,7 @@ pub(crate) fn serve<K: Durable + KeepsBatches>(
     ensures guarantee { K.model.is_clean service.new.keeper.keeper → (s : State) →
         K.model.represents service.old.keeper.keeper s →
         GuaranteeOfTown K.holds (K.leaves service.new.keeper.keeper) (root_of service.old.base) s
-        (map history_of (clients_of clients.new)) }
+        (map client_history (clients_of clients.new)) }
     ensures counted { IsOk result →
         IfSome connections.count (λ n. n ≤ length (ended_of clients.new)) }
     ensures few { IfSome connections.count (λ n. length (clients_of clients.new) ≤ n) }

@@ -10,10 +10,9 @@ use Rattle.streetmap_connections.specs.History.{Exchange, Refusal}
 use Rattle.streetmap_connections.specs.Interleaving as interleaving
 use Rattle.streetmap_connections.specs.Interleaving.{IsInterleaving, GoesOnAs}
 use Rattle.streetmap_connections.specs.Refusing.{AreRefused}
-use Rattle.streetmap_connections.specs.Slots.{clients_in, refusals_in}
+use Rattle.streetmap_connections.specs.Slots.{client_history, clients_in, refusals_in}
 use Rattle.streetmap_web.specs.Refusing.{IsRefusal}
 use Rattle.streetmap_guarantee.specs.Guarantee.{IsInOrder, RefusesForMemory, exchanges_of}
-use Rattle.streetmap_guarantee.specs.Connections.{history_of}
 
 module _ {A : Type 0} (P : A → Type 0) where
   all_front : (xs ys : List A) → All P (xs ++ ys) → All P xs
@@ -31,17 +30,17 @@ module _ {A : Type 0} (P : A → Type 0) where
 
 module _ {S : Type 0} where
   -- their exchanges
-  pub lists_are : (cs : List (Client S)) → map clients.exchanges_of cs ≡ map exchanges_of (map history_of cs)
+  pub lists_are : (cs : List (Client S)) → map clients.exchanges_of cs ≡ map exchanges_of (map client_history cs)
   lists_are [] = refl
   lists_are (c ∷ cs) = ap (λ (l : List (List Exchange)). clients.exchanges_of c ∷ l) (lists_are cs)
 
   -- each is in order
-  pub all_in_order : (cs : List (Client S)) → All clients.IsOrderly cs → All IsInOrder (map history_of cs)
-  all_in_order cs h = All-map IsInOrder history_of cs h
+  pub all_in_order : (cs : List (Client S)) → All clients.IsOrderly cs → All IsInOrder (map client_history cs)
+  all_in_order cs h = All-map IsInOrder client_history cs h
 
   -- if there was none before, what was answered is an interleaving of theirs
   pub all_interleaved : (before after : List (Client S)) (es : List Exchange) → before ≡ [] → GoesOnAs (map clients.exchanges_of before) es (map clients.exchanges_of after)
-      → IsInterleaving (map exchanges_of (map history_of after)) es
+      → IsInterleaving (map exchanges_of (map client_history after)) es
   all_interleaved before after es none goes =
       let from_none : GoesOnAs [] es (map clients.exchanges_of after) = subst (λ (cs : List (Client S)). GoesOnAs (map clients.exchanges_of cs) es (map clients.exchanges_of after)) none goes in
       subst (λ (l : List (List Exchange)). IsInterleaving l es) (lists_are after) (from_none [] interleaving.none)
@@ -54,10 +53,10 @@ module _ {S : Type 0} where
   -- if there was none before, all that was refused is
   pub all_refused : (before after : List (Slot S)) → flat_map clients_in before ≡ []
       → (AreRefused IsRefusal (flat_map refusals_in before) → AreRefused IsRefusal (flat_map refusals_in after))
-      → All RefusesForMemory (map history_of (flat_map clients_in after))
+      → All RefusesForMemory (map client_history (flat_map clients_in after))
   all_refused before after none refused =
       let P : Refusal → Type 0 = λ r. IsRefusal r.bytes r.text in
       let nothing : flat_map refusals_in before ≡ [] = refusals_are before ∙ ap (λ (cs : List (Client S)). flat_map clients.refusals_of cs) none in
       let all = refused (subst (λ (rs : List Refusal). All P rs) (sym nothing) (All-nil P)) in
-      All-map RefusesForMemory history_of (flat_map clients_in after)
+      All-map RefusesForMemory client_history (flat_map clients_in after)
       (all_parts P clients.refusals_of (flat_map clients_in after) (subst (λ (rs : List Refusal). All P rs) (refusals_are after) all))

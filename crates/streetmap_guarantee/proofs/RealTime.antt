@@ -1,5 +1,5 @@
 -- Histories in real time.
-use Rattle.std.proofs.Common.{◌≡◌, List, [], ◌∷◌, map, refl, sym, subst, ap, ◌∙◌}
+use Rattle.std.proofs.Common.{◌≡◌, List, [], map, subst}
 use Rattle.std.specs.List.{flat_map}
 use Rattle.streetmap_connections.specs.declared.slot.Slot.{Slot}
 use Rattle.streetmap_connections.specs.declared.client.Client.{Client}

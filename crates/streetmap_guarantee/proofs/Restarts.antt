@@ -1,5 +1,5 @@
 -- Runs go on from each other.
-use Rattle.std.proofs.Common.{◌≡◌, ◌≤◌, ◌⊎◌, inl, inr, List, [], ◌∷◌, ◌++◌, length, refl, sym, ap, subst, ◌∙◌, arith}
+use Rattle.std.proofs.Common.{◌≡◌, ◌≤◌, inl, inr, List, [], ◌∷◌, ◌++◌, length, refl, sym, ap, subst, ◌∙◌, arith}
 use Rattle.std.proofs.lemmas.List.{append-nil}
 use Rattle.streetmap_batch.specs.Text.{Text}
 use Rattle.streetmap_batch.specs.BatchValue.{BatchValue}
@@ -7,12 +7,10 @@ use Rattle.streetmap_ledger.specs.State.{State}
 use Rattle.streetmap_ledger.specs.Batches.{act, after_all}
 use Rattle.streetmap_routes.specs.Ask.{AskValue, faulty, landing_page, api_text, conformance_classes, all_collections, one_collection, page, feature, batch}
 use Rattle.streetmap_web.specs.Response.{state_in}
-use Rattle.streetmap_connections.specs.History.{History}
 use Rattle.streetmap_guarantee.specs.Server.{Server, serving, failed, state_of, HasKept}
 use Rattle.streetmap_guarantee.specs.Histories as seq
 use Rattle.streetmap_guarantee.specs.Histories.{Step, Event, IsSequential, acknowledged}
-use Rattle.streetmap_guarantee.specs.Guarantee.{Guarantee}
-use Rattle.streetmap_guarantee.specs.Restarts.{Run, Runs, LeadTo}
+use Rattle.streetmap_guarantee.specs.Restarts.{Runs, LeadTo}
 use Rattle.streetmap_guarantee.specs.Restarts.Runs.{none, more}
 
 -- ---- at which request a store failed

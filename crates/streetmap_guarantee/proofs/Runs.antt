@@ -1,5 +1,5 @@
 -- What a crash leaves of batches in order.
-use Rattle.std.proofs.Common.{◌≡◌, ℕ, ◌+◌, List, take, Option, None, Some, refl}
+use Rattle.std.proofs.Common.{ℕ, ◌+◌, List, take, Option, None, Some, refl}
 use Rattle.streetmap_batch.specs.BatchValue.{BatchValue}
 use Rattle.streetmap_ledger.specs.State.{State}
 use Rattle.streetmap_ledger.specs.Batches.{after_all}

@@ -1,9 +1,7 @@
 pub mod Server
 pub mod Histories
 pub mod Guarantee
-pub mod Connections
 pub mod Streams
 pub mod Runs
 pub mod Town
 pub mod Restarts
-pub mod Images

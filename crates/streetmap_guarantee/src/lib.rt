@@ -7,20 +7,17 @@
 //!
 //! The program's keepers are such ones (`streetmap_ledger::Durable`): what a crash leaves of two
 //! files is said for `streetmap_store::TableKeeper`, and an index in memory and a journal change
-//! nothing of it. `open_indexed` opens files for them, and `warm` has an index learn before it is
-//! asked.
+//! nothing of it. `warm` has an index learn before it is asked.
 //!
-//! Modules, in the order of reading: `town`, `stream`, `batches`; `opening`, `warming`.
+//! Modules, in the order of reading: `town`, `stream`, `batches`; `warming`.
 #![tactic(auto)]
 
 mod batches;
-mod opening;
 mod stream;
 mod town;
 mod warming;
 
 pub use batches::run_batches;
-pub use opening::{ServedFile, open_indexed};
 pub use stream::pipe;
 pub use town::serve_town;
 pub use warming::warm;

@@ -3,9 +3,9 @@ ghost use Rattle.std.specs.Prelude.{◌≡◌, ◌≤◌, [], length, map, IsErr
 ghost use Rattle.streetmap_ledger.specs.State.{State};
 ghost use Rattle.streetmap_routes.specs.BaseView.{root_of};
 ghost use Rattle.streetmap_connections.specs.AllClients.{clients_of, ended_of};
+ghost use Rattle.streetmap_connections.specs.SlotClients.{client_history};
 ghost use Rattle.streetmap_web.specs.Watching.{IsOver};
 ghost use Rattle.streetmap_guarantee.specs.Town.{GuaranteeOfTown};
-ghost use Rattle.streetmap_guarantee.specs.Connections.{history_of};
 
 use mio::net::TcpStream;
 use std::io::Write;
@@ -34,7 +34,7 @@ pub fn serve_town<R: Net + Clock, K: Durable, W: Write>(
     ensures guarantee { K.model.is_clean service.new.keeper → (s : State) →
         K.model.represents service.old.keeper s →
         GuaranteeOfTown K.holds (K.leaves service.new.keeper) (root_of service.old.base) s
-        (map history_of (clients_of clients.new)) }
+        (map client_history (clients_of clients.new)) }
     ensures counted { IsOk result → count ≤ length (ended_of clients.new) }
     ensures few { length (clients_of clients.new) ≤ count }
     ensures over { IsErrOf result ServeFault.Over → IsOver service.new.watch }

@@ -26,10 +26,10 @@ use streetmap_ledger::{Batch, BatchFault, Fault, Keeper, read_batch};
 use streetmap_memory::PlainKeeper;
 use streetmap_query::{QueryFault, read_query};
 
-/// The room that is taken for an answer to a batch before the batch is applied, in bytes.
+/// The room that is allocated for an answer to a batch before the batch is applied, in bytes.
 const ROOM: usize = 1024;
 
-/// An empty text with room for an answer that takes no more memory.
+/// An empty text with room for an answer, which then allocates no memory.
 fn room(alloc: Global) -> Result<String, AllocError>
     ensures empty { IfOk result (λ text. string_bytes text ≡ []) }
     ensures wide { IfOk result (λ text. string_len text + 1024 ≤ string_capacity text) }
@@ -60,7 +60,7 @@ fn unknown_command_text(alloc: Global) -> Result<String, AllocError>
     Ok(answer)
 }
 
-/// Applies a batch, and answers what the keeper answered, in room that was taken before.
+/// Applies a batch, and answers what the keeper answered, in room that was allocated before.
 fn apply_batch<K: Keeper>(
     keeper: &mut K,
     batch: &Batch,
@@ -77,7 +77,8 @@ fn apply_batch<K: Keeper>(
     Ok(answer)
 }
 
-/// The answer to a batch over any keeper, in room that is taken before the batch is applied.
+/// The answer to a batch over any keeper, in room that is allocated before the batch is
+/// applied.
 ///
 /// # Errors
 ///

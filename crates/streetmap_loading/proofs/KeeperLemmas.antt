@@ -1,5 +1,5 @@
 -- Batches that were applied to a keeper, one after the other.
-use Rattle.std.proofs.Common.{◌≡◌, ℕ, ◌+◌, List, [], ◌∷◌, ◌++◌, Option, None, Some, Result, Ok, Err}
+use Rattle.std.proofs.Common.{◌≡◌, ℕ, List, [], ◌∷◌, ◌++◌, Option, None, Some, Result, Ok, Err}
 use Rattle.std.proofs.Common.{IsSome, IsErrOf, length, take, refl, sym, ap, subst, ◌∙◌}
 use Rattle.std.proofs.Common.{append_assoc}
 use Rattle.std.proofs.lemmas.List.{append-nil}
@@ -17,10 +17,10 @@ use Rattle.streetmap_ledger.specs.declared.reply.Fault.{Fault}
 use Rattle.streetmap_ledger.specs.declared.reply.Fault.TheVariants as faults
 use Rattle.streetmap_ledger.specs.declared.reply.Reply.{Reply}
 use Rattle.streetmap_ledger.specs.declared.reply.Reply.TheVariants as replies
-use Rattle.streetmap_loading.specs.Places.{PlacedValue, edits_of, places_of, text_place}
+use Rattle.streetmap_loading.specs.Places.{PlacedValue, places_of}
 use Rattle.streetmap_loading.specs.Sources.{Item, TakesOff, HasNoItem}
 use Rattle.streetmap_loading.specs.Sinks.{SinkTakesAll}
-use Rattle.streetmap_loading.specs.Ends.{AreLeft, EndsAt, EndsWithinBatch, ByEnd, EndsBy, end_of_stop}
+use Rattle.streetmap_loading.specs.Ends.{EndsAt, EndsWithinBatch, ByEnd, end_of_stop}
 use Rattle.streetmap_loading.specs.Loads.{Loads, AreTakenOff, ItemsBeginWith, items_of}
 use Rattle.streetmap_loading.specs.Applying.{Applies, taken_of}
 use Rattle.streetmap_loading.specs.KeeperLoads.{keeper_fault, AreRead, AreAcknowledged, serial_of}
@@ -186,20 +186,20 @@ module _ {S K : Type 0} (keeper : S → K) (model : Model K) where
   none_some None none some = cc
   none_some (Some x) none some = cc
 
+  -- ---- what else its store has
+
+  spares_all :
+      (from : S) (before : Option ℕ) (bs : List BatchValue) (to : S) (serial : Option ℕ) →
+      SinkTakesAll takes from before bs to serial → model.spares (keeper from) (keeper to)
+  spares_all from before [] to serial all =
+      subst (λ (x : S). model.spares (keeper from) (keeper x)) (sym all.0) (model.spares_itself (keeper from))
+  spares_all from before (b ∷ bs) to serial all =
+      model.spares_then (keeper from) (keeper all.0) (keeper to) all.2.write.call.spared (spares_all all.0 all.1 bs to serial all.3)
+
   -- ---- where it ended
 
   module _ (each : ℕ) (key : Text) (first last : S) (old new : Option (List Item))
       (loaded : Loaded) (it : Loads takes each key first last old new loaded) where
-    -- ---- what else its store has
-
-    spares_all :
-        (from : S) (before : Option ℕ) (bs : List BatchValue) (to : S) (serial : Option ℕ) →
-        SinkTakesAll takes from before bs to serial → model.spares (keeper from) (keeper to)
-    spares_all from before [] to serial all =
-        subst (λ (x : S). model.spares (keeper from) (keeper x)) (sym all.0) (model.spares_itself (keeper from))
-    spares_all from before (b ∷ bs) to serial all =
-        model.spares_then (keeper from) (keeper all.0) (keeper to) all.2.write.call.spared (spares_all all.0 all.1 bs to serial all.3)
-
     spares_mid : model.spares (keeper first) (keeper it.ends.mid)
     spares_mid = spares_all first None it.ends.sent it.ends.mid loaded.serial it.ends.all
 
@@ -385,7 +385,7 @@ module _ {S K : Type 0} (keeper : S → K) (model : Model K) where
     end_is WriteFailed fault is = cc
 
     pub are_calls : AreCalls model (keeper first) (keeper last) (keeper_fault loaded.end)
-    is_load = record {
+    are_calls = record {
       spared = spares_by loaded.end it.ends.ends;
       began_clean = λ clean. clean_all first None it.ends.sent it.ends.mid loaded.serial it.ends.all (clean_mid clean loaded.end it.ends.ends);
       faults = shuts_by loaded.end it.ends.ends;

@@ -3,6 +3,7 @@ pub mod SendLemmas
 pub mod UsualLines
 pub mod Taking
 pub mod TextLemmas
+pub mod SkipLemmas
 pub mod Again
 pub mod KeeperLemmas
 pub mod OpeningLemmas

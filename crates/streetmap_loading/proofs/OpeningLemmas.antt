@@ -1,8 +1,7 @@
 -- An opening is short.
-use Rattle.std.proofs.Common.{◌≡◌, ℕ, ◌+◌, ◌*◌, ◌≤◌, ◌<◌, Bool, true, false, cond, ◌&&◌, nat_lt}
-use Rattle.std.proofs.Common.{List, [], ◌∷◌, ◌++◌, Option, None, Some, length, IsTrue, codes, refl}
+use Rattle.std.proofs.Common.{ℕ, ◌*◌, ◌≤◌, Bool, true, false, cond, nat_lt}
+use Rattle.std.proofs.Common.{List, [], ◌∷◌, Option, None, Some, length, IsTrue}
 use Rattle.std.proofs.Common.{arith, length-append}
-use Rattle.std.proofs.lemmas.Bool.{leb-true}
 use Rattle.std.proofs.lemmas.Grind.{common_steps}
 use Rattle.json.specs.Print.{escape, escape_byte, escape_letter}
 use Rattle.serde_json.specs.Written.{compact_text}

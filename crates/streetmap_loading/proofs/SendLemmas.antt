@@ -2,7 +2,7 @@
 use Rattle.std.proofs.Common.{◌≡◌, ◌≢◌, ℕ, ◌+◌, ◌<◌, ◌≤◌, true, List, [], ◌∷◌, ◌++◌, Option, None}
 use Rattle.std.proofs.Common.{Some, Result, Ok, Err, length, take, refl, sym, ap, subst, ◌∙◌, arith}
 use Rattle.std.proofs.Common.{length-append, append_assoc}
-use Rattle.std.proofs.lemmas.List.{append-nil, length-map}
+use Rattle.std.proofs.lemmas.List.{append-nil}
 use Rattle.streetmap_batch.specs.Text.{Text}
 use Rattle.streetmap_batch.specs.BatchValue.{EditValue, BatchValue}
 use Rattle.streetmap_batch.specs.BatchView.{batch_value}
@@ -18,8 +18,7 @@ use Rattle.streetmap_packing.proofs.RunLemmas.{one_more}
 use Rattle.streetmap_packing.proofs.PackLemmas.{shorter}
 use Rattle.streetmap_loading.specs.Places.{PlacedValue, edits_of, places_of, text_place}
 use Rattle.streetmap_loading.specs.Sinks.{SinkTakesAll}
-use Rattle.streetmap_loading.specs.Ends.{AreLeft, IsShort, IsNext, ByEnd, EndsBy, end_of_stop}
-use Rattle.streetmap_loading.specs.Ends.{count_of_edits}
+use Rattle.streetmap_loading.specs.Ends.{AreLeft, IsNext, ByEnd, EndsBy, end_of_stop}
 use Rattle.streetmap_loading.specs.Sending.{IsSending, Sends, SendsWhenFull, TakesEdit, EndsAtEdit, IsBehind}
 use Rattle.streetmap_loading.specs.declared.sending.Sending.{Sending}
 use Rattle.streetmap_loading.specs.declared.sink.Stop.{Stop}

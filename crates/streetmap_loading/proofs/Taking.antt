@@ -9,7 +9,7 @@ use Rattle.streetmap_packing.specs.PackerView.{packing}
 use Rattle.streetmap_packing.proofs.Underway.{nothing}
 use Rattle.streetmap_loading.specs.Places.{PlacedValue}
 use Rattle.streetmap_loading.specs.Sources.{Item, TakesOff, HasNoItem, FirstIs, SourceGives}
-use Rattle.streetmap_loading.specs.Ends.{EndsBy, end_of_unread}
+use Rattle.streetmap_loading.specs.Ends.{end_of_unread}
 use Rattle.streetmap_loading.specs.Sending.{Begins, IsSending, SendsWhenFull, TakesEdit, SendsTheRest, EndsAtEdit}
 use Rattle.streetmap_loading.specs.Sending.{IsBehind}
 use Rattle.streetmap_loading.specs.Loads.{Loads, AreTakenOff, ItemsBeginWith, items_of}
@@ -113,9 +113,15 @@ module _ {S : Type 0} (takes : S → BatchValue → Result (Option ℕ) Stop →
 
   module _ (each : ℕ) (key : Text) (first last : S) (old now : Option (List Item)) (count : ℕ)
       (l : Sending) (it : Reads each key first last old now count l) where
-    abbrev told : Sending → ℕ → End → Loaded
-    told m edits end = record
-        { edits = edits; batches = m.batches; taken = m.taken; serial = m.serial; end = end }
+    abbrev told : Sending → (edits skipped : ℕ) → End → Loaded
+    told m edits skipped end = record {
+      edits = edits;
+      batches = m.batches;
+      taken = m.taken;
+      serial = m.serial;
+      skipped = skipped;
+      end = end;
+    }
 
     -- the batch under way was looked at
     pub filled : (m : Sending) (next : S) → SendsWhenFull takes each key first it.read (Ok tt) m next →
@@ -123,10 +129,10 @@ module _ {S : Type 0} (takes : S → BatchValue → Result (Option ℕ) Stop →
     filled m next fills = record
         { read = it.read; counted = it.counted; taken = it.taken; sending = fills.0 }
 
-    pub not_filled : (m : Sending) (next : S) (end : End) →
+    pub not_filled : (m : Sending) (next : S) (skipped : ℕ) (end : End) →
         SendsWhenFull takes each key first it.read (Err end) m next →
-        Loads takes each key first next old now (told m count end)
-    not_filled m next end fills = record {
+        Loads takes each key first next old now (told m count skipped end)
+    not_filled m next skipped end fills = record {
       read = it.read;
       counted = it.counted;
       are = are_within old now it.read end fills.1
@@ -157,10 +163,11 @@ module _ {S : Type 0} (takes : S → BatchValue → Result (Option ℕ) Stop →
     }
 
     pub stops :
-        (later : Option (List Item)) (p : PlacedValue) (m : Sending) (next : S) (end : End) →
+        (later : Option (List Item)) (p : PlacedValue) (m : Sending) (next : S) (skipped : ℕ)
+        (end : End) →
         TakesOff now later (Ok p ∷ []) → TakesEdit takes each key first it.read p (Err end) m next →
-        Loads takes each key first next old later (told m (count + 1) end)
-    stops later p m next end took puts = record {
+        Loads takes each key first next old later (told m (count + 1) skipped end)
+    stops later p m next skipped end took puts = record {
       read = it.read ++ p ∷ [];
       counted = counted_more p;
       are = are_within old later
@@ -187,10 +194,10 @@ module _ {S : Type 0} (takes : S → BatchValue → Result (Option ℕ) Stop →
         }
 
     -- the next one was not read, or is at fault
-    pub not_read : (later : Option (List Item)) (u : Unread) → SourceGives now later (Err u) →
-        length (packing l.packer).edits < each →
-        Loads takes each key first last old later (told l count (end_of_unread u))
-    not_read later (unread.AtFault fault) took few = record {
+    pub not_read : (later : Option (List Item)) (u : Unread) (skipped : ℕ) →
+        SourceGives now later (Err u) → length (packing l.packer).edits < each →
+        Loads takes each key first last old later (told l count skipped (end_of_unread u))
+    not_read later (unread.AtFault fault) skipped took few = record {
       read = it.read;
       counted = it.counted;
       are = front_at old now (items_of it.read) fault
@@ -198,13 +205,13 @@ module _ {S : Type 0} (takes : S → BatchValue → Result (Option ℕ) Stop →
       ends = ends_at_fault takes each key first it.read l last it.sending fault
           few;
     }
-    not_read later unread.ReadFailed took few = record {
+    not_read later unread.ReadFailed skipped took few = record {
       read = it.read;
       counted = it.counted;
       are = front old now (items_of it.read) it.taken;
       ends = ends_unread takes each key first it.read l last it.sending;
     }
-    not_read later unread.Memory took few = record {
+    not_read later unread.Memory skipped took few = record {
       read = it.read;
       counted = it.counted;
       are = front old now (items_of it.read) it.taken;
@@ -212,8 +219,9 @@ module _ {S : Type 0} (takes : S → BatchValue → Result (Option ℕ) Stop →
     }
 
     -- no more is read
-    pub too_many : Loads takes each key first last old now (told l count ReadFailed)
-    too_many = record {
+    pub too_many : (skipped : ℕ) →
+        Loads takes each key first last old now (told l count skipped ReadFailed)
+    too_many skipped = record {
       read = it.read;
       counted = it.counted;
       are = front old now (items_of it.read) it.taken;
@@ -221,10 +229,17 @@ module _ {S : Type 0} (takes : S → BatchValue → Result (Option ℕ) Stop →
     }
 
   -- a load that does not begin
-  pub not_begun : (each : ℕ) (key : Text) (first : S) (old : Option (List Item)) →
-      Loads takes each key first first old old
-      (record { edits = 0; batches = 0; taken = 0; serial = None; end = Memory })
-  not_begun each key first old = record {
+  pub not_begun :
+      (each : ℕ) (key : Text) (first : S) (old : Option (List Item)) (skipped : ℕ) →
+      Loads takes each key first first old old (record {
+        edits = 0;
+        batches = 0;
+        taken = 0;
+        serial = None;
+        skipped = skipped;
+        end = Memory;
+      })
+  not_begun each key first old skipped = record {
     read = [];
     counted = refl;
     are = front old old [] (takes_none old);

@@ -1,5 +1,5 @@
 -- The result of reading a text without loading it.
-use Rattle.std.specs.Prelude.{◌≡◌, ℕ, List, Option, length}
+use Rattle.std.specs.Prelude.{◌≡◌, List, Option, length}
 use Rattle.streetmap_batch.specs.Text.{Text}
 use Rattle.streetmap_loading.specs.Places.{PlacedValue}
 use Rattle.streetmap_loading.specs.KeeperLoads.{AreRead}

@@ -1,6 +1,6 @@
 -- How a load ends.
 use Rattle.std.specs.Prelude.{◌≡◌, ◌≢◌, ◌<◌, ℕ, ◌+◌, true, List, [], ◌∷◌, ◌++◌, length, take}
-use Rattle.std.specs.Prelude.{Option, None, Result, Ok, Err}
+use Rattle.std.specs.Prelude.{Option, None, Result, Err}
 use Rattle.streetmap_batch.specs.Text.{Text}
 use Rattle.streetmap_batch.specs.BatchValue.{EditValue, BatchValue}
 use Rattle.streetmap_packing.specs.Packs.{numbered_key, passes, Packs, PacksFirst}
@@ -10,7 +10,6 @@ use Rattle.streetmap_loading.specs.declared.source.Unread.{Unread}
 use Rattle.streetmap_loading.specs.declared.source.Unread.TheVariants as unread
 use Rattle.streetmap_loading.specs.declared.sink.Stop.{Stop}
 use Rattle.streetmap_loading.specs.declared.sink.Stop.TheVariants as stops
-use Rattle.streetmap_loading.specs.declared.end.Loaded.{Loaded}
 use Rattle.streetmap_loading.specs.declared.end.End.{End}
 use Rattle.streetmap_loading.specs.declared.end.End.TheVariants.{All, AtFault, ReadFailed, Memory}
 use Rattle.streetmap_loading.specs.declared.end.End.TheVariants.{Refused, Stopped, WriteFailed}

@@ -1,8 +1,8 @@
 -- The effect of a load on a keeper.
 use Rattle.std.specs.Prelude.{◌≡◌, ℕ, ◌+◌, List, [], ◌∷◌, ◌++◌, length, take, Option, None}
-use Rattle.std.specs.Prelude.{Some, Ok, Err}
+use Rattle.std.specs.Prelude.{Some, Err}
 use Rattle.streetmap_batch.specs.Text.{Text}
-use Rattle.streetmap_batch.specs.BatchValue.{EditValue, BatchValue}
+use Rattle.streetmap_batch.specs.BatchValue.{BatchValue}
 use Rattle.streetmap_packing.specs.Packs.{Packs}
 use Rattle.streetmap_ledger.specs.State.{State}
 use Rattle.streetmap_ledger.specs.Batches.{act, after_all}

@@ -1,6 +1,6 @@
 -- The result of a load.
-use Rattle.std.specs.Prelude.{◌≡◌, ℕ, List, [], ◌∷◌, ◌++◌, length, Option, None, Some, Result, Ok}
-use Rattle.std.specs.Prelude.{Err}
+use Rattle.std.specs.Prelude.{◌≡◌, ◌≤◌, ℕ, List, [], ◌∷◌, ◌++◌, length, Option, None, Some, Result}
+use Rattle.std.specs.Prelude.{Ok, Err, IfSome}
 use Rattle.streetmap_batch.specs.Text.{Text}
 use Rattle.streetmap_batch.specs.BatchValue.{BatchValue}
 use Rattle.streetmap_loading.specs.Places.{PlacedValue}
@@ -40,3 +40,13 @@ pub record Loads {S : Type 0} (takes : S → BatchValue → Result (Option ℕ) 
   pub are : AreTakenOff old new read loaded.end
   pub ends :
       EndsBy takes each key first last read loaded.batches loaded.taken loaded.serial loaded.end
+
+-- this many features were skipped: all that are to be, at the end and at a fault of the text
+abbrev pub SkippedAt : ℕ → ℕ → End → Type 0
+SkippedAt all skipped All = skipped ≡ all
+SkippedAt all skipped (AtFault fault) = skipped ≡ all
+SkippedAt all skipped end = skipped ≤ all
+
+-- if it is known how many are to be
+abbrev pub Skips : Option ℕ → Loaded → Type 0
+Skips all loaded = IfSome all (λ n. SkippedAt n loaded.skipped loaded.end)

@@ -9,8 +9,8 @@ use Rattle.streetmap_batch.specs.Names.{is_key, is_collection_id, is_title, is_t
 use Rattle.streetmap_batch.specs.Names.{passing}
 use Rattle.streetmap_loading.specs.Places.{PlacedValue}
 use Rattle.streetmap_loading.specs.Sources.{Item, placed_value}
-use Rattle.streetmap_loading.specs.Texts.{Rules, items_left}
-use Rattle.streetmap_loading.specs.TextView.{rules_value, and_left}
+use Rattle.streetmap_loading.specs.Texts.{Rules, items_left, count_skipped, all_in}
+use Rattle.streetmap_loading.specs.TextView.{rules_value}
 use Rattle.streetmap_loading.specs.declared.load.Opening.{Opening}
 use Rattle.streetmap_loading.specs.declared.load.LoadOptions.{LoadOptions}
 use Rattle.streetmap_loading.specs.declared.load.Load.{Load}
@@ -124,3 +124,7 @@ opening_items (Some p) = Ok p ∷ []
 abbrev pub load_items : LoadValue → Option Text → Option (List Item)
 load_items l text = option_map (λ items. opening_items l.opening ++ items)
     (items_left l.rules 0 text)
+
+-- how many of its features are skipped
+abbrev pub load_skips : LoadValue → Option Text → Option ℕ
+load_skips l text = option_map (λ t. count_skipped l.rules (all_in l.rules 0 t)) text

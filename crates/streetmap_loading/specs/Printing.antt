@@ -1,12 +1,12 @@
 -- Batches that are written, a line each.
-use Rattle.std.specs.Prelude.{◌≡◌, ℕ, List, [], ◌∷◌, ◌++◌, Option, None, Some, Result, Ok, Err, ⊤}
+use Rattle.std.specs.Prelude.{◌≡◌, ℕ, List, [], ◌∷◌, ◌++◌, Option, None, Result, Ok, Err, ⊤}
 use Rattle.std.specs.Io.KnownBytes.{Appends}
 use Rattle.streetmap_batch.specs.BatchText.{batch_text}
 use Rattle.streetmap_batch.specs.BatchValue.{BatchValue}
 use Rattle.streetmap_ledger.specs.declared.reply.Fault.TheVariants.{Memory}
 use Rattle.streetmap_text_lines.specs.Written.{AppendsBeginning}
 use Rattle.streetmap_loading.specs.declared.sink.Stop.{Stop}
-use Rattle.streetmap_loading.specs.declared.sink.Stop.TheVariants.{Refused, Stopped, WriteFailed}
+use Rattle.streetmap_loading.specs.declared.sink.Stop.TheVariants.{Stopped, WriteFailed}
 
 -- the text of a batch, and a line feed
 abbrev pub line_of : BatchValue → List ℕ

@@ -1,5 +1,6 @@
 -- Sources of edits.
-use Rattle.std.specs.Prelude.{◌≡◌, List, [], ◌∷◌, ◌++◌, Option, None, Some, Result, Ok, Err}
+use Rattle.std.specs.Prelude.{◌≡◌, ◌≤◌, ℕ, List, [], ◌∷◌, ◌++◌, Option, None, Some, IfSome, Result}
+use Rattle.std.specs.Prelude.{Ok, Err}
 use Rattle.streetmap_batch.specs.BatchView.{edit_value}
 use Rattle.streetmap_loading.specs.Places.{PlacedValue}
 use Rattle.streetmap_loading.specs.declared.text_fault.TextFault.{TextFault}
@@ -40,3 +41,23 @@ SourceGives old new (Ok None) = TakesOff old new [] × HasNoItem old new
 SourceGives old new (Err (AtFault fault)) = FirstIs old fault
 SourceGives old new (Err ReadFailed) = Unit {0}
 SourceGives old new (Err Memory) = Unit {0}
+
+-- a number that is known stays
+abbrev pub StaysKnown : Option ℕ → Option ℕ → Type 0
+StaysKnown None new = Unit {0}
+StaysKnown (Some n) new = new ≡ Some n
+
+-- these are as many, if it is known how many there are; or at most as many
+abbrev pub AreAll : Option ℕ → ℕ → Type 0
+AreAll all n = IfSome all (λ m. n ≡ m)
+
+abbrev pub AreWithin : Option ℕ → ℕ → Type 0
+AreWithin all n = IfSome all (λ m. n ≤ m)
+
+-- as many features are skipped in all as before; at the end and at a fault all of these were
+abbrev pub SourceSkips : Option ℕ → Option ℕ → ℕ → Result (Option PlacedEdit) Unread → Type 0
+SourceSkips old new skipped (Ok (Some placed)) = StaysKnown old new
+SourceSkips old new skipped (Ok None) = AreAll old skipped
+SourceSkips old new skipped (Err (AtFault fault)) = AreAll old skipped
+SourceSkips old new skipped (Err ReadFailed) = AreWithin old skipped
+SourceSkips old new skipped (Err Memory) = AreWithin old skipped

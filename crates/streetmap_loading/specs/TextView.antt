@@ -5,8 +5,8 @@ use Rattle.serde_json.specs.Written.{compact_text}
 use Rattle.streetmap_batch.specs.BatchText.{edit_data}
 use Rattle.streetmap_batch.specs.BatchValue.{EditValue}
 use Rattle.streetmap_batch.specs.Text.{Text}
-use Rattle.streetmap_loading.specs.Places.{PlacedValue}
 use Rattle.streetmap_loading.specs.Sources.{Item, TakesOff, HasNoItem, FirstIs, placed_value}
+use Rattle.streetmap_loading.specs.Sources.{StaysKnown, AreAll, AreWithin}
 use Rattle.streetmap_loading.specs.Texts.{Rules}
 use Rattle.streetmap_loading.specs.declared.source.PlacedEdit.{PlacedEdit}
 use Rattle.streetmap_loading.specs.declared.source.Unread.{Unread}
@@ -47,6 +47,15 @@ Steps old new (Ok step.End) = TakesOff old new [] × HasNoItem old new
 Steps old new (Err (AtFault fault)) = FirstIs old fault
 Steps old new (Err ReadFailed) = Unit {0}
 Steps old new (Err Memory) = Unit {0}
+
+-- and as many features are skipped in all
+abbrev pub StepSkips : Option ℕ → Option ℕ → ℕ → Result Step Unread → Type 0
+StepSkips old new skipped (Ok step.Past) = StaysKnown old new
+StepSkips old new skipped (Ok (step.Edit placed)) = StaysKnown old new
+StepSkips old new skipped (Ok step.End) = AreAll old skipped
+StepSkips old new skipped (Err (AtFault fault)) = AreAll old skipped
+StepSkips old new skipped (Err ReadFailed) = AreWithin old skipped
+StepSkips old new skipped (Err Memory) = AreWithin old skipped
 
 -- the opening comes first
 abbrev pub opening_item : Option PlacedEdit → List Item

@@ -1,5 +1,5 @@
 -- The edits of a text with a feature a line: a GeoJSON text sequence (RFC 8142), or lines alone.
-use Rattle.std.specs.Prelude.{◌≡◌, ℕ, ◌+◌, ◌-◌, Bool, true, false, ◌&&◌, ◌==◌, nat_le, List, []}
+use Rattle.std.specs.Prelude.{ℕ, ◌+◌, ◌-◌, Bool, true, false, ◌&&◌, ◌==◌, nat_le, List, []}
 use Rattle.std.specs.Prelude.{◌∷◌, length, take, drop, nat_eq, codes, decimal, is_some, Option}
 use Rattle.std.specs.Prelude.{None, Some, option_map, Result, Ok, Err, if◌then◌else◌}
 use Rattle.std.specs.Cmp.Lexicographic.{pointwise}
@@ -23,7 +23,6 @@ use Rattle.streetmap_batch.specs.BatchText.{edit_data}
 use Rattle.streetmap_batch.specs.BatchValue as edit
 use Rattle.streetmap_batch.specs.BatchValue.{EditValue}
 use Rattle.streetmap_text_lines.specs.Lines.{first_too_long}
-use Rattle.streetmap_loading.specs.Places.{PlacedValue}
 use Rattle.streetmap_loading.specs.Sources.{Item}
 use Rattle.streetmap_loading.specs.declared.feature_fault.FeatureFault.{FeatureFault}
 use Rattle.streetmap_loading.specs.declared.feature_fault.FeatureFault.TheVariants as causes
@@ -154,10 +153,24 @@ abbrev pub and_more : Rules → Item → List Item → List Item
 and_more r (Ok p) more = Ok p ∷ more
 and_more r (Err fault) more = if is_skipped r fault then more else Err fault ∷ more
 
--- a line without a text is skipped: then the place stays
+-- the items without those that are skipped
+abbrev pub not_skipped : Rules → List Item → List Item
+not_skipped r [] = []
+not_skipped r (item ∷ items) = and_more r item (not_skipped r items)
+
+-- how many are skipped before the first fault that is not
+abbrev pub and_count : Rules → Item → ℕ → ℕ
+and_count r (Ok p) count = count
+and_count r (Err fault) count = if is_skipped r fault then count + 1 else 0
+
+abbrev pub count_skipped : Rules → List Item → ℕ
+count_skipped r [] = 0
+count_skipped r (item ∷ items) = and_count r item (count_skipped r items)
+
+-- a line without a text is not counted: then the place stays
 abbrev pub on_text : Rules → ℕ → Text → (same next : List Item) → List Item
 on_text r place [] same next = same
-on_text r place (b ∷ bs) same next = and_more r (item_of_text r place (b ∷ bs)) next
+on_text r place (b ∷ bs) same next = item_of_text r place (b ∷ bs) ∷ next
 
 -- the next line is the one that is too long
 abbrev pub is_here : Option ℕ → Bool
@@ -168,24 +181,33 @@ abbrev pub one_less : Option ℕ → Option ℕ
 one_less None = None
 one_less (Some n) = Some (n - 1)
 
--- the items of lines, the next feature at this place; the line after `long` lines, if that is
--- given, is too long
-abbrev pub items_on : Rules → ℕ → Option ℕ → List Text → List Item
-items_on r place long [] = if is_here long then Err (LineTooLong place) ∷ [] else []
-items_on r place long (line ∷ lines) =
+-- the items of the features on lines, the next one at this place, also of those that are skipped;
+-- the line after `long` lines, if that is given, is too long
+abbrev pub all_on : Rules → ℕ → Option ℕ → List Text → List Item
+all_on r place long [] = if is_here long then Err (LineTooLong place) ∷ [] else []
+all_on r place long (line ∷ lines) =
     if is_here long then Err (LineTooLong place) ∷ []
-    else on_text r place (text_on place line) (items_on r place (one_less long) lines)
-    (items_on r (place + 1) (one_less long) lines)
+    else on_text r place (text_on place line) (all_on r place (one_less long) lines)
+    (all_on r (place + 1) (one_less long) lines)
 
 -- the most bytes of a line
 abbrev pub most_of_line : ℕ
 most_of_line = 8388608
 
--- the items of a text after this number of features
+-- those of a text after this number of features
+abbrev pub all_in : Rules → ℕ → Text → List Item
+all_in r features text = all_on r (features + 1) (first_too_long most_of_line text) (lines text)
+
+-- without those that are skipped
 abbrev pub items_in : Rules → ℕ → Text → List Item
-items_in r features text = items_on r (features + 1) (first_too_long most_of_line text)
-    (lines text)
+items_in r features text = not_skipped r (all_in r features text)
 
 -- if the text is known
 abbrev pub items_left : Rules → ℕ → Option Text → Option (List Item)
 items_left r features text = option_map (λ t. items_in r features t) text
+
+-- how many features are skipped in all, if the text is known, after this number of features, of
+-- which some were
+abbrev pub skips_left : Rules → (skipped features : ℕ) → Option Text → Option ℕ
+skips_left r skipped features text =
+    option_map (λ t. skipped + count_skipped r (all_in r features t)) text

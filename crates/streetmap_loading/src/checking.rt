@@ -1,6 +1,7 @@
 //! A text, read without being loaded.
 ghost use Rattle.streetmap_loading.specs.Checking.{ChecksText};
-ghost use Rattle.streetmap_loading.specs.Options.{load_value};
+ghost use Rattle.streetmap_loading.specs.Loads.{Skips};
+ghost use Rattle.streetmap_loading.specs.Options.{load_value, load_skips};
 
 use crate::end::Loaded;
 use crate::listener::Listener;
@@ -33,7 +34,8 @@ pub fn check_text<R: BufRead + Drop, L: Listener + Drop>(
     load: Load,
     listener: L,
 ) -> Loaded
-    ensures { ChecksText (load_value load) (R.remaining reader) result }
+    ensures checks { ChecksText (load_value load) (R.remaining reader) result }
+    ensures skips { Skips (load_skips (load_value load) (R.remaining reader)) result }
 {
     let mut sink = Nowhere;
     send_text(alloc, &mut sink, reader, load, listener)

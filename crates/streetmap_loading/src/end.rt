@@ -40,6 +40,8 @@ pub struct Loaded {
     pub taken: u64,
     /// The serial of the last of them, if it has one.
     pub serial: Option<u64>,
+    /// How many features at fault were skipped.
+    pub skipped: u64,
     /// What ended it.
     pub end: End,
 }

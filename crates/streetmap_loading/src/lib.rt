@@ -4,9 +4,10 @@
 //! `load_text` applies the features of a text to a keeper in batches K.1, K.2, .. of a key K.
 //! `specs/Texts` defines which features a text has, and which fault is the first; `specs/Packs` of
 //! `streetmap_packing` defines their batches; `specs/KeeperLoads` defines the state that the keeper
-//! then represents, and what a crash can leave. The laws say that the same load again changes
-//! nothing, and that a load which was stopped continues. `check_text` reads a text and loads
-//! nothing, `print_text` writes the batches instead of applying them.
+//! then represents, and what a crash can leave; `Skips` of `specs/Loads` says how many features at
+//! fault were skipped. The laws say that the same load again changes nothing, and that a load which
+//! was stopped continues. `check_text` reads a text and loads nothing, `print_text` writes the
+//! batches instead of applying them.
 //!
 //! Modules, in the order of reading: `feature_fault`, `text_fault`, `source`, `sink`, `end`,
 //! `sending`, `whole`; `rules`, `listener`, `measuring`, `feature_line`, `text_edits`;

@@ -5,7 +5,8 @@ ghost use Rattle.streetmap_ledger.specs.Keep.{AreCalls};
 ghost use Rattle.streetmap_ledger.specs.State.{State};
 ghost use Rattle.streetmap_loading.specs.KeeperLoads.{LoadsTo, keeper_fault};
 ghost use Rattle.streetmap_loading.specs.TextLoads.{SendsItems, SendsText};
-ghost use Rattle.streetmap_loading.specs.Options.{load_value, load_items};
+ghost use Rattle.streetmap_loading.specs.Loads.{Skips};
+ghost use Rattle.streetmap_loading.specs.Options.{load_value, load_items, load_skips};
 
 use crate::end::Loaded;
 use crate::keeper_sink::KeeperSink;
@@ -32,7 +33,9 @@ fn send_source<S: Sink, E: Edits + Drop>(
     requires short { length (string_bytes key) ≤ 44 }
     requires some { 1 ≤ each }
     requires most { each ≤ 10000 }
-    ensures { SendsItems S.takes each (string_bytes key) sink.old sink.new (E.left edits) result }
+    ensures sends { SendsItems S.takes each (string_bytes key) sink.old sink.new (E.left edits)
+        result }
+    ensures skips { Skips (E.skips edits) result }
 {
     let mut edits = edits;
     send_all(alloc, sink, &mut edits, key, each)
@@ -48,7 +51,9 @@ pub fn send_text<S: Sink, R: BufRead + Drop, L: Listener + Drop>(
     load: Load,
     listener: L,
 ) -> Loaded
-    ensures { SendsText S.takes (load_value load) sink.old sink.new (R.remaining reader) result }
+    ensures sends { SendsText S.takes (load_value load) sink.old sink.new (R.remaining reader)
+        result }
+    ensures skips { Skips (load_skips (load_value load) (R.remaining reader)) result }
 {
     let Load {
         key,
@@ -65,6 +70,7 @@ pub fn send_text<S: Sink, R: BufRead + Drop, L: Listener + Drop>(
         rules,
         opening,
         features: 0,
+        skipped: 0,
         bytes: 0,
     };
     send_source(alloc, sink, edits, key, each)
@@ -89,6 +95,8 @@ pub fn load_text<K: Keeper, R: BufRead + Drop, L: Listener + Drop>(
         K.model.represents sink.old.keeper s →
         LoadsTo K.model sink.old.keeper sink.new.keeper s load.each (load_value load).key
         (load_items (load_value load) (R.remaining reader)) result }
+    // How many features at fault were skipped.
+    ensures skips { Skips (load_skips (load_value load) (R.remaining reader)) result }
 {
     send_text(alloc, sink, reader, load, listener)
 }

@@ -1,5 +1,6 @@
 //! The batches of a text, written.
-ghost use Rattle.streetmap_loading.specs.Options.{load_value};
+ghost use Rattle.streetmap_loading.specs.Loads.{Skips};
+ghost use Rattle.streetmap_loading.specs.Options.{load_value, load_skips};
 ghost use Rattle.streetmap_loading.specs.TextPrints.{PrintsText};
 
 use crate::end::Loaded;
@@ -18,8 +19,9 @@ pub fn print_text<W: Write, R: BufRead + Drop, L: Listener + Drop>(
     load: Load,
     listener: L,
 ) -> Loaded
-    ensures { PrintsText (load_value load) (R.remaining reader)
+    ensures prints { PrintsText (load_value load) (R.remaining reader)
         (W.contents sink.old.writer) (W.contents sink.new.writer) result }
+    ensures skips { Skips (load_skips (load_value load) (R.remaining reader)) result }
 {
     send_text(alloc, sink, reader, load, listener)
 }

@@ -127,9 +127,16 @@ impl Sending {
     }
 
     /// Sends the last batch, if an edit remains.
-    pub(crate) fn finish<S: Sink>(self, alloc: Global, sink: &mut S, edits: u64) -> Loaded
+    pub(crate) fn finish<S: Sink>(
+        self,
+        alloc: Global,
+        sink: &mut S,
+        edits: u64,
+        skipped: u64,
+    ) -> Loaded
         requires { HasNumbersLeft self }
         ensures edits { result.edits ≡ edits }
+        ensures skipped { result.skipped ≡ skipped }
         ensures finishes { (each : ℕ) (key : Text) (first : S) (read : List PlacedValue) →
             IsSending S.takes each key first read self sink.old →
             SendsTheRest S.takes each key first read result sink.new }
@@ -147,6 +154,7 @@ impl Sending {
                 batches,
                 taken,
                 serial,
+                skipped,
                 end: End::All,
             },
             Ok(Some(batch)) => match sink.take(&batch) {
@@ -155,6 +163,7 @@ impl Sending {
                     batches: batches + 1,
                     taken: taken + batch.edits().len() as u64,
                     serial: last,
+                    skipped,
                     end: End::All,
                 },
                 Err(stop) => Loaded {
@@ -162,6 +171,7 @@ impl Sending {
                     batches,
                     taken,
                     serial,
+                    skipped,
                     end: End::of_stop(&places, stop),
                 },
             },
@@ -170,18 +180,20 @@ impl Sending {
                 batches,
                 taken,
                 serial,
+                skipped,
                 end: End::Memory,
             },
         }
     }
 
     /// The result of a load with this end.
-    pub(crate) fn ended(&self, edits: u64, end: End) -> Loaded
+    pub(crate) fn ended(&self, edits: u64, skipped: u64, end: End) -> Loaded
         ensures { result ≡ record {
           edits = edits;
           batches = self.now.batches;
           taken = self.now.taken;
           serial = self.now.serial;
+          skipped = skipped;
           end = end;
         } }
     {
@@ -190,6 +202,7 @@ impl Sending {
             batches: self.batches,
             taken: self.taken,
             serial: self.serial,
+            skipped,
             end,
         }
     }

@@ -1,5 +1,5 @@
 //! Where edits come from.
-ghost use Rattle.std.specs.Prelude.{◌≡◌, ◌≤◌, Option, List, length};
+ghost use Rattle.std.specs.Prelude.{◌≡◌, ◌≤◌, ℕ, Option, List, IfSome, length};
 ghost use Rattle.serde_json.specs.Written.{compact_text};
 ghost use Rattle.streetmap_batch.specs.BatchText.{edit_data};
 ghost use Rattle.streetmap_batch.specs.BatchView.{edit_value};
@@ -33,14 +33,27 @@ pub struct PlacedEdit {
 
 /// Edits, one after the other.
 pub trait Edits {
-    ghost use Rattle.streetmap_loading.specs.Sources.{Item, SourceGives};
+    ghost use Rattle.streetmap_loading.specs.Sources.{Item, SourceGives, SourceSkips};
 
     /// The edits that are left, if they are known, and the faults among them.
     ghost left: { Self → Option (List Item) };
 
+    /// How many features were skipped.
+    ghost has_skipped: { Self → ℕ };
+
+    /// How many are skipped in all, up to the end or to the fault that ends it, if that is known.
+    ghost skips: { Self → Option ℕ };
+
+    /// How many features were skipped.
+    fn skipped(&self) -> u64
+        ensures skipped { result ≡ has_skipped self.now }
+        ensures within { IfSome (skips self.now) (λ all. result ≤ all) };
+
     /// The next edit; none at the end.
     fn next_edit(&mut self) -> Result<Option<PlacedEdit>, Unread>
-        ensures { SourceGives (left self.old) (left self.new) result };
+        ensures gives { SourceGives (left self.old) (left self.new) result }
+        ensures skips { SourceSkips (skips self.old) (skips self.new) (has_skipped self.new)
+            result };
 }
 
 impl From<AllocError> for Unread {

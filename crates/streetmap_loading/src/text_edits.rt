@@ -2,8 +2,8 @@
 ghost use Rattle.std.specs.Prelude.{◌≡◌, Option};
 ghost use Rattle.streetmap_loading.specs.Texts.{without_mark, without_separator, text_on};
 ghost use Rattle.streetmap_loading.specs.Texts.{without_return};
-ghost use Rattle.streetmap_loading.specs.Texts.{is_skipped, items_left};
-ghost use Rattle.streetmap_loading.specs.TextView.{rules_value, Steps, and_left};
+ghost use Rattle.streetmap_loading.specs.Texts.{is_skipped, items_left, skips_left};
+ghost use Rattle.streetmap_loading.specs.TextView.{rules_value, Steps, StepSkips, and_left};
 
 use crate::feature_line::read_edit;
 use crate::listener::Listener;
@@ -32,7 +32,6 @@ pub(crate) enum Step {
 /// The edits of the features of a text, after the opening of their collection if there is one. The
 /// text has a feature a line: a record separator before it, a carriage return after it, empty lines
 /// and a byte order mark before the first are skipped.
-/// lines and a byte order mark before the first are read past.
 #[derive(Drop)]
 pub struct TextEdits<R: BufRead + Drop, L: Listener + Drop> {
     pub alloc: Global,
@@ -46,6 +45,8 @@ pub struct TextEdits<R: BufRead + Drop, L: Listener + Drop> {
     pub opening: Option<PlacedEdit>,
     /// How many features were found.
     pub features: u64,
+    /// How many of them were skipped.
+    pub skipped: u64,
     /// In about how many bytes.
     pub bytes: u64,
 }
@@ -112,6 +113,12 @@ impl<R: BufRead + Drop, L: Listener + Drop> TextEdits<R, L> {
             (items_left (rules_value self.old.rules) self.new.features
             (R.remaining self.new.reader))
             result }
+        ensures skips { StepSkips
+            (skips_left (rules_value self.old.rules) self.old.skipped self.old.features
+            (R.remaining self.old.reader))
+            (skips_left (rules_value self.old.rules) self.new.skipped self.new.features
+            (R.remaining self.new.reader))
+            self.new.skipped result }
         ensures rules { self.new.rules ≡ self.old.rules }
         ensures opening { self.new.opening ≡ self.old.opening }
     {
@@ -141,6 +148,10 @@ impl<R: BufRead + Drop, L: Listener + Drop> TextEdits<R, L> {
             Ok(placed) => Ok(Step::Edit(placed)),
             Err(Unread::AtFault(fault)) => {
                 if self.rules.skips(fault) {
+                    let Some(skipped) = self.skipped.checked_add(1) else {
+                        return Err(Unread::ReadFailed);
+                    };
+                    self.skipped = skipped;
                     self.listener.passed_over(fault);
                     Ok(Step::Past)
                 } else {
@@ -155,6 +166,15 @@ impl<R: BufRead + Drop, L: Listener + Drop> TextEdits<R, L> {
 impl<R: BufRead + Drop, L: Listener + Drop> Edits for TextEdits<R, L> {
     ghost left = { λ edits. and_left edits.opening
         (items_left (rules_value edits.rules) edits.features (R.remaining edits.reader)) };
+
+    ghost has_skipped = { λ edits. edits.skipped };
+
+    ghost skips = { λ edits. skips_left (rules_value edits.rules) edits.skipped edits.features
+        (R.remaining edits.reader) };
+
+    fn skipped(&self) -> u64 {
+        self.skipped
+    }
 
     fn next_edit(&mut self) -> Result<Option<PlacedEdit>, Unread> {
         if let Some(opening) = self.opening.take() {

@@ -1,7 +1,7 @@
 //! All edits of a source, sent.
 ghost use Rattle.std.specs.Prelude.{◌≤◌, IsTrue, length, string_bytes};
 ghost use Rattle.streetmap_batch.specs.Names.{is_key};
-ghost use Rattle.streetmap_loading.specs.Loads.{Loads};
+ghost use Rattle.streetmap_loading.specs.Loads.{Loads, Skips};
 
 use crate::end::{End, Loaded};
 use crate::sending::Sending;
@@ -29,8 +29,9 @@ pub fn send_all<S: Sink, E: Edits>(
     requires short { length (string_bytes key) ≤ 44 }
     requires some { 1 ≤ each }
     requires most { each ≤ 10000 }
-    ensures { Loads S.takes each (string_bytes key) sink.old sink.new
+    ensures sends { Loads S.takes each (string_bytes key) sink.old sink.new
         (E.left edits.old) (E.left edits.new) result }
+    ensures skips { Skips (E.skips edits.old) result }
 {
     let mut sending = match Sending::new(alloc, key, each) {
         Ok(sending) => sending,
@@ -40,23 +41,26 @@ pub fn send_all<S: Sink, E: Edits>(
                 batches: 0,
                 taken: 0,
                 serial: None,
+                skipped: edits.skipped(),
                 end: End::Memory,
             };
         }
     };
     for turn in 0..MAX_EDITS {
         if let Err(end) = sending.fill(alloc, sink) {
-            return sending.ended(turn, end);
+            return sending.ended(turn, edits.skipped(), end);
         }
         match edits.next_edit() {
             Ok(Some(placed)) => {
                 if let Err(end) = sending.put(alloc, sink, placed) {
-                    return sending.ended(turn + 1, end);
+                    return sending.ended(turn + 1, edits.skipped(), end);
                 }
             }
-            Ok(None) => return sending.finish(alloc, sink, turn),
-            Err(unread) => return sending.ended(turn, End::of_unread(unread)),
+            Ok(None) => return sending.finish(alloc, sink, turn, edits.skipped()),
+            Err(unread) => {
+                return sending.ended(turn, edits.skipped(), End::of_unread(unread));
+            }
         }
     }
-    sending.ended(MAX_EDITS, End::ReadFailed)
+    sending.ended(MAX_EDITS, edits.skipped(), End::ReadFailed)
 }

@@ -26,6 +26,7 @@ use Rattle.streetmap_rows.specs.Failing.{HasReason}
 use Rattle.streetmap_rows.specs.Settling.{Settles, StopsFor}
 use Rattle.streetmap_rows.specs.Keeping.{Rests, MayLeave, MayBecome, AreTreesOf}
 use Rattle.streetmap_rows.proofs.CrashLeaves.{leaves_only, leaves_either}
+use Rattle.streetmap_rows.proofs.OneState.{trees_of_one}
 use Rattle.streetmap_rows.proofs.ErrorReasons.{counts_then, more_before, more_later, stops_settled}
 use Rattle.streetmap_reading.specs.Looking.{LooksInto, Stays}
 use Rattle.streetmap_reading.specs.Taking.{Stopped}
@@ -47,7 +48,13 @@ leaves_last seen stays settled live = record { left = stays live; only = λ tree
 -- an open connection that rests at a state is that of a keeper which represents it
 pub keeps_state : (shut : Option Shut) (seen : Seen) (count : ℕ) (s : State) → shut ≡ None → Rests seen s
     → len s.keys ≡ count → (IsTrue seen.is_open → LeavesLast seen) → KeepsState shut seen count s
-keeps_state shut seen count s unshut rests counted last = record { unshut = unshut; rests = rests; counted = counted; last = last rests.live }
+keeps_state shut seen count s unshut rests counted last = record {
+  unshut = unshut;
+  rests = rests;
+  only = trees_of_one s seen.now.schema seen.now.trees rests.kept;
+  counted = counted;
+  last = last rests.live;
+}
 
 -- ---- what shuts it
 

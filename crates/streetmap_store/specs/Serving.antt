@@ -22,7 +22,7 @@ use Rattle.streetmap_rows.specs.declared.failing.Shut.{Shut}
 use Rattle.streetmap_rows.specs.declared.failing.Shut.TheVariants.{Device, Damaged}
 use Rattle.streetmap_rows.specs.Failing.{is_of_store, HasReason}
 use Rattle.streetmap_rows.specs.Settling.{Settles}
-use Rattle.streetmap_rows.specs.Keeping.{Rests}
+use Rattle.streetmap_rows.specs.Keeping.{Rests, AreTreesOf}
 use Rattle.streetmap_rows.specs.declared.fault.ReadFault.{ReadFault}
 use Rattle.streetmap_rows.specs.declared.fault.ReadFault.TheVariants as read
 
@@ -53,11 +53,13 @@ pub record LeavesLast (seen : Seen) : Type 0 where
   pub left : seen.may_leave seen.committed.trees
   pub only : (trees : Trees) → seen.may_leave trees → trees ≡ seen.committed.trees
 
--- A keeper that is not shut represents the state of its connection, and holds how many batches were
--- accepted. A crash leaves what was committed last, which is that state, and nothing else.
+-- A keeper that is not shut represents the state of its connection, whose rows are of no other
+-- state, and holds how many batches were accepted. A crash leaves what was committed last, which is
+-- that state, and nothing else.
 pub record KeepsState (shut : Option Shut) (seen : Seen) (count : ℕ) (s : State) : Type 0 where
   pub unshut : shut ≡ None
   pub rests : Rests seen s
+  pub only : (o : Option State) → AreTreesOf seen.now.trees o → o ≡ Some s
   pub counted : len s.keys ≡ count
   pub last : LeavesLast seen
 

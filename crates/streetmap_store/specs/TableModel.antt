@@ -11,7 +11,6 @@ use Rattle.streetmap_ledger.specs.Model.{Model}
 use Rattle.streetmap_rows.specs.declared.failing.Shut.{Shut}
 use Rattle.streetmap_rows.specs.declared.failing.Shut.TheVariants.{Device, Damaged}
 use Rattle.streetmap_rows.specs.Keeping.{MayLeave, AreTreesOf}
-use Rattle.streetmap_rows.proofs.CrashLeaves.{leaves_only, rests_only}
 use Rattle.streetmap_rows.proofs.ErrorReasons.{counts_then, more_before, more_later, reason_on}
 use Rattle.streetmap_tables.specs.Acting.{LeavesOtherTables}
 use Rattle.streetmap_tables.proofs.BeforeCleanEnd.{may_leave_it}
@@ -70,6 +69,21 @@ leaves_states shut seen count s is trees may =
     let same : seen.now.trees ≡ trees =
     ap (λ (d : Database). d.trees) is.rests.settled ∙ sym (is.last.only trees may) in
     subst (λ (x : Trees). AreTreesOf x (Some s)) same (seen.now.schema, is.rests.kept)
+
+-- it is one state
+pub one_state : (shut : Option Shut) (seen : Seen) (count : ℕ) (s t : State)
+    → KeepsState shut seen count s → KeepsState shut seen count t → s ≡ t
+one_state shut seen count s t p q =
+    let same : Some s ≡ Some t = q.only (Some s) (seen.now.schema, p.rests.kept) in
+    cc
+
+-- and a crash leaves no other
+pub leaves_it : (shut : Option Shut) (seen : Seen) (count : ℕ) (s : State)
+    → KeepsState shut seen count s → (o : Option State) → MayLeave seen o → o ≡ Some s
+leaves_it shut seen count s is o left =
+    let same : left.0 ≡ seen.now.trees =
+    is.last.only left.0 left.1 ∙ ap (λ (d : Database). d.trees) (sym is.rests.settled) in
+    is.only o (subst (λ trees. AreTreesOf trees o) same left.2)
 
 module _ {K : Type 0} (view : View K) where
   pub spares_itself : (k : K) → Spares view k k
@@ -188,10 +202,10 @@ table_model view = record {
       × Acts s b result (Represents view after);
   spares = Spares view;
   fails = Fails view;
-  one_state = λ k s t p q. rests_only (view.seen k) t q.rests s p.rests;
+  one_state = λ k s t p q. one_state (view.shut k) (view.seen k) (view.count k) s t p q;
   shut_has_none = λ k s shut is. never_shut (view.shut k) is.unshut shut;
   may_leave_it = λ k s is. may_leave_it (view.seen k) s is.rests is.last.left;
-  leaves_it = λ k s is. leaves_only (view.seen k) s is.rests is.last.only;
+  leaves_it = λ k s is. leaves_it (view.shut k) (view.seen k) (view.count k) s is;
   well_formed = λ k s is. is.rests.kept.well;
   spares_itself = spares_itself view;
   spares_then = spares_then view;

@@ -1,4 +1,4 @@
-use Rattle.std.proofs.Common.{◌≡◌, map, length, Some, sym, subst, ◌∙◌}
+use Rattle.std.proofs.Common.{map, length, sym, subst, ◌∙◌}
 use Rattle.std.specs.Prelude.{Option}
 use Rattle.std.proofs.lemmas.List.{length-map}
 use Rattle.streetmap_batch.specs.BatchView.{batch_value}

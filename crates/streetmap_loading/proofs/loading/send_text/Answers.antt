@@ -5,6 +5,7 @@ use Rattle.streetmap_loading.specs.TextView.{and_left}
 use Rattle.streetmap_loading.specs.Texts.{items_left}
 use Rattle.streetmap_loading.specs.Options.{opening_items, load_value}
 use Rattle.streetmap_loading.specs.declared.source.PlacedEdit.{PlacedEdit}
+use Rattle.streetmap_loading.proofs.SkipLemmas.{from_begin}
 use Rattle.streetmap_loading.proofs.loading.send_text.Goals as goal
 
 opened : (o : Option PlacedEdit) (items : Option (List Item)) →
@@ -12,10 +13,13 @@ opened : (o : Option PlacedEdit) (items : Option (List Item)) →
 opened None items = refl
 opened (Some p) items = refl
 
-pub returns : goal.returns
-returns g c =
+pub returns-clause-sends : goal.returns-clause-sends
+returns-clause-sends g c =
     let l = load_value c.args.load in
     subst (λ (items : Option (List Item)). SendsItems g.S.Sink.takes l.each l.key c.args.sink.now
     c.send_source.new.sink items c.send_source.result)
     (opened c.args.load.opening (items_left l.rules 0 (g.R.Read.remaining c.args.reader)))
-    c.send_source.ensures
+    c.send_source.ensures.sends
+
+pub returns-clause-skips : goal.returns-clause-skips
+returns-clause-skips g c = from_begin (load_value c.args.load).rules (g.R.Read.remaining c.args.reader) c.send_source.result c.send_source.ensures.skips

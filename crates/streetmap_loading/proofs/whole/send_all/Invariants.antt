@@ -1,5 +1,6 @@
 use Rattle.std.proofs.Common.{◌+◌, ◌*◌, ◌≤◌, string_bytes}
 use Rattle.streetmap_packing.specs.PackerView.{packing}
+use Rattle.streetmap_loading.specs.Sources.{StaysKnown}
 use Rattle.streetmap_loading.proofs.Taking.{Reads}
 use Rattle.streetmap_loading.proofs.whole.send_all.Given as goal
 
@@ -12,4 +13,5 @@ invariant-loop-turn g l = record {
   reads :
       Reads g.S.Sink.takes l.fn.each (string_bytes l.fn.key) l.fn.sink l.sink
       (g.E.Edits.left l.fn.edits) (g.E.Edits.left l.edits) l.turn l.sending;
+  skips : StaysKnown (g.E.Edits.skips l.fn.edits) (g.E.Edits.skips l.edits);
 }

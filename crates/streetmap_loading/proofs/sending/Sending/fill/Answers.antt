@@ -1,5 +1,4 @@
-use Rattle.std.proofs.Common.{◌≡◌, [], Result, Err, refl, rules}
-use Rattle.streetmap_loading.specs.declared.end.End.{End}
+use Rattle.std.proofs.Common.{◌≡◌, [], Err, refl, rules}
 use Rattle.streetmap_loading.specs.declared.end.End.TheVariants.{Memory}
 use Rattle.streetmap_loading.specs.declared.sending.Sending.{Sending}
 use Rattle.streetmap_loading.proofs.SendLemmas.{fill_memory, fill_some}

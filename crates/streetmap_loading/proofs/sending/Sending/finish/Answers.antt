@@ -1,6 +1,6 @@
-use Rattle.std.proofs.Common.{◌≡◌, length, sym, ap, ◌∙◌, rules}
+use Rattle.std.proofs.Common.{length, sym, ap, ◌∙◌}
 use Rattle.std.proofs.lemmas.List.{length-map}
-use Rattle.streetmap_batch.specs.BatchView.{batch_value, edit_value}
+use Rattle.streetmap_batch.specs.BatchView.{edit_value}
 use Rattle.streetmap_loading.proofs.SendLemmas.{finish_none, finish_ok, finish_stop, ends_memory}
 use Rattle.streetmap_loading.proofs.sending.Sending.finish.Goals as goal
 

@@ -1,6 +1,5 @@
-use Rattle.std.proofs.Common.{◌≡◌, ◌∷◌, [], Result, Err, refl, rules}
+use Rattle.std.proofs.Common.{◌≡◌, ◌∷◌, [], Err, refl, rules}
 use Rattle.streetmap_loading.specs.Sources.{placed_value}
-use Rattle.streetmap_loading.specs.declared.end.End.{End}
 use Rattle.streetmap_loading.specs.declared.end.End.TheVariants.{Memory}
 use Rattle.streetmap_loading.specs.declared.sending.Sending.{Sending}
 use Rattle.streetmap_loading.proofs.SendLemmas.{put_memory, put_none, put_some}

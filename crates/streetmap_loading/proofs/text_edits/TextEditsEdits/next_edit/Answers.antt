@@ -7,8 +7,8 @@ use Rattle.streetmap_loading.specs.declared.text_edits.Step.{Step}
 use Rattle.streetmap_loading.proofs.TextLemmas.{next_off}
 use Rattle.streetmap_loading.proofs.text_edits.TextEditsEdits.next_edit.Goals as goal
 
-pub returns-in-Edit : goal.returns-in-Edit
-returns-in-Edit g c =
+pub returns-in-Edit-clause-gives : goal.returns-in-Edit-clause-gives
+returns-in-Edit-clause-gives g c =
     let old = c.args.self.now in
     let at = c.loop-turn.self in
     let new = c.step.new.self in

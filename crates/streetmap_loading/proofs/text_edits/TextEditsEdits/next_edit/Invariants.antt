@@ -1,6 +1,6 @@
 use Rattle.std.proofs.Common.{◌≡◌, None, []}
-use Rattle.streetmap_loading.specs.Sources.{TakesOff}
-use Rattle.streetmap_loading.specs.Texts.{items_left}
+use Rattle.streetmap_loading.specs.Sources.{TakesOff, StaysKnown}
+use Rattle.streetmap_loading.specs.Texts.{items_left, skips_left}
 use Rattle.streetmap_loading.specs.TextView.{rules_value}
 use Rattle.streetmap_loading.proofs.text_edits.TextEditsEdits.next_edit.Given as goal
 
@@ -15,4 +15,8 @@ invariant-loop-turn g l =
       past :
           TakesOff (items_left r l.fn.self.features (g.R.Read.remaining l.fn.self.reader))
           (items_left r l.self.features (g.R.Read.remaining l.self.reader)) [];
+      skips :
+          StaysKnown
+          (skips_left r l.fn.self.skipped l.fn.self.features (g.R.Read.remaining l.fn.self.reader))
+          (skips_left r l.self.skipped l.self.features (g.R.Read.remaining l.self.reader));
     }
