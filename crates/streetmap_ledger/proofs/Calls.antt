@@ -52,7 +52,6 @@ module _ {K : Type 0} (model : Model K) where
   reads_so T a b c s Is As (Err Damaged) so before h = h
   reads_so T a b c s Is As (Err Reopen) so before h = h
 
-
 module _ {K : Type 0} {model : Model K} where
   -- no call was made
   pub no_read : {T : Type 0} (keeper : K) (x : T) {Is : State → T → Type 0} → model.cause keeper ≡ None → ((s : State) → model.represents keeper s → Is s x) → IsRead model keeper keeper (Ok x) Is

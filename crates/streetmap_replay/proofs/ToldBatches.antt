@@ -94,8 +94,7 @@ module _ {K : Type 0} {model : Model K} where
   written {a} {b} batch (Refused why place) write = record {
     calls = answered write.call;
     follows = λ h s e.
-        let it = write.writes h s e in
-        (
+        let it = write.writes h s e in (
           ap (unless_refused (act s batch).state) (sym it.0),
           subst (model.represents b) (refused_changes_nothing s batch why place (sym it.0)).0 it.1,
         );
