@@ -1,6 +1,6 @@
 -- What a command leaves in FILE, by what its calls of the keeper owe.
 use Rattle.std.proofs.Common.{◌≡◌, ◌⊎◌, inl, inr, ℕ, ◌+◌, List, [], ◌∷◌, ◌++◌, length, Option, None, Some, Result, Ok, Err, String, Bool, true, false, refl, sym, ap, subst, ◌∙◌}
-use Rattle.std.specs.Prelude.{IsOk, IfSome, IfErr, All, ◌||◌}
+use Rattle.std.specs.Prelude.{IsOk, IfSome, IfErr, ◌||◌}
 use Rattle.std.specs.declared.alloc.Global.{Global}
 use Rattle.std.proofs.lemmas.List.{append-nil}
 use Rattle.std.proofs.lemmas.List.Elements.{All-nil}
@@ -33,7 +33,6 @@ use Rattle.streetmap_replay.specs.declared.line_stop.LineStop.TheVariants as sto
 use Rattle.streetmap_replay.specs.declared.following.Followed.{Followed}
 use Rattle.streetmap_replay.specs.declared.following.End.{End as FollowEnd}
 use Rattle.streetmap_replay.specs.declared.following.End.TheVariants as ends
-use Rattle.streetmap_packing.specs.Packs.{Packs}
 use Rattle.streetmap_loading.specs.Places.{PlacedValue, edits_of}
 use Rattle.streetmap_loading.specs.Sources.{Item}
 use Rattle.streetmap_loading.specs.Loads.{items_of, Skips, SkippedAt}

@@ -1,5 +1,5 @@
 -- Reads of a keeper, one after the other.
-use Rattle.std.proofs.Common.{◌≡◌, None, Some, Option, Result, Ok, Err, subst}
+use Rattle.std.proofs.Common.{◌≡◌, None, Some, Result, Ok, Err, subst}
 use Rattle.std.specs.Prelude.{IsOk, IsErr, true, false}
 use Rattle.streetmap_ledger.specs.State.{State}
 use Rattle.streetmap_ledger.specs.Model.{Model}

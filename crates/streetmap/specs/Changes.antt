@@ -1,6 +1,6 @@
 -- What a command leaves in FILE: of a file that held the tables of a state, each image that a crash
 -- may leave afterwards holds a state, and which one it may be is said here.
-use Rattle.std.specs.Prelude.{◌≡◌, ◌⊎◌, ℕ, ◌+◌, List, [], ◌++◌, length, All, IfSome, Option, None}
+use Rattle.std.specs.Prelude.{◌≡◌, ◌⊎◌, ℕ, ◌+◌, List, ◌++◌, length, All, IfSome, Option, None}
 use Rattle.std.specs.Prelude.{Result, Ok, Err, IsOk, Bool, true, false}
 use Rattle.streetmap_batch.specs.Text.{Text}
 use Rattle.streetmap_batch.specs.BatchValue.{BatchValue}

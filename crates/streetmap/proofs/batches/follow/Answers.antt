@@ -1,6 +1,5 @@
-use Rattle.std.proofs.Common.{◌≡◌, List, ℕ, Option, subst}
+use Rattle.std.proofs.Common.{List, ℕ, Option, subst}
 use Rattle.std.specs.Io.Buffered.{reader_remaining}
-use Rattle.streetmap_ledger.specs.State.{State}
 use Rattle.streetmap.specs.Faults.{end_of_followed}
 use Rattle.streetmap.specs.Changes.{Applied}
 use Rattle.streetmap.proofs.Readers.{remaining_is}

@@ -1,4 +1,4 @@
-use Rattle.std.proofs.Common.{◌≡◌, List, ℕ, Option, subst}
+use Rattle.std.proofs.Common.{List, ℕ, Option, subst}
 use Rattle.std.specs.Io.Buffered.{reader_remaining}
 use Rattle.streetmap_loading.specs.Options.{load_value, load_items, load_skips}
 use Rattle.streetmap.specs.Changes.{Loaded, SkipsNone}

@@ -1,4 +1,4 @@
-use Rattle.std.proofs.Common.{◌≡◌, ℕ, None, Err, refl, sym, subst}
+use Rattle.std.proofs.Common.{ℕ, None, Err, refl, sym, subst}
 use Rattle.std.specs.Prelude.{◌||◌}
 use Rattle.streetmap_batch.specs.Text.{Text}
 use Rattle.streetmap_ledger.specs.State.{State}

@@ -1,4 +1,4 @@
-use Rattle.std.proofs.Common.{refl, ap}
+use Rattle.std.proofs.Common.{ap}
 use Rattle.streetmap_loading.specs.Options.{LoadValue}
 use Rattle.streetmap.proofs.KeptByReads.{kept_itself}
 use Rattle.streetmap.proofs.loading.skipping.Goals as goal

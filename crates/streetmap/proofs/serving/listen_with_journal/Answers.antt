@@ -1,5 +1,5 @@
 use Rattle.std.proofs.Common.{◌≡◌, true, false, refl}
-use Rattle.streetmap.proofs.KeptByReads.{kept_itself, kept_if, not_done}
+use Rattle.streetmap.proofs.KeptByReads.{kept_if, not_done}
 use Rattle.streetmap.proofs.serving.listen_with_journal.Goals as goal
 
 pub returns-in_err-journal-clause-kept : goal.returns-in_err-journal-clause-kept

@@ -1,6 +1,5 @@
-use Rattle.std.proofs.Common.{◌≡◌, List, [], length, map, refl, ap}
+use Rattle.std.proofs.Common.{length, map, refl, ap}
 use Rattle.streetmap_routes.specs.BaseView.{root_of}
-use Rattle.streetmap_connections.specs.AllClients.{clients_of}
 use Rattle.streetmap_connections.specs.SlotClients.{client_history}
 use Rattle.streetmap.proofs.Counts.{as_many, as_few, none_at_all}
 use Rattle.streetmap.proofs.Nobody.{nobody_came}
