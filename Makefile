@@ -32,7 +32,7 @@ build: toolchain
 	@python3 tools/build.py $(LANES)
 	@echo "The program: $(PROGRAM)"
 
-## demo      builds, and then imports, serves, changes and stops a sample town hard
+## demo      builds, and then imports, serves, changes and kills a sample town
 demo: build
 	@bash examples/demo.sh $(PROGRAM)
 

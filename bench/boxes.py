@@ -1,15 +1,15 @@
-"""Times pages of boxes over HTTP, where ids follow places and where they are shuffled.
+"""Times pages of boxes over HTTP, with ids that follow places and with shuffled ones.
 
     python3 bench/boxes.py PROGRAM [--features 100000 1000000] [--asked 200] [--beside OTHER]
         [--servers]
 
 A town is a square with one line of up to 30 m for each 100 m2. Its features are posted in batches
-of 1,000 to `streetmap serve` on 127.0.0.1, and each request goes over one connection. Beside each
-page stand a scan of the same file by Python's sqlite3 and, where SQLite has it, an R*Tree in
+of 1,000 to `streetmap serve` on 127.0.0.1, and each request goes over one connection. Each page is
+compared with a scan of the same file by Python's sqlite3 and, if SQLite has it, an R*Tree in
 memory.
 `--beside` times a second program, such as an older build, on files of its own in the same run.
-`--servers` times QGIS Server and MapServer too, where these are installed (`map_servers.py`).
-Times are medians in milliseconds. Where a C compiler is installed, the bytes of the heap that a
+`--servers` times QGIS Server and MapServer too, if they are installed (`map_servers.py`).
+Times are medians in milliseconds. If a C compiler is installed, the bytes of the heap that a
 program holds for each feature are counted too, in a run of its own (`held.c`).
 """
 
@@ -37,7 +37,7 @@ from pathlib import Path
 from typing import Any
 
 BATCH = 1_000
-# How many pages of a kind QGIS Server and MapServer are asked for at most.
+# The most pages of a kind that are requested from QGIS Server and MapServer.
 MOST_OF_SERVERS = 20
 LONGEST = 30_000
 SPACING = 10_000
@@ -54,7 +54,7 @@ class Town:
 
     @property
     def side(self) -> int:
-        """How many features stand in a row."""
+        """The number of features in a row."""
         return int(self.features**0.5)
 
     @property
@@ -135,7 +135,7 @@ class Server:
 
 @contextmanager
 def serving(program: Path, file: Path, given: dict[str, str] | None = None) -> Iterator[Server]:
-    """A server that ends with the block, with these words in its environment."""
+    """A server that ends with the block, with these variables in its environment."""
     server = Server(program, file, given or {})
     try:
         yield server
@@ -151,7 +151,7 @@ def milliseconds(work: Callable[[], object]) -> float:
 
 
 def boxes(town: Town, width: int, count: int) -> list[Box]:
-    """So many square boxes within the town, the same ones in each run."""
+    """`count` square boxes within the town, the same ones in each run."""
     chance = random.Random(99)
     most = max(1, town.width - width)
     corners = [(chance.randrange(most), chance.randrange(most)) for _ in range(count)]
@@ -165,7 +165,7 @@ def written(area: Box) -> str:
 
 @dataclass(frozen=True)
 class Question:
-    """A page that is asked for, and how often in comparison with a page of a small box."""
+    """A page that is requested, and how often compared with a page of a small box."""
 
     name: str
     width: int | None
@@ -219,7 +219,7 @@ class Plain:
             self.has_tree = False
 
     def page(self, area: Box | None, limit: int, by_tree: bool) -> list[Any]:
-        """The rows that a page shows, behind a count of those that it would match."""
+        """The rows that a page shows, after counting those that it would match."""
         if area is None:
             self.database.execute(self.COUNT).fetchone()
             return self.database.execute(self.ALL, (limit,)).fetchall()
@@ -229,7 +229,7 @@ class Plain:
         return self.database.execute(statement, (*bounds, -1)).fetchall()[:limit]
 
     def median(self, queries: list[tuple[str, Box | None]], limit: int, by_tree: bool) -> float:
-        """The median time of these pages, of which a scan asks the first five."""
+        """The median time of these pages, of which a scan requests the first five."""
         chosen = queries if by_tree else queries[:5]
         took = [milliseconds(lambda: self.page(area, limit, by_tree)) for _, area in chosen]
         return statistics.median(took)
@@ -280,13 +280,13 @@ def time_edits(server: Server, town: Town, count: int) -> dict[str, float]:
 
 
 def first_look(town: Town) -> str:
-    """The page that a program is asked for first."""
+    """The page that is first requested from a program."""
     return f"/collections/town/items?{written(boxes(town, 20_000, 1)[0])}"
 
 
 def held_a_feature(program: Path, file: Path, town: Town, folder: Path) -> float | None:
-    """How many bytes of the heap a program holds for each feature after the first look, beside
-    those that it held before; none where no C compiler is installed."""
+    """How many bytes of the heap a program holds for each feature after the first page, in addition
+    to those that it held before; none if no C compiler is installed."""
     if shutil.which("cc") is None:
         return None
     library, count = folder / "held.so", folder / "held"
@@ -302,7 +302,7 @@ def held_a_feature(program: Path, file: Path, town: Town, folder: Path) -> float
 
 
 def time_program(program: Path, file: Path, town: Town, asked: int) -> dict[str, float | None]:
-    """What each kind of request takes, with an index that is learnt at the first look."""
+    """What each kind of request takes, with an index that is learnt at the first page."""
     took: dict[str, float | None] = {}
     with serving(program, file) as server:
         server.get("/conformance")

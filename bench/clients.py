@@ -1,6 +1,6 @@
 """Requests over sockets, on 1, 10 and 100 connections, beside nginx with a file of the same size.
 
-It needs `wrk`, and `nginx` for the comparison (Debian's packages of these names); where they are
+It needs `wrk`, and `nginx` for the comparison (Debian's packages of these names); if they are
 missing it says so. Then the slowest of 1,000 requests beside 200 idle connections.
 """
 
@@ -45,7 +45,7 @@ Started = tuple[subprocess.Popen[bytes], int]
 
 @contextlib.contextmanager
 def until_done(process: subprocess.Popen[bytes], port: int) -> Iterator[Started]:
-    """A server from the time that it listens on; it is stopped where the block ends."""
+    """A server from the time that it listens on; it is stopped at the end of the block."""
     try:
         for _ in range(600):
             with contextlib.suppress(OSError):

@@ -1,14 +1,14 @@
 """Pages of 100 features by the gateway, beside QGIS Server and MapServer over the same 100,000.
 
 It needs the gateway's packages (tests/packages.txt), `wrk`, `nginx` and `gdal-bin`. QGIS Server
-(`qgis-server`, `python3-qgis`) and MapServer (`cgi-mapserver`) stand beside it where these are
+(`qgis-server`, `python3-qgis`) and MapServer (`cgi-mapserver`) are compared with it if they are
 installed: Debian's packages of these names, by apt-get. No test needs them.
 
 The lamps are in a file of the program and in a GeoPackage in EPSG:25832, which has an R*Tree. Each
 server is four processes behind nginx: gateways in front of one `streetmap serve`, and QGIS Server
 and MapServer by FastCGI, which answer by OGC API - Features too. All write GeoJSON in degrees, and
-say how many lamps there are; of a box the gateway does not. A dash stands for pages of a walk by
-MapServer 8.0, which passes over `offset`.
+report the number of lamps; of a box the gateway does not. A dash is for pages of a walk by
+MapServer 8.0, which ignores `offset`.
 """
 
 import contextlib
@@ -36,7 +36,7 @@ PYTHON = "/usr/bin/python3"
 EASTING, NORTHING = 565_000, 5_934_000
 LIMIT, BOXES, SECONDS, ROUNDS = 100, 200, 4, 3
 CONNECTIONS = (1, 4)
-# Of a walk through all lamps each so many-th page is asked for.
+# Of a walk through all lamps every N-th page is requested.
 EACH_WALKED = 50
 PROCESSES = 4
 # A box of some 160 m each way has some 250 lamps. Degrees.
@@ -124,7 +124,7 @@ FASTCGI = """
     fastcgi_param SERVER_PORT $server_port;
     fastcgi_param HTTP_HOST $http_host;
 """
-# Asks for the next target of a file at each request.
+# Sends each request to the next target of a file.
 SCRIPT = """
 local targets, at = {{}}, 0
 for line in io.lines("{targets}") do targets[#targets + 1] = line end
@@ -207,7 +207,7 @@ def gateways(program: Path, file: Path, folder: Path) -> Iterator[Service]:
 
 @contextlib.contextmanager
 def by_fastcgi(program: Path, folder: Path, seen: dict[str, str]) -> Iterator[int]:
-    """A program of FastCGI as so many processes behind nginx. Gives the port."""
+    """A FastCGI program as PROCESSES processes behind nginx. Gives the port."""
     folder.mkdir()
     seen = seen | {"TMPDIR": str(folder)}
     with contextlib.ExitStack() as started:
@@ -223,7 +223,7 @@ def by_fastcgi(program: Path, folder: Path, seen: dict[str, str]) -> Iterator[in
                 stdout=errors,
                 stderr=errors,
             )
-            # QGIS Server goes on where it is asked to end.
+            # QGIS Server ignores a request to end.
             started.callback(process.wait)
             started.callback(process.kill)
         _, port = started.enter_context(nginx(folder, FASTCGI.format(folder=folder), []))
@@ -268,7 +268,7 @@ def boxes(service: Service) -> list[str]:
 
 
 def next_target(service: Service, target: str) -> str | None:
-    """The page behind a page of the gateway, by its link."""
+    """The page after a page of the gateway, by its link."""
     links = json.loads(service.page(target))["links"]
     found = [link["href"] for link in links if link["rel"] == "next"]
     return "/" + found[0].split("/", 3)[3] if found else None
@@ -276,7 +276,7 @@ def next_target(service: Service, target: str) -> str | None:
 
 def walked(service: Service) -> list[str]:
     """Pages spread over a walk through all lamps: the gateway goes on by `next`, the others by
-    `offset`. None where that is passed over."""
+    `offset`. None if that is ignored."""
     if service.name != "gateway":
         offsets = range(0, FEATURES, EACH_WALKED * LIMIT)
         targets = [service.target(f"&offset={offset}") for offset in offsets]
@@ -302,7 +302,7 @@ def bytes_of(service: Service, targets: list[str]) -> float:
 
 
 def rate(service: Service, targets: list[str], connections: int, folder: Path) -> float:
-    """Pages a second over so many connections, 0 of none."""
+    """Pages a second over `connections` connections; 0 without targets."""
     if not targets:
         return 0
     script, listed = folder / "wrk.lua", folder / "targets"

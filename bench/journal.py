@@ -2,7 +2,7 @@
 
 Each round posts batches of one edit to a new file, one after the other over one connection. On a
 disk most of the time is its synchronising, whose noise hides a journal. So a second table is of
-files in memory (/dev/shm, where it is there), where nothing is synchronised and the journal's part
+files in memory (/dev/shm, if it exists), where nothing is synchronised and the journal's part
 is the greatest that it can be.
 """
 

@@ -109,7 +109,7 @@ def load_words(program: Path, file: Path, text: Path) -> list[Word]:
 
 @dataclass
 class LoadTurn:
-    """A load, and the same rows by Python's sqlite3 behind it."""
+    """A load, and then the same rows by Python's sqlite3."""
 
     file: Path
     took: float

@@ -1,8 +1,8 @@
-"""The towns of `boxes.py` by QGIS Server and MapServer, each where it is installed.
+"""The towns of `boxes.py` by QGIS Server and MapServer, if they are installed.
 
 Debian's packages `qgis-server`, `python3-qgis` and `cgi-mapserver`, with `nginx` and `gdal-bin`. A
 town is a GeoPackage in EPSG:25832, which has an R*Tree. Both answer by OGC API - Features, four
-processes each behind nginx, and ask for boxes in degrees.
+processes each behind nginx, and get requests for boxes in degrees.
 """
 
 from __future__ import annotations
@@ -37,7 +37,7 @@ def in_metres(feature: Feature) -> Feature:
 
 
 def geopackage(features: Iterable[Feature], folder: Path) -> Path:
-    """The features of a town as the layer `lamps`, which is what the servers are asked for."""
+    """The features of a town as the layer `lamps`, which is what the servers are queried for."""
     text, made = folder / "town.geojsonl", folder / "town.gpkg"
     with text.open("w") as lines:
         for feature in features:

@@ -103,7 +103,7 @@ def seconds_each(program: Path, file: Path, requests: list[bytes], first: bytes)
 def seconds_of(
     program: Path, file: Path, request: bytes, count: int, first: bytes = CONFORMANCE
 ) -> float:
-    """Seconds for an answer: the best of three runs, each of so many equal requests."""
+    """Seconds for an answer: the best of three runs, each of `count` equal requests."""
     return best(3, lambda: seconds_each(program, file, [request] * count, first))
 
 

@@ -99,7 +99,7 @@ def moment(text: str) -> datetime:
 
 
 def interval(text: str | None) -> Interval | None:
-    """The start and the end of a time; None where it is open."""
+    """The start and the end of a time; None if it is open."""
     if text is None:
         return None
     if "/" in text:

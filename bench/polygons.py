@@ -12,7 +12,7 @@ from typing import Any
 from measures import command, compact, create, read_status, report, started
 from messages import feature, get, open_collection
 
-# A square of jagged sides has so many edges a side. A feature has at most 100,000 positions.
+# The edges of each side of a square of jagged sides. A feature has at most 100,000 positions.
 SIDE = 24_999
 EDGES = 4 * SIDE
 FAR = SIDE * 40

@@ -2,7 +2,7 @@
 
     python3 bench/run.py PROGRAM [NAME ..] [--list] [--slow]
 
-All measures run where none is named. Each is a module of this folder. With --slow those that have
+All measures run if none is named. Each is a module of this folder. With --slow those that have
 a long form run it.
 """
 

@@ -1,4 +1,4 @@
-"""What a file of so many features asks of its office: its size, opening it, memory, pages, a load.
+"""What a file of N features costs its office: its size, opening it, memory, pages, a load.
 
 Files of 10^4 and 10^5 features, and with --slow of 10^6 and 3 * 10^6, are made by `load` in batches
 of 1,000 and served. Then batches of one edit go to a file, 10^4 of them and with --slow 10^5: the
@@ -105,7 +105,7 @@ def page_at(number: int) -> str:
 
 
 def batch_of(number: int, edits: int) -> dict[str, Any]:
-    """A batch that replaces so many features, or inserts them."""
+    """A batch that replaces `edits` features, or inserts them."""
     lamps = (lamp(at, f"new-{number}-{at:07}") for at in range(edits))
     found = [put("insert", "lamps", it) for it in lamps]
     return {"key": f"sizes-{number}", "edits": found}
@@ -133,7 +133,7 @@ def sizes_of(program: Path, folder: Path, features: int) -> Sizes:
 
 
 def log_of(program: Path, folder: Path, count: int) -> None:
-    """So many batches of one edit, one after the other: the log beside the file, and memory."""
+    """`count` batches of one edit, one after the other: the log beside the file, and memory."""
     file, most = folder / "many.streetmap", 0
     command([program, "create", file])
     opened = {"key": "open", "edits": [{"op": "open", "collection": "lamps", "title": "Lamps"}]}

@@ -57,7 +57,7 @@ IN_BOX = f"{ALL} AND x0 <= ? AND x1 >= ? AND y0 <= ? AND y1 >= ?"
 
 
 def lamp(at: int, identity: str) -> dict[str, Any]:
-    """One of the lamps of a town, which stand in a square, 10 m apart."""
+    """One of the lamps of a town, which are in a square, 10 m apart."""
     place = [at % ROW * 10_000, at // ROW * 10_000]
     properties = {"height": at % 9000, "kind": "street lamp", "owner": "town"}
     geometry = {"coordinates": place, "type": "Point"}
@@ -65,7 +65,7 @@ def lamp(at: int, identity: str) -> dict[str, Any]:
 
 
 def batches(collection: str, stride: int) -> Iterator[Batch]:
-    """The town in batches, under ids that follow places where the stride is 1."""
+    """The town in batches, under ids that follow places if the stride is 1."""
     for first in range(0, FEATURES, BATCH):
         numbers = range(first, first + BATCH)
         lamps = [lamp(at, f"lamp-{at * stride % FEATURES:06}") for at in numbers]
@@ -113,7 +113,7 @@ class PlainReader:
         return self.seconds(f"SELECT id, body {IN_BOX} ORDER BY id", bounds)
 
     def hundred_of(self, reach: int) -> float:
-        """A hundred features of a box, and how many there are."""
+        """A hundred features of a box, and how many the box has."""
         bounds = box_values(reach)
         shown = self.seconds(f"SELECT id, body {IN_BOX} ORDER BY id LIMIT 100", bounds)
         return shown + self.seconds(f"SELECT count(*) {IN_BOX}", bounds)
@@ -179,7 +179,7 @@ def index(program: Path, file: Path) -> None:
 
 
 def edit_seconds(program: Path, file: Path, first: bytes) -> float:
-    """Seconds for a batch of one insert, before all other ids, behind the first request."""
+    """Seconds for a batch of one insert, before all other ids, after the first request."""
 
     def once() -> float:
         named = f"a-{time.monotonic_ns()}"

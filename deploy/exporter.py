@@ -4,8 +4,8 @@
     python3 deploy/exporter.py [--port P] [--settings FOLDER] [--data FOLDER] [--log FILE]
 
 A town is a NAME.conf in FOLDER (/etc/streetmap). At each request for /metrics on port P (9118) of
-127.0.0.1 it asks the town's server for its landing page, reads the last line of its journal and the
-sizes of its files in the other FOLDER (/var/lib/streetmap), and asks the databases that its
+127.0.0.1 it requests the landing page of the town's server, reads the last journal line and the
+sizes of its files in the other FOLDER (/var/lib/streetmap), and queries the databases that its
 settings name. FILE (/var/log/nginx/streetmap.log) is the log of nginx, of which it counts what is
 added: deploy/nginx.conf has its form. A figure that cannot be had is left out.
 
@@ -148,7 +148,7 @@ class Requests:
         self.seconds = Histogram(
             "streetmap_request_seconds", "times of nginx", buckets=BUCKETS, registry=own
         )
-        # Prometheus may ask twice at once, and each line is counted once.
+        # Prometheus may send two requests at once, and each line is counted once.
         self.turn = threading.Lock()
         self.file: BinaryIO | None = None
         # What was read of a line that had not ended.
@@ -170,7 +170,7 @@ class Requests:
                 self.read_on()
 
     def read_on(self) -> None:
-        """Counts the lines from where the file was read to before."""
+        """Counts the lines after the point up to which the file was read before."""
         if self.file is None:
             return
         if self.file.tell() > os.fstat(self.file.fileno()).st_size:

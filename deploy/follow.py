@@ -15,18 +15,18 @@ that are there.
 
 At first on each connection it sends again the last line that it holds for acknowledged. The answer
 has to have that serial, and each further one the next. Who is away is tried again, with pauses that
-grow to ten seconds; standard error says so. It ends with status 1 at what a person has to look at,
-and sends nothing behind it:
+grow to ten seconds; standard error says so. It ends with status 1 at what a person has to examine,
+and sends nothing after it:
 
     forked SERIAL ANSWERED    the follower has another batch there, or has it elsewhere
     refused SERIAL CODE ..    the follower refused the batch, with the place and the cause
-    body_too_large SERIAL     the batch text is longer than a body; the words that help follow
+    body_too_large SERIAL     the batch text is longer than a body; the options that help follow
     position_ahead SERIAL     the follower lacks the batch up to which it should go on
-    lines_missing FROM TO     SOURCE begins behind what the follower needs next
+    lines_missing FROM TO     SOURCE begins after what the follower needs next
     bad_line SERIAL           SOURCE has no line there, or a zero byte amid others;
                               line_too_long SERIAL likewise
     bad_position FILE         FILE has no position
-    bad_source CODE           the database refuses what is asked of it
+    bad_source CODE           the database refuses a query
 
 `position_not_written FILE` has status 3, and `usage` 2.
 """
@@ -59,7 +59,7 @@ from journal_lines import (
 
 NAME = "follow"
 # In seconds: for a connection, and for one answer of a follower; between two writings of a
-# position; and after how long an idle connection is made anew, before the follower ends it (30 s).
+# position; and after how long an idle connection is made again, before the follower ends it (30 s).
 CONNECT_SECONDS, ANSWER_SECONDS = 10, 300
 POSITION_SECONDS = 0.5
 IDLE_SECONDS = 20
@@ -69,8 +69,8 @@ PASSING = (408, 429, 500, 502, 503, 504)
 
 @dataclass(frozen=True)
 class Place:
-    """Up to where a follower has acknowledged: the serial and key of that batch, and its line where
-    that is at hand. Serial 0 is the beginning."""
+    """Up to where a follower has acknowledged: the serial and key of that batch, and its line if
+    that is at hand. Serial 0 is before the first batch."""
 
     serial: int = 0
     key: str = ""
@@ -94,7 +94,7 @@ class Answer:
 
     @property
     def words(self) -> list[Any]:
-        """The code, and the place and cause where there are such."""
+        """The code, and the place and cause, if any."""
         return [self.code, *(self.body[it] for it in ("place", "cause") if it in self.body)]
 
 
@@ -116,7 +116,7 @@ class Follower:
         return self.connection is not None and time.monotonic() - self.used < IDLE_SECONDS
 
     def connected(self) -> http.client.HTTPConnection:
-        """The connection, which is made where there is none. An answer may take longer than it."""
+        """The connection, which is made if it is missing. An answer may take longer than it."""
         if self.connection is None:
             made = self.kind(self.host, self.port, timeout=CONNECT_SECONDS)
             made.connect()
@@ -130,7 +130,7 @@ class Follower:
         self.connection = None
 
     def post(self, batch: bytes) -> Answer:
-        """What is answered to a batch. Ends as `Away` where no answer comes, or a passing one."""
+        """What is answered to a batch. Ends as `Away` if no answer comes, or a passing one."""
         try:
             connection = self.connected()
             connection.request("POST", self.path, batch)
@@ -158,7 +158,7 @@ class Follower:
 
 
 def read_json(body: bytes) -> dict[str, Any]:
-    """The object of an answer; an empty one where it is none of ours."""
+    """The object of an answer; an empty one if it is not a Streetmap answer."""
     with suppress(ValueError):
         found = json.loads(body)
         if isinstance(found, dict):
@@ -188,7 +188,7 @@ class PositionFile:
         return self.written
 
     def keep(self, place: Place, now: bool) -> None:
-        """Writes a place, now or where the last writing is some time ago."""
+        """Writes a place, now or if the last writing is some time ago."""
         late = time.monotonic() - self.moment > POSITION_SECONDS
         if place == self.written or not (now or late):
             return
@@ -240,7 +240,7 @@ class Following:
 
     def has_line(self) -> bool:
         """Whether the line of the place is at hand. It is taken from the source, which may not have
-        come to it yet; one that begins right behind it needs none."""
+        come to it yet; one that begins right after it needs none."""
         if self.place.line is not None or self.place.serial == 0:
             return True
         line = next(self.source.behind(self.place.serial - 1), None)
@@ -261,7 +261,7 @@ class Following:
             raise Fault("lines_missing", wanted, line.serial - 1)
 
     def agree(self) -> None:
-        """Sends the last acknowledged line again, over a new connection, where the follower has its
+        """Sends the last acknowledged line again, over a new connection, if the follower has its
         key: one that lacks it would take the line for a new batch."""
         self.follower.close()
         if self.place.serial > 0 and not self.follower.has(self.place.key):
@@ -272,7 +272,7 @@ class Following:
 
     def send(self, line: Line) -> None:
         """Posts a line, whose serial the answer has to have. A line that is longer than a body is
-        passed over where the follower has its key, by `streetmap apply`."""
+        passed over if the follower has its key, by `streetmap apply`."""
         if len(line.text) > MOST_OF_BODY:
             if self.follower.has(line.key):
                 return
@@ -298,7 +298,7 @@ class Following:
 
 
 def run(following: Following, once: bool) -> None:
-    """Follows until it is stopped, or with `once` until all lines that are there are sent."""
+    """Follows until it is stopped, or with `once` until all present lines are sent."""
     pauses = Pauses(NAME)
     tell(NAME, f"going on behind serial {following.place.serial}")
     while True:
@@ -314,7 +314,7 @@ def run(following: Following, once: bool) -> None:
 
 
 def url(text: str) -> str:
-    """A word that is the URL of a server."""
+    """An argument that is the URL of a server."""
     parts = urlsplit(text)
     if parts.scheme not in ("http", "https") or not parts.hostname or parts.port == 0:
         raise ValueError(text)
@@ -322,7 +322,7 @@ def url(text: str) -> str:
 
 
 def source_of(text: str, town: str) -> Source:
-    """The source of a word: a database, with its town, or a journal."""
+    """The source of an argument: a database, with its town, or a journal."""
     if not text.startswith(("postgresql://", "postgres://")):
         return JournalFiles(Path(text))
     from journal_table import TableSource

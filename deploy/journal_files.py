@@ -53,7 +53,7 @@ def part_from(path: Path, serial: int) -> Path:
 
 
 def parts_of(path: Path) -> list[Part]:
-    """The files of a journal in order of serials; the path itself if there is none."""
+    """The files of a journal in order of serials; the path itself if it has none."""
     family = family_of(path)
     try:
         parts = [Part.of(it) for it in family.parent.iterdir() if family_of(it) == family]
@@ -72,7 +72,7 @@ def parts_with(path: Path, serial: int) -> list[Part]:
 
 class JournalFiles:
     """The files of a journal that a server writes, as one source of lines. They are read from the
-    last whole line on that was read before, and again if an earlier line is asked for.
+    last whole line on that was read before, and again if an earlier line is requested.
 
     If a file is another one than before, or shorter, that is `SourceAway` once, so that whoever
     reads it compares what is there with what was read.

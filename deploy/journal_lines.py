@@ -4,9 +4,9 @@ A journal has a line for each accepted batch, in order of serials: the serial in
 batch text, a line feed (docs/API.md, "Batches out and in again"). follow.py, journal_to_postgres.py
 and rotate_journal.py share what is here.
 
-A script that ends by itself prints `NAME: CODE ..` on standard error. Its exit status is 0 where it
-was to end (`--once`), 1 for what is the same at the next start, 2 for words that it does not take,
-and 3 where a file of its own cannot be written.
+A script that ends by itself prints `NAME: CODE ..` on standard error. Its exit status is 0 if it
+was to end (`--once`), 1 for what is the same at the next start, 2 for options it does not take,
+and 3 if a file of its own cannot be written.
 """
 
 import argparse
@@ -31,7 +31,7 @@ LONGEST_END = len(b'"key":""}') + 64
 
 
 class Fault(Exception):
-    """What ends a script: a code, and the words behind it. `more` are lines that help."""
+    """What ends a script: a code, and the words after it. `more` are lines that help."""
 
     def __init__(self, code: str, *words: object, status: int = 1, more: tuple[str, ...] = ()):
         super().__init__(" ".join([code, *map(str, words)]))
@@ -56,7 +56,7 @@ class Line:
 
     @classmethod
     def of(cls, whole: bytes, where: object) -> "Line":
-        """The line of these bytes, without their line feed. Ends as `bad_line` where they are
+        """The line of these bytes, without their line feed. Ends as `bad_line` if they are
         none; `where` says which bytes they are."""
         serial, _, text = whole.partition(b"\t")
         if not SERIAL.fullmatch(serial) or KEY_AT_END.search(text[-LONGEST_END:]) is None:
@@ -73,10 +73,10 @@ class Line:
 
 
 class Source(Protocol):
-    """Where lines come from. Both calls end as `SourceAway` where it does not answer."""
+    """Where lines come from. Both calls end as `SourceAway` if it does not answer."""
 
     def behind(self, serial: int) -> Iterator[Line]:
-        """The lines behind a serial that are there now, in order of serials."""
+        """The lines after a serial that are present now, in order of serials."""
 
     def wait(self) -> None:
         """Returns once there may be more lines, or after a while."""
@@ -129,14 +129,14 @@ class Pauses:
 
 
 def not_empty(text: str) -> str:
-    """A word of a command line that is not empty, as a setting may be that was forgotten."""
+    """An argument of a command line that is not empty, as a setting may be that was forgotten."""
     if not text:
         raise ValueError(text)
     return text
 
 
 def town_of(text: str) -> str:
-    """A word that is a town's name in a database; an empty one is that of the only town."""
+    """An argument that is a town's name in a database; an empty one is that of the only town."""
     if not re.fullmatch(r"([a-z][a-z0-9_]{0,39})?", text):
         raise argparse.ArgumentTypeError(f"{text} is no name of a, b .. z, digits and _")
     return text

@@ -18,7 +18,7 @@ from journal_lines import Fault, Line, tell
 from journal_table import LOCK, MIRRORED, JournalTable
 
 FOLDER = Path(__file__).resolve().parent / "postgis"
-# What makes the tables and functions, in this order; the indexes, for which there is time once the
+# What makes the tables and functions, in this order; the indexes, which can wait until the
 # mirror has come up to the journal's end; and what takes all of it away.
 PARTS = ("names.sql", "tables.sql", "reading.sql", "acting.sql", "views.sql")
 INDEXES, MEMORY = "indexes.sql", "SET LOCAL maintenance_work_mem = '256MB'"

@@ -53,7 +53,7 @@ INSERT INTO streetmap_journal_replaced (serial, key, batch) SELECT serial, key, 
 """
 # Lines that are taken at once: each may have 16 MiB.
 AT_ONCE = 8
-# In seconds: between two looks where there is no LISTEN, as on a hot standby, and where there is.
+# In seconds: between two reads without LISTEN, as on a hot standby, and with it.
 POLL_SECONDS, LISTEN_SECONDS = 0.5, 5.0
 # In seconds, for a connection to be made. A database whose machine is gone is noticed in half a
 # minute.
@@ -93,7 +93,7 @@ class JournalTable:
         self.connection: Any = None
 
     def connect(self) -> Any:
-        """The connection, which is made where there is none."""
+        """The connection, which is made if it is missing."""
         if self.connection is None or self.connection.closed:
             self.connection = psycopg2.connect(
                 self.dsn, connect_timeout=self.connect_seconds, **KEPT_ALIVE
@@ -124,7 +124,7 @@ class JournalTable:
 
     @contextlib.contextmanager
     def transaction(self) -> Iterator[Any]:
-        """A cursor in a transaction of its own, which is undone where the block fails."""
+        """A cursor in a transaction of its own, which is undone if the block fails."""
         with self.asking(), self.connect() as connection, connection.cursor() as cursor:
             yield cursor
 
@@ -151,7 +151,7 @@ class JournalTable:
             return int(cursor.fetchone()[0])
 
     def mirrored(self) -> int | None:
-        """The serial of the mirror's state; None if there is no mirror."""
+        """The serial of the mirror's state; None without a mirror."""
         with self.transaction() as cursor:
             if not self.has(cursor, "streetmap_mirror"):
                 return None
@@ -190,7 +190,7 @@ class JournalTable:
             cursor.execute(NOTIFY, (self.channel, str(lines[-1].serial)))
 
     def complete(self) -> None:
-        """What is done each time once all lines that are there are put in."""
+        """What is done each time once all present lines are put in."""
 
     def texts(self, cursor: Any, lines: Sequence[Line]) -> dict[int, bytes]:
         """The texts that the table has for the serials of lines."""

@@ -22,18 +22,18 @@ With `--renew` it makes the table again from the first line on that J has with a
 no more; what the table had there is moved to `streetmap_journal_replaced`. With `--features` the
 mirror is made again as a whole, in the system that it had if none is given. Then it ends.
 
-It ends with status 1 at what a person has to look at, and puts nothing in after it:
+It ends with status 1 at what a person has to examine, and puts nothing in after it:
 
     other_text SERIAL        the table has another text there, the first that differs: it is another
                              server's
     lines_missing FROM TO    J begins after what the table needs next
     bad_line SERIAL          J has no line there, or a zero byte amid others;
                              line_too_long SERIAL likewise
-    bad_source CODE          the database refuses what is asked of it
+    bad_source CODE          the database refuses a query
     refused SERIAL CODE ..   the mirror refuses the line, with the place of its edit
     other_system S E N       the mirror that is there has another system; E and N in thousandths
     no_system S              PostGIS does not know the system
-    has_mirror               --renew has to have --features, as there is a mirror
+    has_mirror               --renew needs --features, as the database has a mirror
     no_lines J               --renew, and J has no line
 
 `usage` has status 2.
@@ -50,7 +50,7 @@ from journal_mirror import MirroredTable, OfficeSystem, shift_of, system_of
 from journal_table import JournalTable, OtherText
 
 NAME = "journal_to_postgres"
-# A transaction has at most so many lines, or those that reach so many bytes.
+# A transaction has at most MOST_LINES lines, or those that reach MOST_BYTES bytes.
 MOST_LINES, MOST_BYTES = 1000, 4_194_304
 
 
@@ -70,7 +70,7 @@ def groups(lines: Iterable[Line]) -> Iterator[list[Line]]:
 
 class Copying:
     """A journal, a table, and the serial after which lines are put in or compared. It is not known
-    before both were looked at."""
+    before both were read."""
 
     def __init__(self, path: Path, table: JournalTable, renews: bool = False) -> None:
         self.path = path
@@ -140,7 +140,7 @@ class Copying:
 
 
 def run(copying: Copying, once: bool) -> None:
-    """Copies until it is stopped, or with `once` until all lines that are there are put in."""
+    """Copies until it is stopped, or with `once` until all present lines are put in."""
     pauses = Pauses(NAME)
     while True:
         try:
@@ -155,7 +155,7 @@ def run(copying: Copying, once: bool) -> None:
 
 
 def table_of(asked: argparse.Namespace) -> JournalTable:
-    """The table, or that with the mirror, which the words of the command line ask for."""
+    """The table, or that with the mirror, which the options of the command line select."""
     if not asked.features:
         return JournalTable(asked.dsn, asked.town)
     given = asked.system is not None

@@ -9,7 +9,7 @@ are then compared with those of the mirror. The file is in a temporary folder, o
 the exports of the mirror stay too, as COLLECTION.json, and where the next check goes on with it.
 
 It prints `the same at serial N: C collections, F features`, and has status 0. Status 1, and on
-standard error one of these, is for a person to look at:
+standard error one of these, is for a person to examine:
 
     differs COLLECTION             the export, the title or the time property is another one, or
                                    one of both has no such collection
@@ -17,7 +17,7 @@ standard error one of these, is for a person to look at:
     no_mirror                      the database has no mirror
     lines_missing FROM TO          the lines from serial 1 on are not all there
     program_failed COMMAND         PROGRAM is not there, or ended with a fault of its own
-    bad_source CODE                the database refuses what is asked of it
+    bad_source CODE                the database refuses a query
 
 `usage` has status 2, and a database that does not answer 3.
 """
@@ -145,7 +145,7 @@ class Server:
             raise Fault("program_failed", word)
 
     def last(self, serial: int) -> int:
-        """The last serial of the file, which is made anew if it is none, or has more than these."""
+        """The last serial of the file, which is made again if it is none or has more than these."""
         if self.file.exists():
             with contextlib.closing(sqlite3.connect(self.file)) as connection:
                 rows = connection.execute("SELECT coalesce(max(serial), 0) FROM streetmap_batches")

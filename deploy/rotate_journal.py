@@ -12,9 +12,9 @@ yet, nothing changes: so a repeat does no harm.
 The settings are replaced as a whole, once the lines before are synchronised. If it is killed, the
 unit has the old settings or the new ones, and the same command again goes on and starts the unit.
 
-It ends with status 1, and the unit goes on with its old file, at what a person has to look at:
+It ends with status 1, and the unit goes on with its old file, at what a person has to examine:
 
-    no_settings FILE        there is no such file; bad_settings NAME: that setting is wrong
+    no_settings FILE        the file does not exist; bad_settings NAME: that setting is wrong
     cut_line FILE           its last line is cut: the unit completes it as it starts
     bad_line FILE           a line of it is none
     exists FILE             the next file is there

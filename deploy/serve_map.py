@@ -57,7 +57,7 @@ def wait_for(port: int, process: subprocess.Popen[bytes], name: str) -> None:
 
 
 def configuration(folder: Path, port: int, server: int, place: Path, root: Path = ROOT) -> str:
-    """The text of serve_map.conf, its words filled in."""
+    """The text of serve_map.conf, its names filled in."""
     words = {
         "folder": folder,
         "port": port,

@@ -1,5 +1,5 @@
 #!/usr/bin/env bash
-# Shows the program over a file, from a sample town to a hard stop: bash examples/demo.sh PROGRAM
+# Shows the program over a file, from a sample town to a kill: bash examples/demo.sh PROGRAM
 set -eu
 program=$(realpath "$1")
 examples=$(dirname "$(realpath "$0")")
@@ -33,7 +33,7 @@ stop() {
     server=
 }
 
-# Sends a request by curl, or by Python where that is missing: a path, and a batch if one is given.
+# Sends a request by curl, or by Python if that is missing: a path, and a batch if one is given.
 ask() {
     echo "\$ curl ${2:+-d "'$2'" }'localhost:$port$1'"
     if command -v curl > /dev/null; then

@@ -37,7 +37,7 @@ def ring(points: Sequence[Point]) -> list[list[int]]:
 
 
 def along(line: Sequence[Point], spacing: float, offset: float) -> list[Point]:
-    """Points beside a line, each so many metres behind the one before."""
+    """Points beside a line, each `spacing` after the one before."""
     found, left = [], spacing / 2
     for (x0, y0), (x1, y1) in zip(line, line[1:]):
         length = math.dist((x0, y0), (x1, y1))

@@ -45,7 +45,7 @@ def make_app(gateway: Gateway) -> Starlette:
 
 
 def routes_of(gateway: Gateway) -> list[BaseRoute]:
-    """The paths that the settings ask for."""
+    """The paths that the settings select."""
     settings = gateway.settings
     found = reading.ROUTES + (edits.ROUTES if settings.writers else [])
     if settings.mirror is not None:

@@ -47,7 +47,7 @@ class Part:
 @dataclass(frozen=True)
 class Region:
     """A box on the grid. `bounds` are those to request from the server, whose answer is exact if
-    there are no parts. No feature is selected if there are no bounds."""
+    the region has no parts. No feature is selected without bounds."""
 
     bounds: Bounds | None
     parts: tuple[Part, ...] = ()

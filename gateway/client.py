@@ -1,4 +1,4 @@
-"""The server behind the gateway: pages, features, collections and batches over HTTP.
+"""The server that the gateway reads and writes: pages, features, collections and batches over HTTP.
 
 A request whose connection broke is made again: a `GET` changes nothing, and a batch acts once under
 its key. The server closes connections that are idle for half a minute, or sooner if another client

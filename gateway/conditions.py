@@ -21,7 +21,7 @@ class Conditions:
 
 
 def read_conditions(request: Request) -> Conditions:
-    """The conditions of a request; a refusal if one of them asks for an entity tag."""
+    """The conditions of a request; a refusal if one of them needs an entity tag."""
     match = request.headers.getlist("if-match")
     if match and [text.strip() for text in match] != [ANY]:
         raise failed("No feature has an entity tag, so If-Match holds for none but *.")

@@ -111,7 +111,7 @@ def read_page(body: bytes) -> Page:
     listed, mark, rest = text.rpartition(LINKS)
     pieces = listed.split(GEOMETRY)
     members = json.loads(f"{FEATURES}{mark}{rest}" if mark else text)
-    # Each feature begins one piece. If there are more, properties have members `geometry`.
+    # Each feature begins one piece. If more are found, properties have members `geometry`.
     if pieces[0] == FEATURES and len(pieces) == 1 + members["numberReturned"]:
         features = split_features(pieces[1:])
     else:

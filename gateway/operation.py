@@ -75,13 +75,13 @@ class Operation:
         self.rounds = self.ROUNDS
 
     def degrees(self, x: Numbers, y: Numbers) -> tuple[Numbers, Numbers]:
-        """Longitudes from -180 to 180 and latitudes; infinite if there are none."""
+        """Longitudes from -180 to 180 and latitudes; infinite if it has none."""
         easting, northing = (x + self.grid.easting) / STEPS, (y + self.grid.northing) / STEPS
         longitude, latitude = self.transformer.transform(easting, northing)
         return numpy.asarray(longitude, float), numpy.asarray(latitude, float)
 
     def steps(self, longitude: Numbers, latitude: Numbers) -> tuple[Numbers, Numbers]:
-        """Grid positions, not rounded; infinite if there are none.
+        """Grid positions, not rounded; infinite if it has none.
 
         PROJ's inverse of an operation that shifts the datum is off by up to a millimetre, since
         heights are dropped. So it is corrected until `degrees` leads back.

@@ -2,7 +2,7 @@
 
 A browser sends what it keeps of a password along with any form, whoever made the page. So a request
 that writes is refused if its browser says that a page of another origin sent it: by
-`Sec-Fetch-Site` (Fetch Metadata), or by `Origin` (RFC 6454) if there is no such field. Clients that
+`Sec-Fetch-Site` (Fetch Metadata), or by `Origin` (RFC 6454) without that field. Clients that
 are no browsers send neither.
 """
 

@@ -55,7 +55,7 @@ class Transformed:
 
     def between(self) -> Rectangle:
         """The rectangle between the innermost points of the four sides. It is empty, with a lower
-        bound that is not below the upper one, if there is none."""
+        bound that is not below the upper one, if no point is between."""
         bend_x, bend_y = bend(self.x), bend(self.y)
         return (
             float(self.x[LEFT].max()) + bend_x,

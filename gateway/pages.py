@@ -76,7 +76,7 @@ async def empty_page(client: ServerClient, collection: str, query: ItemsQuery) -
 async def tested_page(
     client: ServerClient, collection: str, query: ItemsQuery, region: Region
 ) -> Filled:
-    """The features of the server's pages that meet the region, until there are enough. How many
+    """The features of the server's pages that meet the region, until they are enough. How many
     match is known if the first page has them all."""
     found, after = await tested_features(client, collection, query, region)
     is_whole = query.after is None and after is None

@@ -35,7 +35,7 @@ Bounds = Sequence[int]
 
 
 class PlaceFault(Exception):
-    """There is no table; the text says why."""
+    """The table is missing; the text says why."""
 
 
 def powers(u: Numbers, v: Numbers) -> Numbers:

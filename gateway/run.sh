@@ -1,6 +1,6 @@
 #!/usr/bin/env bash
 # Serves a file and the gateway beside it until it is stopped, as an ordinary user:
-# bash gateway/run.sh PROGRAM FILE [SETTINGS]. The file is made where it is missing.
+# bash gateway/run.sh PROGRAM FILE [SETTINGS]. The file is made if it is missing.
 set -eu
 program=$(realpath "$1")
 file=$(realpath "$2")

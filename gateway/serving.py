@@ -99,7 +99,7 @@ def cancel(timer: asyncio.TimerHandle | None) -> None:
 
 
 def serve(app: Starlette, listen: Listen) -> None:
-    """Serves an application until the process is told to end."""
+    """Serves an application until the process gets a signal to end."""
     uvicorn.run(
         app,
         host=listen.host,

@@ -1,4 +1,4 @@
-"""The reference systems that clients may ask for: names, axis order, and coordinates.
+"""The reference systems that clients may request: names, axis order, and coordinates.
 
 OGC API - Features Part 2 gives coordinates in the order of the system's own axes: latitude first
 in EPSG:4326, longitude first in CRS84, northing first in systems as EPSG:31467.

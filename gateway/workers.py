@@ -38,7 +38,7 @@ class Worker:
         self.process.stdin.flush()
 
     def batch(self, sent: Sent) -> Batch | Problem:
-        """The batch, or why there is none. It waits."""
+        """The batch, or the problem with the request. It waits."""
         assert self.process.stdout is not None
         self.write(sent)
         made: Batch | Problem = pickle.load(self.process.stdout)

@@ -25,7 +25,7 @@ const LIST = urlOf("files.json");
 const PLACE = urlOf("map.json");
 const FETCH_SECONDS = 60;
 const TRIES = 3;
-/** A page is listed as open at most this long after its first file was asked for. */
+/** A page is listed as open at most this long after its first file was requested. */
 const OPENING_SECONDS = 300;
 
 /**
@@ -216,7 +216,7 @@ addEventListener("fetch", (/** @type {FetchEvent} */ event) => {
   const { request } = event;
   const { href, search } = new URL(request.url);
   const isPage = request.mode === "navigate";
-  // With a query, a file is asked of the server.
+  // With a query, a file is requested from the server.
   if (request.method !== "GET" || !href.startsWith(urlOf("./")) || (search && !isPage)) return;
   event.respondWith(answer(event));
   if (!isPage) return;

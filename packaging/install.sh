@@ -30,7 +30,7 @@ put_as() {
     chmod 644 "$root$1"
 }
 
-# settings PATH FILE: the same, where nothing is there.
+# settings PATH FILE: the same, if PATH does not exist.
 settings() {
     [ -e "$root$1" ] || put_as "$1" "$2"
 }

@@ -17,7 +17,7 @@ from typing import IO, Any
 from messages import Answer, answers_in, read_all
 
 TESTS = Path(__file__).resolve().parent
-# A word of a command line.
+# An argument of a command line.
 Word = str | Path
 # A command that has ended.
 Ended = subprocess.CompletedProcess[bytes]
@@ -65,7 +65,7 @@ def free_port() -> int:
 
 @dataclass
 class Server:
-    """A `streetmap serve` that listens. It is stopped hard where its `with` block ends."""
+    """A `streetmap serve` that listens. It is killed when its `with` block ends."""
 
     context: "Context"
     port: int
@@ -94,7 +94,7 @@ class Server:
         self.context.check("standard error of serve", rest, written)
 
     def kill(self) -> None:
-        """A hard stop, from which the server cannot clean up."""
+        """A kill, from which the server cannot clean up."""
         self.process.kill()
         self.process.wait(self.context.seconds)
 
@@ -167,7 +167,7 @@ class Context:
         return ended.returncode, written
 
     def takes(self, *words: Word) -> bool:
-        """Whether the program takes these words, which is one check: a group ends there where the
+        """Whether the program takes these options, which is one check: a group ends there where the
         program lacks a command."""
         taken = self.start(*words).stderr != b"streetmap: usage\n"
         self.check(f"the words {' '.join(map(str, words))}", "taken" if taken else "usage", "taken")
@@ -214,6 +214,6 @@ class Context:
 
 
 def first_line(output: IO[bytes], seconds: float) -> bytes:
-    """The first line of a process; nothing where it does not come in time."""
+    """The first line of a process; nothing if it does not come in time."""
     ready, _, _ = select.select([output], [], [], seconds)
     return output.readline() if ready else b""

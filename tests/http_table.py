@@ -3,7 +3,7 @@
     python3 tests/http_table.py [--check]
 
 The test runs the rows over keepers in memory, over tables and with an index. A proved test reads no
-file, so its table is source. With --check nothing is written, and the status is 1 where the table
+file, so its table is source. With --check nothing is written, and the status is 1 if the table
 is not that of the rows.
 """
 

@@ -1,6 +1,6 @@
 """The rules of `load` in plain Python: from the lines of a TEXT to batches, and how it ends.
 
-Nothing here was taken from an answer of the program. What a feature at fault is refused for stands
+Nothing here was taken from an answer of the program. What a feature at fault is refused for is
 in rows (examples/features.jsonl); the model knows such lines by their text.
 """
 
@@ -34,7 +34,7 @@ def sequence(texts: list[str]) -> bytes:
 
 
 def load_words(file: Path, source: Path | None, key: str, *more: str) -> list[Word]:
-    """The words of a load into the collection `lamps`; without a TEXT of standard input."""
+    """The options of a load into the collection `lamps`; without a TEXT of standard input."""
     text: list[Word] = [] if source is None else [source]
     return ["load", file, *text, "--key", key, "--collection", "lamps", *more]
 
@@ -47,7 +47,7 @@ def output_line(batches: int, features: int, serial: int) -> bytes:
 
 def faults_in(errors: bytes) -> dict[int, str]:
     """The causes of the features at fault that standard error lists, by their places; a line that
-    lists none stands under a negative number."""
+    lists none has a negative number."""
     found: dict[int, str] = {}
     for at, line in enumerate(errors.decode().splitlines(), 1):
         words = line.split(" ")
@@ -85,7 +85,7 @@ def lines_in(text: bytes) -> Iterator[str]:
 
 @dataclass(frozen=True)
 class Load:
-    """The words of a load, but for its FILE and its TEXT."""
+    """The options of a load, but for its FILE and its TEXT."""
 
     key: str
     collection: str = "lamps"
@@ -153,7 +153,7 @@ class Loader:
         return None
 
     def take(self, place: int, line: str) -> None:
-        """The feature of a line, or the end where it is at fault and none is passed over."""
+        """The feature of a line, or the end if it is at fault and none is passed over."""
         cause = self.faults.get(line.strip())
         if cause is None:
             feature = {"id": str(place), **json.loads(line)}
@@ -166,7 +166,7 @@ class Loader:
             raise LoadEnded(f"bad_feature {place} {cause}")
 
     def cause_of_time(self, feature: Any) -> str | None:
-        """What is wrong with the time of a feature, where features at fault are passed over."""
+        """What is wrong with the time of a feature, if features at fault are passed over."""
         kept = self.ledger.collections.get(self.load.collection)
         name = self.load.time if self.load.opens or kept is None else kept.time_property
         if self.load.skips:
@@ -177,7 +177,7 @@ class Loader:
         return None
 
     def add(self, edit: Edit, place: int) -> None:
-        """Puts an edit into the batch under way, or into the next where that has no room for it."""
+        """Puts an edit into the batch under way, or into the next if that has no room for it."""
         size = len(compact(edit_text(edit)).encode())
         if size > MOST_OF_EDIT:
             raise LoadEnded(f"too_large {place}")
@@ -190,13 +190,13 @@ class Loader:
             self.send()
 
     def size_with(self, size: int) -> int:
-        """The bytes of the text of the batch under way with one more edit of so many bytes."""
+        """The bytes of the text of the batch under way with one more edit of `size` bytes."""
         if self.edits:
             return self.size + 1 + size
         return len(batch_text(self.load.batch(self.batches + 1, [])).encode()) + size
 
     def send(self) -> None:
-        """Applies the batch under way, where it has an edit."""
+        """Applies the batch under way, if it has an edit."""
         if not self.edits:
             return
         try:

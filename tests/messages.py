@@ -80,7 +80,7 @@ def delete_lamp(number: int) -> Edit:
 
 
 def first_answer(stream: bytes) -> tuple[Answer, bytes] | None:
-    """The first answer of a stream and what follows it; none where it is not there as a whole."""
+    """The first answer of a stream and what follows it; none if it is not there as a whole."""
     head, end, rest = stream.partition(b"\r\n\r\n")
     if not end:
         return None
@@ -102,7 +102,7 @@ def whole_answers(stream: bytes) -> list[Answer]:
 
 
 def answers_in(stream: bytes) -> list[Answer]:
-    """The answers of a stream that ends behind one of them."""
+    """The answers of a stream that ends after one of them."""
     found = []
     while stream:
         first = first_answer(stream)

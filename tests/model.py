@@ -2,7 +2,7 @@
 
 The rules are those of docs/API.md, RFC 7946 and OGC 17-069. Nothing here was taken from an answer
 of the program, so that a group can compare the two. The model reads batches that can be read, and
-requests whose framing is sound; everything else stands in rows (examples/).
+requests whose framing is sound; everything else is in rows (examples/).
 """
 
 import json
@@ -380,7 +380,7 @@ class Page:
 
 
 def edit_text(edit: Value) -> Value:
-    """An edit as it stands in the text by which a batch is known."""
+    """An edit as it is in the text by which a batch is known."""
     if edit["op"] == "open":
         return {"title": edit["collection"]} | edit
     if edit["op"] == "delete":

@@ -3,9 +3,9 @@
     python3 tests/run.py [PROGRAM] [GROUP ..] [--list] [--slow] [--complete] [--missing]
                          [--patience N] [--jobs N]
 
-PROGRAM is crates/streetmap/out/streetmap where it is left out, and all groups run where none is
+PROGRAM is crates/streetmap/out/streetmap if it is left out, and all groups run if none is
 named, several side by side, each in a process of its own. A group is a module of tests/groups/. It
-is skipped where it needs a Debian package that is not installed. The last line counts the groups.
+is skipped if it needs a Debian package that is not installed. The last line counts the groups.
 """
 
 import argparse
@@ -31,9 +31,9 @@ from harness import Context
 TESTS = Path(__file__).resolve().parent
 DEBIAN_PYTHON = Path("/usr/bin/python3")
 BUILT = TESTS.parent / "crates" / "streetmap" / "out" / "streetmap"
-# A group, and a command of the program, has failed that is not over after so many seconds.
+# A group, or a command of the program, fails if it is not over after this number of seconds.
 LIMIT, SLOW_LIMIT, COMMAND_LIMIT = 900, 7200, 120
-# So many groups run side by side where nothing else is said. One processor is left to this process
+# The number of groups that run side by side by default. One processor is left to this process
 # and to what clients of the groups do.
 JOBS = max(1, len(os.sched_getaffinity(0)) - 1)
 # These take longest, and begin first.
@@ -90,7 +90,7 @@ def all_groups() -> dict[str, Group]:
 
 
 def listed_packages() -> set[str]:
-    """The packages of packages.txt, which `make deps` installs: one a line, behind # a comment."""
+    """The packages of packages.txt, which `make deps` installs: one a line, after # a comment."""
     lines = (TESTS / "packages.txt").read_text().splitlines()
     return {line.partition("#")[0].strip() for line in lines} - {""}
 
@@ -101,8 +101,8 @@ def stop_late_group(_number: int, _frame: FrameType | None) -> NoReturn:
 
 @dataclass(frozen=True)
 class Runner:
-    """Runs groups over a program, in their short or their long form, with so many times the usual
-    time limits. Where all are wanted, a group that lacks a package has failed."""
+    """Runs groups over a program, in their short or their long form, with `patience` times the
+    usual time limits. If all are wanted, a group that lacks a package has failed."""
 
     program: Path
     slow: bool
@@ -141,7 +141,7 @@ class Runner:
         return printed or ended.stdout, ended.returncode == 0
 
     def run_together(self, groups: list[Group], jobs: int) -> Counter[str]:
-        """Runs groups side by side, so many at once, and prints each as it ends."""
+        """Runs groups side by side, `jobs` at once, and prints each as it ends."""
         counted: Counter[str] = Counter()
         with ThreadPoolExecutor(jobs) as pool:
             begun = [pool.submit(self.run_apart, group) for group in groups]

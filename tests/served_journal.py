@@ -54,7 +54,7 @@ class Served:
 
     @contextmanager
     def serving(self, what: str, *words: str, first: int = 1) -> Iterator[Server]:
-        """Serves with the journal, and checks the line behind `listening`."""
+        """Serves with the journal, and checks the line after `listening`."""
         with self.context.serve(self.file, "--journal", str(self.journal), *words) as server:
             assert server.process.stdout is not None
             line = server.process.stdout.readline()
@@ -64,7 +64,7 @@ class Served:
             yield server
 
     def completed(self, what: str, journal: bytes | None, after: int = 0, *words: str) -> None:
-        """A journal of these bytes is completed at the start, behind a serial."""
+        """A journal of these bytes is completed at the start, after a serial."""
         self.begin(journal)
         with self.serving(what, *words, first=after + 1):
             kept = self.journal.read_bytes()
@@ -102,7 +102,7 @@ def check_completing(served: Served) -> None:
 
 
 def check_rotated(served: Served) -> None:
-    """Journals that begin behind a serial."""
+    """Journals that begin after a serial."""
     for after in (1, len(served.lines) - 1):
         words = ("--journal-after", str(after))
         rest = b"".join(served.lines[after:])
@@ -247,8 +247,8 @@ def send_added(server: Server, number: int) -> int:
 
 
 def check_growing(served: Served, added: list[bytes]) -> None:
-    """Each line is there before its answer; repeated and refused batches have none. What a hard
-    stop leaves goes on."""
+    """Each line is there before its answer; repeated and refused batches have none. What a
+    kill leaves goes on."""
     context, wanted = served.context, served.whole
     served.begin(served.whole)
     for words in ((), ("--journal-sync",)):
@@ -283,7 +283,7 @@ def check_serving(context: Context, town: Path) -> None:
 
 @contextmanager
 def failing(served: Served, calls: Path, count: int, fails: int, *words: str) -> Iterator[Server]:
-    """Serves so that the journal's writes fail behind so many bytes, so many times."""
+    """Serves so that the journal's writes fail after `count` bytes, `fails` times."""
     given = {
         "LD_PRELOAD": str(served.context.folder / "fail.so"),
         "FILE": str(served.journal.resolve()),
@@ -309,7 +309,7 @@ def said_by(server: Server) -> list[str]:
 
 def check_failing_writes(context: Context, town: Path) -> None:
     """Writes of the journal that fail once, or twice, after each count of bytes: each batch is
-    answered, nothing is lost, and the journal is whole again behind the next batch that can."""
+    answered, nothing is lost, and the journal is whole again after the next batch that can."""
     served, calls = Served.of(context, town), context.folder / "calls"
     added = added_lines(served)
     whole, first = served.whole + b"".join(added), len(served.lines) + 1
@@ -338,7 +338,7 @@ def check_failing_writes(context: Context, town: Path) -> None:
 
 
 def check_failing_last(served: Served, calls: Path, whole: bytes) -> None:
-    """A journal that is still behind when the program is stopped is completed at the next start."""
+    """A journal that still lacks batches at a shutdown is completed at the next start."""
     served.begin(served.whole)
     with failing(served, calls, 7, 1000) as server:
         for number in range(len(ADDED)):

@@ -16,7 +16,7 @@ def unit_lines(unit: Path) -> dict[str, list[str]]:
 
 
 def started(unit: Path, settings: str) -> list[str]:
-    """The words that a unit starts for the file `town`, as systemd reads its line: values of
+    """The arguments that a unit starts for the file `town`, as systemd reads its line: values of
     settings in the place of their names, and one dollar for two."""
     (line,) = unit_lines(unit)["ExecStart"]
     given = dict(re.findall(r"(?m)^([A-Z_]+)=(.*)$", settings))

@@ -5,7 +5,7 @@
 Crates are proved side by side, each once those that it uses are proved, and the program last, which
 is compiled and run once. A crate's out/ keeps what those above it read: its statements, and not
 their proofs. So a build that was stopped goes on from there, and one with no change since the last
-does nothing. PROCESSES is the number of processors, or less where memory is short.
+does nothing. PROCESSES is the number of processors, or less if memory is short.
 """
 
 import hashlib
@@ -33,7 +33,7 @@ LOG = OUT / "build.log"
 NEEDED = ("handles_of", "run", "rtlib", "Crate")
 # The memory that one process may take.
 PROCESS_MEMORY = 4_000_000_000
-# The seconds after which a line says what is under way, where no crate was done.
+# The seconds after which a line says what is under way, if no crate was done.
 PATIENCE = 120
 START = """\
 Proving {crates} crates in {count} processes. From nothing this takes some 35 minutes on four
@@ -42,7 +42,7 @@ from there."""
 
 
 def processes() -> int:
-    """As many as there are processors, or fewer where memory is short."""
+    """The number of processors, or fewer if memory is short."""
     memory = re.search(r"MemAvailable:\s+(\d+) kB", Path("/proc/meminfo").read_text())
     fit = int(memory[1]) * 1024 // PROCESS_MEMORY if memory else 1
     return max(min(len(os.sched_getaffinity(0)), fit), 1)
@@ -94,7 +94,7 @@ def are_built(rt: ModuleType, crates: list[Any]) -> bool:
 
 
 def build(crate: Any, jobs: int) -> bool:
-    """Proves a crate, by so many processes, and keeps what was made of it; returns whether it
+    """Proves a crate, by `jobs` processes, and keeps what was made of it; returns whether it
     did."""
     mark_of(crate).parent.mkdir(exist_ok=True)
     mark_of(crate).unlink(missing_ok=True)
@@ -123,7 +123,7 @@ def lines_behind(crates: list[Any]) -> dict[str, int]:
 def shares(chains: list[int], longest: int, free: int) -> list[int]:
     """How many processes each crate that is ready gets of those that are free, by the lines of the
     chains that begin with them, the longest first. What all else waits for gets two, one beyond
-    those that are free if need be, and where few are ready the first gets the rest."""
+    those that are free if need be, and if few are ready the first gets the rest."""
     given: list[int] = []
     for at, lines in enumerate(chains[:free]):
         rest = free - sum(given)
@@ -134,7 +134,7 @@ def shares(chains: list[int], longest: int, free: int) -> list[int]:
 
 def build_all(crates: list[Any], count: int) -> list[str]:
     """Builds crates, each once those that it uses are built, with a line for each that is done.
-    Returns the names of those that failed, with all that stand above them."""
+    Returns the names of those that failed, with all crates above them."""
     begun, behind = time.monotonic(), lines_behind(crates)
     built = {it.name for it in crates if is_built(it)}
     left = sorted((it for it in crates if it.name not in built), key=lambda it: -behind[it.name])
@@ -143,7 +143,7 @@ def build_all(crates: list[Any], count: int) -> list[str]:
         while left or running:
             ready = [it for it in left if {dep.name for dep in it.below()} <= built]
             under_way = [name for name, _ in running.values()]
-            # Where memory allows for few processes none is taken beyond them.
+            # If memory allows for few processes none is taken beyond them.
             waiting = [*under_way, *(it.name for it in left)] if count >= 4 else []
             longest = max((behind[it] for it in waiting), default=0)
             free = count - sum(jobs for _, jobs in running.values())

@@ -4,6 +4,7 @@ All checks run if none is named, and the exit status is 1 if one of them found s
 and `mypy` read all Python, `shellcheck` all shell scripts, `eslint` and `tsc` the map page's
 modules and its service worker, `eslint` their tests too, and `layout` is Rattle's own formatter,
 without which `rt ci` refuses a crate. `pyproject.toml` and `tools/javascript/` have their settings.
+`words` counts what CONTRIBUTING's table of words replaces (`tools/words.py`).
 """
 
 import os
@@ -66,7 +67,7 @@ def is_shell(path: Path) -> bool:
 
 
 def rattle() -> str:
-    """Rattle's compiler, which stands beside the command `rt`."""
+    """Rattle's compiler, which is beside the command `rt`."""
     found = shutil.which("rt")
     return str(Path(found).resolve().with_name("rattle")) if found else "rattle"
 
@@ -91,6 +92,7 @@ def all_checks() -> dict[str, Check]:
         "tsc": Check(["tsc", "--project", str(PAGE)]),
         "tsc-worker": Check(["tsc", "--project", str(PAGE / "worker.json")]),
         "layout": Check([rattle(), "fmt", "--check", *proved]),
+        "words": Check([sys.executable, str(ROOT / "tools" / "words.py")]),
     }
 
 

@@ -72,7 +72,7 @@ def lacking(crate: Any) -> list[str]:
 
 
 def is_proved(rt: ModuleType, crate: Any, edit: Edit | None, only: list[str], kept: str) -> Any:
-    """Whether a check of a copy proves it, with an edit where one is given; and what it printed."""
+    """Whether a check of a copy proves it, with an edit if one is given; and what it printed."""
     begun = time.monotonic()
     texts = applied(crate.folder, edit, {}) if edit else {}
     words = [word for path in only for word in ("--only", path)]

@@ -14,7 +14,7 @@ def has(rt: ModuleType, *needed: str) -> bool:
 
 
 def load(*needed: str) -> ModuleType | None:
-    """The command rt as a module, or None where it has not all of these parts."""
+    """The command rt as a module, or None if it lacks one of these parts."""
     program = shutil.which("rt")
     if program is None:
         return None

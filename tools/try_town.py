@@ -77,7 +77,7 @@ def wait_for(port: int, running: subprocess.Popen[bytes]) -> bool:
 
 @contextlib.contextmanager
 def compiled(folder: Path, port: int, seconds: int) -> Iterator[subprocess.Popen[bytes]]:
-    """The program as `rt try` compiles and runs it; it is ended behind the block."""
+    """The program as `rt try` compiles and runs it; it is ended after the block."""
     words = ["rt", "try", "--steps", "1", "--seconds", str(seconds), "--", str(port)]
     with (
         (folder / "log").open("wb") as log,
@@ -97,7 +97,7 @@ def serve(folder: Path, port: int, seconds: int) -> int:
     print(f"The server: http://localhost:{port}/")
     if serve_map is not None:
         print(f"The map:    http://localhost:{map_port}/map/")
-    print("Both are there once it listens. Compiling takes two minutes or three.", flush=True)
+    print("Both are there once it listens. Compiling takes a minute or two.", flush=True)
     with contextlib.ExitStack() as stack:
         running = stack.enter_context(compiled(folder, port, seconds))
         if not wait_for(port, running):
@@ -117,7 +117,7 @@ def main() -> int:
     if is_taken(port):
         print(f"Something listens at port {port}: name another one, as make try PORT=8081")
         return 1
-    # So that the program is ended where this script is told to end.
+    # So that the program is ended when this script gets a signal to end.
     signal.signal(signal.SIGTERM, lambda number, _: sys.exit(128 + number))
     with tempfile.TemporaryDirectory(prefix="streetmap-try-") as folder:
         with contextlib.suppress(KeyboardInterrupt):

@@ -103,7 +103,7 @@ $$;
 
 -- The first fault of these lines as the ledger judges them: its serial, its place in the batch and
 -- its code. Of an edit the collection is judged first, then whether the feature is there, then its
--- time. No row where they have none.
+-- time. No row if they have none.
 CREATE OR REPLACE FUNCTION streetmap_first_fault(after bigint, up_to bigint)
 RETURNS TABLE (serial bigint, place integer, code text) LANGUAGE plpgsql AS $$
 #variable_conflict use_column
@@ -185,8 +185,8 @@ BEGIN
 END
 $$;
 
--- The serial of the last of the next lines that act at once: at most so many, and few bytes if they
--- are long. NULL where there is none. A line that is missing is a fault.
+-- The serial of the last of the next lines that act at once: up to `most_lines`, few bytes if they
+-- are long. NULL if no line is next. A line that is missing is a fault.
 CREATE OR REPLACE FUNCTION streetmap_next_serial(after bigint, most_lines integer)
 RETURNS bigint LANGUAGE plpgsql AS $$
 DECLARE
@@ -211,7 +211,7 @@ BEGIN
 END
 $$;
 
--- Lets the next lines of the journal act, at most so many, and gives the state's serial. As
+-- Lets the next lines of the journal act, at most `most_lines`, and gives the state's serial. As
 -- nothing is known yet of the temporary table, the plans are those for few edits: by indexes.
 CREATE OR REPLACE FUNCTION streetmap_act(most_lines integer)
 RETURNS bigint LANGUAGE plpgsql

@@ -19,7 +19,7 @@ CREATE OR REPLACE FUNCTION streetmap_clock(
 $$;
 
 -- A date-time (RFC 3339, section 5.6) in UTC, down to the microsecond, and the nanoseconds beyond;
--- NULL where the text is none.
+-- NULL if the text is none.
 CREATE OR REPLACE FUNCTION streetmap_moment(given text, OUT clock timestamp, OUT beyond integer)
 LANGUAGE plpgsql IMMUTABLE PARALLEL SAFE AS $$
 DECLARE
@@ -44,7 +44,7 @@ BEGIN
 END
 $$;
 
--- The time of a day, from its first to its last nanosecond; empty where the text is none.
+-- The time of a day, from its first to its last nanosecond; empty if the text is none.
 CREATE OR REPLACE FUNCTION streetmap_day(given text)
 RETURNS tstzrange LANGUAGE plpgsql IMMUTABLE PARALLEL SAFE AS $$
 DECLARE
@@ -62,7 +62,7 @@ END
 $$;
 
 -- The time from one date-time to another, of which one may be open: the least range of
--- microseconds that holds it. Empty where a text is no date-time, or the start is after the end.
+-- microseconds that holds it. Empty if a text is no date-time, or the start is after the end.
 CREATE OR REPLACE FUNCTION streetmap_span(first text, last text)
 RETURNS tstzrange LANGUAGE plpgsql IMMUTABLE PARALLEL SAFE AS $$
 DECLARE
@@ -86,8 +86,8 @@ BEGIN
 END
 $$;
 
--- The time that a time property holds: a date-time, an interval, or a date. NULL where there is
--- none; empty where it cannot be read (bad_time). Views call it, whoever reads them.
+-- The time that a time property holds: a date-time, an interval, or a date. NULL if it has
+-- none; empty if it cannot be read (bad_time). Views call it, whoever reads them.
 CREATE OR REPLACE FUNCTION streetmap_time(held jsonb)
 RETURNS tstzrange LANGUAGE plpgsql IMMUTABLE PARALLEL SAFE SET search_path FROM CURRENT AS $$
 DECLARE

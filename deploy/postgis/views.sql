@@ -19,7 +19,7 @@ RETURNS text LANGUAGE sql IMMUTABLE AS $$
     END
 $$;
 
--- The value of a property as a column of a type; NULL where it is none of that type.
+-- The value of a property as a column of a type; NULL if it is none of that type.
 CREATE OR REPLACE FUNCTION streetmap_value(name text, type text)
 RETURNS text LANGUAGE sql IMMUTABLE AS $$
     SELECT format(CASE type
@@ -102,7 +102,7 @@ EXCEPTION
 END
 $$;
 
--- Makes views that are due, at most so many, up to the first that is read; gives the number of
+-- Makes views that are due, at most `most`, up to the first that is read; gives the number of
 -- those that are still due.
 CREATE OR REPLACE FUNCTION streetmap_make_due_views(most integer)
 RETURNS bigint LANGUAGE plpgsql SET lock_timeout = '100ms' AS $$

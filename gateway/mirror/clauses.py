@@ -3,7 +3,7 @@ and columns, and operators, are those of this module.
 
 A comparison is unknown if the feature has no value of that kind, and what is unknown selects
 nothing. The values are compared as jsonb has them, whatever the view of the collection makes of
-them. Beside the exact clause of a filter there is one of what surely holds if it does, which
+them. Beside the exact clause of a filter is one for what surely holds if it does, which
 PostgreSQL's indexes can find.
 """
 

@@ -1,8 +1,8 @@
 """The text form of CQL2 (OGC 21-065r2, annex B), as far as it is read here, by a grammar for lark.
 
 Read are Basic CQL2, the advanced comparison operators, S_INTERSECTS with each geometry of WKT and
-BBOX, DATE and TIMESTAMP. A comparison has a property on one side and a value on the other. Words
-are read in either case. A name that is no identifier stands in double quotes, one within doubled.
+BBOX, DATE and TIMESTAMP. A comparison has a property on one side and a value on the other. Keywords
+are read in either case. A name that is no identifier is in double quotes, one within doubled.
 """
 
 import calendar
@@ -107,7 +107,7 @@ MOMENT = re.compile(
 )
 # The numbers of a box without heights, and with them.
 FLAT_BOX, HIGH_BOX = 4, 6
-# So many characters of the place of a fault are shown. What is expected at a place is not computed
+# The characters of the place of a fault that are shown. What is expected at a place is not computed
 # farther on, since that takes some time for each character before it.
 SHOWN, NEAR = 20, 2000
 

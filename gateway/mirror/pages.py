@@ -213,7 +213,7 @@ class Paging:
         return found, None
 
     def cut(self, feature: Feature) -> Feature:
-        """The feature with the properties that are asked for."""
+        """The feature with the requested properties."""
         shown = self.selection.shown
         if shown is None:
             return feature

@@ -5,7 +5,7 @@ from typing import Any
 from ..problems import Problem
 from .filters import FilterFault
 
-# So many characters of a filter are shown around the place.
+# The characters of a filter that are shown around the place.
 SHOWN = 30
 
 

@@ -1,7 +1,7 @@
 """What filters can be of a collection, what can be sorted by, and what its features have, as JSON
 Schema (OGC 19-079r2, 6; drafts of Parts 5 and 8).
 
-The mirror knows the kinds of values that properties have had, so these describe what there is, and
+The mirror knows the kinds of values that properties have had, so these describe what exists, and
 not what the office may still write.
 """
 

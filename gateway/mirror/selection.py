@@ -19,7 +19,7 @@ OWN = frozenset({FILTER, LANGUAGE, FILTER_CRS, SORT, SHOWN, SERIAL})
 # How the description calls the parameters that have names of properties.
 QUERYABLES = "queryables"
 CQL2_TEXT = "cql2-text"
-# So many properties may be sorted by, and asked for by their values.
+# The most properties that may be sorted by, and selected by their values.
 MOST_KEYS, MOST_VALUES = 8, 20
 WHOLE = re.compile("[0-9]{1,18}")
 

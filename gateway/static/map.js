@@ -1,6 +1,6 @@
 /* global L */
 // The small map of a page of features, or of one: Leaflet draws what the page shows, in degrees.
-// It has no background, so nothing comes from another host. Without Leaflet there is no map.
+// It has no background, so nothing comes from another host. Without Leaflet no map is shown.
 
 const COLOUR = "#0b6bcb";
 const LINE = { color: COLOUR, weight: 2, fillOpacity: 0.25 };

@@ -1,5 +1,5 @@
 /**
- * @file What the page asks the server. An answer counts where it is the server's own: JSON that it
+ * @file What the page requests from the server. An answer counts if it is the server's own: JSON it
  * writes. What nginx answers in its place (502, 504, a page of HTML) is none.
  *
  * @typedef {import("./feature.js").Feature} Feature
@@ -29,7 +29,7 @@ const FARTHEST = 2_000_000_000;
 export class NoAnswer extends Error {
   /**
    * @param {string} text
-   * @param {number} [status] that of the answer that stood in its place
+   * @param {number} [status] that of the answer in its place
    */
   constructor(text, status = 0) {
     super(text);
@@ -57,7 +57,7 @@ export class Refusal extends Error {
  * @param {string} target path and query
  * @param {RequestInit} options
  * @param {number} seconds
- * @returns {Promise<{status: number, json: any}>} json is null where the body is none of the
+ * @returns {Promise<{status: number, json: any}>} json is null if the body is none of the
  *   server's
  */
 async function fetched(target, options, seconds) {
@@ -84,7 +84,7 @@ async function fetched(target, options, seconds) {
 /**
  * @param {Response} response
  * @param {string} text
- * @returns {any} the object that the body is, where it says that it is JSON; else null
+ * @returns {any} the object that the body is, if it says that it is JSON; else null
  */
 function ownJson(response, text) {
   const type = response.headers.get("content-type") ?? "";
@@ -192,7 +192,7 @@ export async function* readPages(collection, box, datetime, signal) {
 /**
  * @param {string} collection
  * @param {string} id
- * @returns {Promise<Feature | null>} null where it is not there
+ * @returns {Promise<Feature | null>} null if it is not there
  */
 export async function readFeature(collection, id) {
   try {
@@ -204,9 +204,9 @@ export async function readFeature(collection, id) {
 }
 
 /**
- * Asks whether the server accepted a batch under a key. What is sent for that is refused either
+ * Queries whether the server accepted a batch under a key. What is sent for that is refused either
  * way and changes nothing: a key that was used, before the edit is read; else the edit, since
- * there is no such collection.
+ * its collection does not exist.
  * @param {string} key
  * @returns {Promise<boolean>}
  */

@@ -1,6 +1,6 @@
 /**
  * @file The areas that were taken along: their features are kept on this device, whatever else was
- * looked at since.
+ * viewed since.
  *
  * @typedef {import("./walking.js").Area} Area
  */
@@ -85,7 +85,7 @@ export class Areas {
   }
 
   /**
-   * Lets an area go. What lies in no other one goes with what was looked at, the oldest first.
+   * Lets an area go. What lies in no other one goes with what was viewed, the oldest first.
    * @param {Area} area
    */
   async remove({ number }) {

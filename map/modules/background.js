@@ -1,7 +1,7 @@
 /**
  * @file An image of one's own below the features: by the address of an image of this origin, or a
  * file of this device, and the two corners that it lies between. Images of other origins are not
- * asked for.
+ * requested.
  *
  * @typedef {{url: string, file: Blob | null, box: import("./geometry.js").Box}} Background
  */

@@ -6,9 +6,9 @@
  * @typedef {object} Edit
  * @property {"open" | "insert" | "replace" | "delete"} op
  * @property {string} collection
- * @property {string} id no text where a collection is opened
- * @property {Feature | null} feature the feature as it is to be; null where it is deleted
- * @property {Feature | null} base the copy that was edited; null where the feature is new
+ * @property {string} id no text if a collection is opened
+ * @property {Feature | null} feature the feature as it is to be; null if it is deleted
+ * @property {Feature | null} base the copy that was edited; null if the feature is new
  * @property {string} [title] of a collection that is opened
  * @property {string} [time] its time property; no text if it has none
  */
@@ -24,7 +24,7 @@ const STEPS = "basket steps";
  * Two edits of one feature, one after the other, as one.
  * @param {Edit | undefined} first
  * @param {Edit} second
- * @returns {Edit | null} null where nothing is left to do
+ * @returns {Edit | null} null if nothing is left to do
  */
 export function joined(first, second) {
   if (!first) return isIdle(second) ? null : second;

@@ -43,7 +43,7 @@ export async function askUser() {
 }
 
 /**
- * Moves the basket into the queue, after what has to be asked.
+ * Moves the basket into the queue, after the user has answered the questions.
  * @param {import("./basket.js").Edit[]} edits
  */
 async function save(edits) {

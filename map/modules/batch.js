@@ -16,7 +16,7 @@ const NAME_LENGTH = 24;
 
 /**
  * @param {string} name a person's name
- * @returns {string} what of it may stand in a key
+ * @returns {string} what of it may be in a key
  */
 export function userOf(name) {
   const plain = name.normalize("NFKD").replace(/\p{M}/gu, "");

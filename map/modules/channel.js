@@ -34,7 +34,7 @@ function tell(topic) {
 }
 
 /**
- * Tells this tab and all others that something changed.
+ * Notifies this tab and all others that something changed.
  * @param {...Topic} topics
  */
 export function changed(...topics) {

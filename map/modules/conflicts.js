@@ -4,8 +4,8 @@
  * edited. What only one side changed is merged (`merging.js`); the user is asked about the rest.
  *
  * A retry under the same key is not compared again: the lost answer may have been that the batch
- * was accepted, and then its own edits would look like another's. So a first try is made only right
- * behind a comparison that the server answered; with no network there is neither. Between the
+ * was accepted, and then its own edits would appear as another's. So a first try is made only right
+ * after a comparison that the server answered; without a network neither happens. Between the
  * comparison and the batch, and between a try whose answer was lost and its repetition, another may
  * write.
  *
@@ -40,7 +40,7 @@ export async function findDifferences(edits) {
 /**
  * @param {Edit} edit
  * @param {import("./feature.js").Feature | null} theirs
- * @returns {Edit | null} the edit that does the same to what is there now; null where nothing is
+ * @returns {Edit | null} the edit that does the same to what is there now; null if nothing is
  *   left to do
  */
 export function keptMine(edit, theirs) {

@@ -10,7 +10,7 @@ const CELLS = 24;
 /**
  * @param {number} width of the view, in any unit
  * @param {number} height
- * @returns {{columns: number, rows: number}} about as many squares as are asked
+ * @returns {{columns: number, rows: number}} about as many squares as are wanted
  */
 export function gridOf(width, height) {
   const columns = Math.max(1, Math.round(Math.sqrt((CELLS * width) / height)));

@@ -1,6 +1,6 @@
 /**
- * @file The density of a view that has more features than are drawn: cells with their counts, asked
- * of the server one by one while the view rests.
+ * @file The density of a view that has more features than are drawn: counts of cells, requested
+ * from the server one by one while the view rests.
  *
  * @typedef {import("./geometry.js").Box} Box
  * @typedef {{cell: Box, count: number}} Counted
@@ -15,7 +15,7 @@ import { inDigits } from "./words.js";
 
 const PANE = "density";
 const AT_ONCE = 4;
-/** For so many collections at most; a view asks once for each of their cells. */
+/** The most collections counted; a view sends a request for each of their cells. */
 const MOST_COLLECTIONS = 2;
 
 export class DensityLayer {
@@ -38,7 +38,7 @@ export class DensityLayer {
     map.on("movestart", () => this.clear());
   }
 
-  /** Takes the cells away, and asks for no more. */
+  /** Takes the cells away, and requests no more. */
   clear() {
     this.#asking?.abort();
     this.#asking = null;

@@ -1,5 +1,5 @@
 /**
- * @file What drawing on the map has in common: whole millimetres, and how a draft looks.
+ * @file What drawing on the map has in common: whole millimetres, and the style of a draft.
  */
 import { colour } from "./colours.js";
 import { onGrid } from "./geometry.js";
@@ -13,7 +13,7 @@ export function toPosition({ lat, lng }) {
 }
 
 /**
- * @returns {object} how what is drawn looks
+ * @returns {object} the style of what is drawn
  */
 export function draftStyle() {
   return {

@@ -52,13 +52,13 @@ export class DrawingBar {
     byId("map").parentElement.classList.toggle("placing", sketch !== null && isPhone());
   }
 
-  /** @param {{canUndo: boolean, canRedo: boolean}} steps which there are */
+  /** @param {{canUndo: boolean, canRedo: boolean}} steps which exist */
   allow({ canUndo, canRedo }) {
     byId("undo").disabled = !canUndo;
     byId("redo").disabled = !canRedo;
   }
 
-  /** @param {string} text the measures of what is drawn; no text if there are none */
+  /** @param {string} text the measures of what is drawn; no text if it has none */
   measure(text) {
     if (byId("measure").textContent !== text) byId("measure").textContent = text;
   }

@@ -39,7 +39,7 @@ function sorted(value) {
 
 /**
  * @param {any} value
- * @returns {string} a text that two values share where they are equal as JSON
+ * @returns {string} a text that two values share if they are equal as JSON
  */
 export function textOf(value) {
   return value === undefined ? "" : writeJson(sorted(value));

@@ -33,7 +33,7 @@ function times(properties) {
 }
 
 /**
- * Copies a text, or shows it where the browser does not let it be copied.
+ * Copies a text, or shows it if the browser does not let it be copied.
  * @param {string} text
  */
 async function copy(text) {

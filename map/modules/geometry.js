@@ -2,7 +2,7 @@
  * @file Geometries (RFC 7946) on the grid of whole millimetres: their positions, extents and
  * distances.
  *
- * @typedef {number[]} Position easting, northing and, where there is one, the height
+ * @typedef {number[]} Position easting, northing and, if it has one, the height
  * @typedef {{type: string, coordinates?: any, geometries?: Geometry[]}} Geometry
  * @typedef {{x0: number, y0: number, x1: number, y1: number}} Box
  * @typedef {object} Path positions that belong together
@@ -188,7 +188,7 @@ export function onGrid(x, y) {
 
 /**
  * @param {Position[]} ring
- * @returns {bigint} twice the area, above zero where the ring runs counterclockwise
+ * @returns {bigint} twice the area, above zero if the ring runs counterclockwise
  */
 function doubleArea(ring) {
   let sum = 0n;
@@ -241,7 +241,7 @@ export function metres(millimetres) {
 
 /**
  * @param {string} text metres with at most three decimals, with a point or a comma
- * @returns {number | null} whole millimetres; null where the text is none of the grid's
+ * @returns {number | null} whole millimetres; null if the text is none of the grid's
  */
 export function readMetres(text) {
   const found = /^\s*(-?)(\d{1,7})(?:[.,](\d{0,3}))?\s*$/.exec(text);

@@ -6,7 +6,7 @@
  * @typedef {import("./sketch.js").Sketched} Sketched
  * @typedef {"Point" | "LineString" | "Polygon"} Drawn
  * @typedef {object} Draft
- * @property {Geometry | null} geometry null if there is none yet
+ * @property {Geometry | null} geometry null if none was drawn yet
  * @property {number | null} accuracy how far it may be off, in metres, if it was measured
  * @property {Sketched | null} sketch the positions on their way to it, or to a hole in it
  */
@@ -52,7 +52,7 @@ export class GeometryForm {
    * @param {{ground: import("./ground.js").Ground, snapping: import("./snapping.js").Snapping,
    *   bar: import("./drawing_bar.js").DrawingBar}} tools
    * @param {{onProblem: (text: string) => void, onMeasured: (accuracy: number | null) => void}}
-   *   listener gets no text once there is no problem any more
+   *   listener gets no text once the problem is gone
    */
   constructor(map, state, tools, listener) {
     this.#map = map;
@@ -111,7 +111,7 @@ export class GeometryForm {
     if (step[side].accuracy !== accuracy) this.#listener.onMeasured(step[side].accuracy);
   }
 
-  /** @param {Draft} draft what there is after a step */
+  /** @param {Draft} draft the draft after a step */
   #step(draft) {
     const history = withStep(this.#state.form.history, this.#draft, draft);
     this.#state.set("form", { draft, history });
@@ -131,7 +131,7 @@ export class GeometryForm {
     this.#show({ geometry, accuracy: null, sketch: null });
   }
 
-  /** Offers to draw a geometry where there is none. */
+  /** Offers to draw a geometry if the form has none. */
   offer() {
     this.#show({ geometry: null, accuracy: null, sketch: null });
   }
@@ -145,7 +145,7 @@ export class GeometryForm {
     announce(HOW);
   }
 
-  /** @param {Draft} draft what there is from now on */
+  /** @param {Draft} draft the draft from now on */
   #show(draft) {
     this.#rest();
     this.#state.set("form", { draft });

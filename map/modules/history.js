@@ -33,7 +33,7 @@ export function withStep({ done }, before, after) {
  * Takes the last step back.
  * @template State
  * @param {History<State>} history
- * @returns {{history: History<State>, step: Step<State> | null}} null if there is none
+ * @returns {{history: History<State>, step: Step<State> | null}} null if no step is left
  */
 export function takenBack({ done, undone }) {
   const step = done.at(-1) ?? null;
@@ -45,7 +45,7 @@ export function takenBack({ done, undone }) {
  * Takes the step again that was taken back last.
  * @template State
  * @param {History<State>} history
- * @returns {{history: History<State>, step: Step<State> | null}} null if there is none
+ * @returns {{history: History<State>, step: Step<State> | null}} null if no step is left
  */
 export function takenAgain({ done, undone }) {
   const step = undone.at(-1) ?? null;

@@ -6,7 +6,7 @@
 const LONG_NUMBER = /\d{16}/;
 const TOKENS = /"(?:[^"\\]|\\.)*"|-?\d+(?:\.\d+)?(?:[eE][+-]?\d+)?/g;
 
-/** It stands before the digits of a BigInt on their way through JSON; nobody can guess it. */
+/** It is written before the digits of a BigInt on their way through JSON; nobody can guess it. */
 const MARK = `whole ${crypto.getRandomValues(new Uint32Array(4)).join("-")} `;
 const MARKED = new RegExp(`"${MARK}(-?\\d+)"`, "g");
 
@@ -46,7 +46,7 @@ export function isEqual(one, other) {
 
 /**
  * @param {any} value
- * @param {number} [indent] how many spaces stand before each level
+ * @param {number} [indent] the number of spaces before each level
  * @returns {string}
  */
 export function writeJson(value, indent) {

@@ -30,7 +30,7 @@ export function kindOf(value) {
 
 /**
  * @param {string} text that was typed for a property that no other feature has
- * @returns {keyof typeof KINDS} the kind that it looks like; a fraction is text, since the server
+ * @returns {keyof typeof KINDS} the kind that it resembles; a fraction is text, since the server
  *   takes whole numbers alone
  */
 export function kindTyped(text) {

@@ -17,8 +17,8 @@
  *   of the collection
  * @property {SymbolShape} shape of points
  * @typedef {object} Legend
- * @property {string} label the property that is the label; no text if there is none
- * @property {string} property by which symbols are chosen; no text if there is none
+ * @property {string} label the property that is the label; no text if none is set
+ * @property {string} property by which symbols are chosen; no text if none is set
  * @property {SymbolRow[]} rows
  */
 import { kindOf } from "./kinds.js";

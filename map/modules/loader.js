@@ -1,6 +1,6 @@
 /**
- * @file The features of the view: asked by pages, dropped when the view moves on, and taken from
- * what was seen before where the server does not answer.
+ * @file The features of the view: requested by page, dropped when the view moves on, and taken from
+ * what was seen before if the server does not answer.
  *
  * @typedef {import("./geometry.js").Box} Box
  * @typedef {{shown: number, matched: number, oldest: number | null, isFiltered: boolean,
@@ -25,18 +25,18 @@ export class Loader {
     this.#draw = draw;
   }
 
-  /** Drops what was asked and has not come. */
+  /** Drops what was requested and has not come. */
   drop() {
     this.#asking?.abort();
     this.#asking = null;
   }
 
   /**
-   * Asks each collection for the features of a box.
+   * Requests the features of a box from each collection.
    * @param {string[]} collections
    * @param {Box} box
    * @param {string} datetime an interval, or no text
-   * @returns {Promise<Map<string, Count & {ids: Set<string>}> | null>} null where
+   * @returns {Promise<Map<string, Count & {ids: Set<string>}> | null>} null if
    *   it was dropped
    */
   async load(collections, box, datetime) {
@@ -103,7 +103,7 @@ export class Loader {
    * @param {string} collection
    * @param {Box} box
    * @param {string} datetime
-   * @param {string} problem why the server is not asked
+   * @param {string} problem why no request is sent
    */
   #fromSeen(collection, box, datetime, problem) {
     const sights = this.#seen.within(collection, box);

@@ -23,7 +23,7 @@ function changes(one, other) {
  * A property may be called `geometry` too.
  * @param {string} what
  * @param {boolean | undefined} isGeometry
- * @returns {string} a name that tells the geometry from all properties
+ * @returns {string} a name that no property has if it is the geometry's
  */
 function keyOf(what, isGeometry) {
   return isGeometry ? "geometry" : `property ${what}`;
@@ -87,10 +87,10 @@ export function merged(edit, theirs, choose) {
 }
 
 /**
- * Puts the edits of a batch together with what others changed, as far as nobody has to be asked.
+ * Puts the edits of a batch together with what others changed, if the user need not choose.
  * @param {Edit[]} edits
  * @param {import("./queue.js").Difference[]} found the edits whose feature others changed
- * @returns {{edits: Edit[], differences: import("./queue.js").Difference[]}} what is left to ask
+ * @returns {{edits: Edit[], differences: import("./queue.js").Difference[]}} what is left to choose
  */
 export function mergedBatch(edits, found) {
   const theirsOf = new Map(found.map(({ index, theirs }) => [index, theirs]));

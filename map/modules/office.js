@@ -1,6 +1,6 @@
 /**
  * @file What the office says in `map.json`, which lies beside the page: where the grid lies on the
- * earth and in the office's reference system, and the form and the look of each collection. A part
+ * earth and in the office's reference system, and the form and style of each collection. A part
  * that has another form is left out, and the page says which.
  *
  * @typedef {import("./fields.js").Field} Field

@@ -2,7 +2,7 @@
  * @file Collections that are opened here: what the server takes as an id, a title and the name of a
  * time property.
  *
- * @typedef {{collection: string, title: string, time: string}} Opening no text where there is no
+ * @typedef {{collection: string, title: string, time: string}} Opening no text if it has no
  *   time property
  */
 import { say } from "./words.js";

@@ -45,7 +45,7 @@ const COMPARE_SECONDS = 10;
 export class Page {
   state = new State();
   #isKept = false;
-  /** Whether the view is to show all that there is, once that is known. */
+  /** Whether the view is to show all features, once that is known. */
   #isSought = false;
   /** When the town's name was last read. */
   #compared = 0;
@@ -114,13 +114,13 @@ export class Page {
       const isUnsaved = this.state.isFormBegun || this.state.basket.edits.length > 0;
       if (!isUnsaved || isStartingAgain()) return;
       event.preventDefault();
-      // Earlier browsers ask for a text instead.
+      // Earlier browsers need a text instead.
       event.returnValue = "unsaved";
     });
     document.addEventListener("visibilitychange", () => document.hidden || this.refresh());
   }
 
-  /** Shows what is known on this device, then asks the server. */
+  /** Shows what is known on this device, then requests from the server. */
   async start() {
     const address = takeAddress(this.state);
     await this.view.setCollections(await readAll("collections"));
@@ -152,7 +152,7 @@ export class Page {
     if (feature) await this.chosen.choose(feature.collection, feature.id, false);
   }
 
-  /** Asks for the collections and for the features of the view. */
+  /** Requests the collections and the features of the view. */
   async refresh() {
     clearTimeout(this.#timer);
     if (!(await this.#isHere())) return;

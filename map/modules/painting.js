@@ -1,6 +1,6 @@
 /**
  * @file Geometries painted on a canvas: areas, lines and points, each in the style of its feature.
- * There is no object for each of them, so a view with thousands is painted within a frame.
+ * None of them has an object of its own, so a view with thousands is painted within a frame.
  *
  * @typedef {import("./geometry.js").Geometry} Geometry
  * @typedef {import("./geometry.js").Position} Position

@@ -71,7 +71,7 @@ export class Place {
 
   /**
    * @param {any} json what `map.json` holds
-   * @returns {Place | null} null where it holds no table
+   * @returns {Place | null} null if it holds no table
    */
   static of(json) {
     if (json?.place === undefined) return null;
@@ -123,7 +123,7 @@ export class Place {
  * @param {Patch} patch
  * @param {number} longitude
  * @param {number} latitude
- * @returns {{u: number, v: number} | null} null where the place is not in the patch
+ * @returns {{u: number, v: number} | null} null if the place is not in the patch
  */
 function solve(patch, longitude, latitude) {
   let [u, v] = [0, 0];

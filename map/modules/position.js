@@ -1,5 +1,5 @@
 /**
- * @file One's own position on the grid, where the office placed it in WGS 84.
+ * @file One's own position on the grid, if the office placed it in WGS 84.
  *
  * @typedef {object} Fix
  * @property {import("./geometry.js").Position} position
@@ -11,7 +11,7 @@ import { toPlace } from "./layers.js";
 import { say } from "./words.js";
 
 const OPTIONS = { enableHighAccuracy: true, maximumAge: 2000, timeout: 30_000 };
-/** What is shown is taken for the position of now for so many milliseconds. */
+/** What is shown is taken for the current position for this time, in milliseconds. */
 const RECENT = 10_000;
 /** The code of a fault of the device. */
 const TIMEOUT = 3;
@@ -100,8 +100,8 @@ export class OwnPosition {
   }
 
   /**
-   * Asks for the position of now, whether it is shown or not, and brings it into view.
-   * @returns {Promise<Fix>} it throws, saying why, if there is none on the map
+   * Requests the current position, whether it is shown or not, and brings it into view.
+   * @returns {Promise<Fix>} it throws, with the reason, if it is not on the map
    */
   async take() {
     const isRecent = this.isOn && this.#shown && Date.now() - this.#shown.time < RECENT;

@@ -48,7 +48,7 @@ export class PropertiesForm {
   }
 
   /**
-   * Takes the description of another collection. What was typed stays where the name is the same.
+   * Takes the description of another collection. What was typed stays if the name is the same.
    * @param {Description} description
    */
   describe({ fields, kinds }) {
@@ -88,7 +88,7 @@ export class PropertiesForm {
 
   /**
    * Offers the properties of the feature that was added last.
-   * @param {object | null} properties null if there is none
+   * @param {object | null} properties null if it has none
    */
   offerLast(properties) {
     this.#last = properties;

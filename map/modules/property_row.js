@@ -55,7 +55,7 @@ export class PropertyRow {
     this.#show();
   }
 
-  /** Shows the field that the kind asks for, with what was typed. */
+  /** Shows the field that the kind needs, with what was typed. */
   #show() {
     const kind = this.kind.value;
     if (kind === "truth") {

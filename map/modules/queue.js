@@ -4,7 +4,7 @@
  *
  * A batch is sent under its key, as the same bytes, until the server's own answer comes. It leaves
  * the queue in the transaction that stores its acknowledgement. The bytes change only under a new
- * key, and only where no try under the old key may still act.
+ * key, and only if no try under the old key may still act.
  *
  * @typedef {import("./basket.js").Edit} Edit
  * @typedef {{status: number, code: string, description: string, place?: number, cause?: string}}
@@ -59,7 +59,7 @@ function newBatch(user, edits) {
 }
 
 /**
- * Moves the basket into the queue, in one transaction: an edit stands in one of them at any time.
+ * Moves the basket into the queue, in one transaction: an edit is in one of them at any time.
  * @param {string} user
  * @returns {Promise<number>} how many batches it made
  */
@@ -117,10 +117,10 @@ export function mayChange({ state, held, tries, unanswered }) {
 }
 
 /**
- * Changes the row of a batch, where it still has that key.
+ * Changes the row of a batch, if it still has that key.
  * @param {Batch} batch as it was read
- * @param {(row: Batch) => Partial<Batch> | null} act what changes; null where nothing does
- * @returns {Promise<Batch | null>} the batch as it is now; null where it was not changed
+ * @param {(row: Batch) => Partial<Batch> | null} act what changes; null if nothing does
+ * @returns {Promise<Batch | null>} the batch as it is now; null if it was not changed
  */
 export async function update(batch, act) {
   const row = await transact(["queue"], "readwrite", async (queue) => {
@@ -139,7 +139,7 @@ export async function update(batch, act) {
  * accepted is then what was last seen of its features.
  * @param {Batch} batch as it was read
  * @param {{outcome: "accepted" | "dropped" | "there", serial?: number}} record
- * @param {(row: Batch) => boolean} [isRight] whether it may leave, asked within the transaction
+ * @param {(row: Batch) => boolean} [isRight] whether it may leave, called within the transaction
  * @returns {Promise<boolean>} whether it left
  */
 export async function leave(batch, record, isRight = () => true) {
@@ -186,7 +186,7 @@ export async function changeEdits(batch, edits) {
 
 /**
  * Gives a batch that was never tried the edits that go with what others changed, under a new key.
- * What is left to ask stays with it.
+ * What is left for the user to choose stays with it.
  * @param {Batch} batch as it was read
  * @param {Edit[]} edits
  * @param {Difference[]} differences
@@ -255,7 +255,7 @@ export function isBuiltUpon(batch, queue) {
 }
 
 /**
- * Lets a refused batch be sent again as it is: what it asks may be there now.
+ * Lets a refused batch be sent again as it is: what it needs may be there now.
  * @param {Batch} batch as it was read
  */
 export function sendAgain(batch) {
@@ -271,7 +271,7 @@ export function sendAgain(batch) {
  * @typedef {{number: number, key: string, edits: Edit[], time: number, outcome: string, serial?:
  *   number}} Answer
  * @param {number} [after] the number of a record
- * @returns {Promise<Answer[]>} what became of batches behind that record, the first one first
+ * @returns {Promise<Answer[]>} what became of batches after that record, the first one first
  */
 export function readAnswers(after = 0) {
   const range = IDBKeyRange.lowerBound(after, true);
@@ -292,7 +292,7 @@ export async function lastAccepted() {
   return found;
 }
 
-/** What was accepted before is not asked for any more: the user knows the town. */
+/** What was accepted before is not queried any more: the user knows the town. */
 export function forgetAccepted() {
   return writeSetting(LAST_ACCEPTED, null);
 }

@@ -1,6 +1,6 @@
 /**
  * @file Whether the server is the one that this page's edits were made for. A name of the town
- * says so only if the office set one. So the page looks at what a town keeps for ever: the batches
+ * says so only if the office set one. So the page checks what a town keeps for ever: the batches
  * that it accepted, and its collections. If some of it is gone, then another town is served, or an
  * older copy of this one, and the user is asked.
  */

@@ -1,5 +1,5 @@
 /**
- * @file The features last seen: those that the map shows where the server does not answer.
+ * @file The features last seen: those that the map shows if the server does not answer.
  *
  * @typedef {import("./feature.js").Feature} Feature
  * @typedef {import("./geometry.js").Box} Box
@@ -18,13 +18,13 @@ import { readAll, result, transact } from "./store.js";
 
 /** How many features of a collection are kept; the ones seen longest ago go first. */
 const MOST_KEPT = 20_000;
-/** So many are written at once, so that a frame can come between. */
+/** The number written at once, so that a frame can come between. */
 const WRITTEN_AT_ONCE = 250;
-/** What did not change is written again after so many milliseconds. */
+/** What did not change is written again after this time, in milliseconds. */
 const WRITTEN_AGAIN = 600_000;
 
 export class Seen {
-  /** @type {Map<string, Map<string, Sight>>} the sights of each collection, the oldest first */
+  /** @type {Map<string, Map<string, Sight>>} the features of each collection, oldest first */
   #sights = new Map();
   /** The last record of an accepted batch that is taken in. */
   #answer = 0;

@@ -23,7 +23,7 @@ const LONGEST_PAUSE = 60;
 
 /**
  * @param {number} status
- * @returns {boolean} whether the server in front asks for a name and a password
+ * @returns {boolean} whether the server in front requires a name and a password
  */
 function isLocked(status) {
   return status === 401 || status === 403;
@@ -68,7 +68,7 @@ export function meaningOf(key, { status, json }) {
 
 /**
  * @param {Batch} batch
- * @returns {Promise<Outcome>} what one try comes to
+ * @returns {Promise<Outcome>} the outcome of one try
  */
 async function post(batch) {
   try {
@@ -98,7 +98,7 @@ async function compare(batch) {
 }
 
 /**
- * Looks whether the town that is served is the one that batches here were made for.
+ * Checks whether the town that is served is the one that batches here were made for.
  * @returns {Promise<Partial<Batch> | null>} why nothing is sent; null if it may be
  */
 async function obstacle() {
@@ -175,7 +175,7 @@ class Alarm {
 
   /**
    * @param {number} seconds
-   * @returns {Promise<void>} at the next ring since the reset, or after so many seconds
+   * @returns {Promise<void>} at the next ring since the reset, or after that number of seconds
    */
   wait(seconds) {
     return new Promise((resolve) => {
@@ -191,8 +191,8 @@ class Alarm {
 
 /**
  * Sends for ever.
- * @param {Alarm} queueAlarm rings where the queue changed
- * @param {Alarm} sendAlarm rings where a try may do better than the one before
+ * @param {Alarm} queueAlarm rings when the queue changed
+ * @param {Alarm} sendAlarm rings when a try may do better than the one before
  */
 async function sendAll(queueAlarm, sendAlarm) {
   let pause = FIRST_PAUSE;

@@ -16,7 +16,7 @@ const ARROWS = { ArrowLeft: [-1, 0], ArrowRight: [1, 0], ArrowUp: [0, 1], ArrowD
 
 /** A geometry whose positions are moved. It changes its own copy. */
 export class Shape {
-  /** Arrow keys move by so many millimetres. */
+  /** The distance that arrow keys move, in millimetres. */
   step = 100;
   #map;
   #snapping;

@@ -1,7 +1,7 @@
 /**
  * @file The state of the page: one small store with events. Where the map is, what is chosen, the
- * form and what waits stand here and nowhere else. A part of the page listens to what it shows, and
- * sets what its user changed; no part asks another, or the document, for it.
+ * form and what waits are here and nowhere else. A part of the page listens to what it shows, and
+ * sets what its user changed; no part reads it from another or from the document.
  *
  * @typedef {{collection: string, id: string}} Name
  * @typedef {object} ViewState
@@ -52,7 +52,7 @@ export class State {
   #parts = beginning();
   /** @type {Map<keyof Parts, ((now: any, before: any) => void)[]>} */
   #listeners = new Map();
-  /** @type {(() => void)[]} what is still to be told, the first change first */
+  /** @type {(() => void)[]} what listeners still have to hear, the first change first */
   #untold = [];
   #isTelling = false;
 
@@ -84,8 +84,8 @@ export class State {
   }
 
   /**
-   * Changes a part of the state, and tells those who listen to it. If they change something too,
-   * that is told after this.
+   * Changes a part of the state, and notifies those who listen to it. If they change something too,
+   * that is notified after this.
    * @template {keyof Parts} Name
    * @param {Name} name
    * @param {Partial<Parts[Name]>} changes

@@ -9,7 +9,7 @@ const MOMENT = /^\d{4}-\d{2}-\d{2}[Tt]\d{2}:\d{2}:\d{2}(?:\.\d{1,9})?(?:[Zz]|[+-
 /**
  * @param {string} from the first day, `YYYY-MM-DD`, or no text
  * @param {string} to the last day
- * @returns {string} the value of `datetime`, or no text where there is no filter
+ * @returns {string} the value of `datetime`, or no text without a filter
  */
 export function interval(from, to) {
   if (!DAY.test(from) && !DAY.test(to)) return "";
@@ -48,7 +48,7 @@ export function timeInWords(value) {
 
 /**
  * @param {number} moment milliseconds since 1970
- * @returns {string} the clock of this device; with the day where it is not today
+ * @returns {string} the clock of this device; with the day if it is not today
  */
 export function clock(moment) {
   const time = new Date(moment);

@@ -3,7 +3,7 @@
  * database of its own on this device, so that what waits for one is never sent to another.
  *
  * A town's name is the member `town` of map.json: the office may set it, and serve_map.py sets it
- * to the path of the file. Without a name there is one town, until the server turns out to be
+ * to the path of the file. Without a name the address has one town, until the server proves to be
  * another (`recognition.js`).
  *
  * @typedef {object} Town

@@ -8,7 +8,7 @@ const TYPED = "textarea, input:not([type=checkbox], [type=radio], [type=file])";
 
 /**
  * @param {KeyboardEvent} event
- * @returns {"undo" | "redo" | null} what the keys ask for
+ * @returns {"undo" | "redo" | null} what the keys mean
  */
 export function askedBy({ key, ctrlKey, metaKey, altKey, shiftKey }) {
   if (!(ctrlKey || metaKey) || altKey) return null;

@@ -19,7 +19,7 @@ import { labelOf, symbolOf } from "./legend.js";
 import { Loader, extentOf } from "./loader.js";
 import { interval } from "./time.js";
 
-/** So long the view has to rest, in milliseconds, until its features are asked for. */
+/** The time in milliseconds that the view has to rest before its features are requested. */
 const PAUSE = 40;
 
 export class View {
@@ -65,8 +65,8 @@ export class View {
   }
 
   /**
-   * Notes on the map where it is, and that the features of the view are asked for.
-   * @returns {() => void} notes that they are there, unless they were asked for again since
+   * Notes on the map where it is, and that the features of the view are requested.
+   * @returns {() => void} notes that they are there, unless they were requested again since
    */
   #asks() {
     const { dataset } = this.map.getContainer();
@@ -169,7 +169,7 @@ export class View {
     };
   }
 
-  /** Shows all that there is. */
+  /** Shows all features. */
   showAll() {
     this.show(extentOf(this.collections));
   }
@@ -225,7 +225,7 @@ export class View {
   }
 
   /**
-   * Draws a feature where its collection is switched on.
+   * Draws a feature if its collection is switched on.
    * @param {string} collection
    * @param {import("./feature.js").Feature} feature
    * @param {import("./layers.js").Shown["pending"]} pending
@@ -239,7 +239,7 @@ export class View {
     return this.#state.view.off.includes(collection);
   }
 
-  /** Asks for the features of the view, and takes away those that are not there any more. */
+  /** Requests the features of the view, and takes away those that are gone. */
   async refresh() {
     const rests = this.#asks();
     const wanted = this.switchedOn.map(({ id }) => id);
@@ -260,7 +260,7 @@ export class View {
   }
 
   /**
-   * Shows how many features there are, if not all of them are drawn.
+   * Shows how many features the view has, if not all of them are drawn.
    * @param {Box} box of the view
    */
   #showDensity(box) {

@@ -7,7 +7,7 @@
  * @property {string} collection
  * @property {string | null} next where its next page is; null for the first one
  * @property {number} count how many features are kept
- * @property {number} matched how many there are
+ * @property {number} matched how many it has
  * @property {boolean} isDone
  * @typedef {object} Area
  * @property {number} number

@@ -88,7 +88,7 @@ def refused(context: Context) -> None:
 
 @contextlib.contextmanager
 def serving(context: Context, file: Path, *words: str) -> Iterator[tuple[int, list[bytes]]]:
-    """`serve_map.py` over a file, at a port; and the lines that it prints before it is asked."""
+    """`serve_map.py` over a file, at a port; and the lines it prints before the first request."""
     port = free_port()
     script = ROOT / "deploy" / "serve_map.py"
     given = [sys.executable, str(script), str(context.program), str(file), "--port", str(port)]

@@ -17,7 +17,7 @@ WORDS = (
     "--no-sandbox",
     "--disable-dev-shm-usage",
     "--hide-scrollbars",
-    # Tabs that lie behind another go on as they do for a short while.
+    # Tabs that are covered by another go on as they do for a short while.
     "--disable-background-timer-throttling",
     "--disable-renderer-backgrounding",
 )

@@ -11,7 +11,7 @@ LABELS = """
 const all = [...document.querySelectorAll(".density-labels span")];
 return all.reduce((sum, it) => sum + Number(it.textContent.replace(/[^0-9]/g, "")), 0);
 """
-# What the page is like when the browser is asked to print it.
+# What the page is like when the browser is to print it.
 PRINTING = """
 window.print = () => {
     const { width, height } = document.getElementById("map").getBoundingClientRect();
@@ -31,7 +31,7 @@ return all.filter((name) => name.includes("limit=1&") || name.endsWith("limit=1"
 
 
 def density(context: Context) -> None:
-    """The counts of the cells come to all that there is; near by there are none."""
+    """The counts of the cells add up to all features; near by no counts are shown."""
     with site(context, "density") as made:
         dots(made)
         for size, shown in (((390, 844), "2,000"), ((1280, 800), "5,000")):

@@ -92,7 +92,7 @@ def check_answers(context: Context, base: str) -> None:
 
 
 def signed_in(context: Context, made: Site, base: str) -> None:
-    """The page over TLS, with the name and password that a browser asks for at the first 401."""
+    """The page over TLS, with the name and password that a browser wants at the first 401."""
     with browser() as page:
         signed = "Basic " + base64.b64encode(PASSWORD.encode()).decode()
         page.driver.execute_cdp_cmd("Network.enable", {})

@@ -39,7 +39,7 @@ ABOVE = """
 const top = (selector) => document.querySelector(selector).getBoundingClientRect().top;
 return top(".all-properties") < top("form.editor .geometry");
 """
-# A lamp of four properties takes at most so many presses after the first one.
+# A lamp of four properties takes at most this number of presses after the first one.
 MOST_PRESSES = 8
 
 

@@ -133,7 +133,7 @@ def stays(context: Context, page: Page, what: str) -> None:
 
 
 def vertices(context: Context) -> None:
-    """Where there are too many positions for handles, the form says so."""
+    """If the positions are too many for handles, the form says so."""
     line = {"type": "LineString", "coordinates": [[n * 1000, n % 2 * 1000] for n in range(300)]}
     edits = [opened("ways", "Ways"), insert("ways", feature("W", line))]
     with site(context, "vertices", {"key": "w", "edits": edits}) as made, browser() as page:

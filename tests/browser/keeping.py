@@ -70,7 +70,7 @@ def reloaded(page: Page, tabs: list[str]) -> None:
 
 
 def updates(context: Context) -> None:
-    """After each update two tabs load the page at once; then there is no network, and it loads."""
+    """After each update two tabs load the page at once; then, without a network, it loads."""
     root = context.folder / "installed"
     shutil.copytree(ROOT / "map", root / "map")
     with site(context, "updates", town(), root=root) as made, browser() as page:
@@ -124,7 +124,7 @@ def versions(context: Context, page: Page, root: Path, tabs: list[str]) -> None:
 
 
 def wait_newest(page: Page, version: int) -> None:
-    """Waits for the copy of a version. What is loaded while a copy is made looks no further: then
+    """Waits for the copy of a version. A load while a copy is made checks no further: then
     the page is loaded again."""
 
     def came() -> bool:
@@ -209,7 +209,7 @@ def named_towns(context: Context) -> None:
 
 
 def open_page(context: Context) -> None:
-    """A page that is open sends nothing to another town, and goes there when it looks again."""
+    """A page that is open sends nothing to another town, and goes there when it checks again."""
     place = context.folder / "open.json"
     place.write_text('{"town": "first"}')
     with site(context, "open", town(), place=place) as made, browser() as page:
@@ -227,7 +227,7 @@ def open_page(context: Context) -> None:
 
 
 def nameless_towns(context: Context) -> None:
-    """Towns without names: a server that lacks the last accepted batch is asked about."""
+    """Towns without names: if a server lacks the last accepted batch, the page asks the user."""
     check = context.check
     with site(context, "nameless", town()) as made, browser() as page:
         first, second = made.file, second_town(context, "nameless-second")

@@ -1,4 +1,4 @@
-"""Seeing and asking: what is drawn, pages of the view, switches, filter, search, address."""
+"""Viewing and requesting: what is drawn, pages of the view, switches, filter, search, address."""
 
 import json
 import statistics
@@ -209,7 +209,7 @@ def thread_seconds(page: Page) -> float:
 
 
 def moved_on(page: Page, context: Context, made: Site) -> None:
-    """What was asked for a view that moved on is dropped."""
+    """What was requested for a view that moved on is dropped."""
     page.go("about:blank")
     page.open(made.address)
     page.wait_shown("trees", "72")

@@ -61,7 +61,7 @@ def merged(context: Context) -> None:
 
 
 def asked(context: Context) -> None:
-    """Two properties that both changed are asked; what is open holds up its own feature alone."""
+    """Two properties that both changed wait for the user, and hold up their own feature alone."""
     for size in ((390, 844), (1280, 800)):
         with site(context, f"asked-{size[0]}", town()) as made:
             with browser(*size, phone=size[0] < 800) as page:

@@ -9,7 +9,7 @@ TESTS = Path(__file__).resolve().parents[1] / "map_modules"
 
 
 def by_node(context: Context) -> None:
-    """All tests of tests/map_modules pass; there are some."""
+    """All tests of tests/map_modules pass, and at least one exists."""
     words = ["node", "--import", str(TESTS / "setup.mjs"), "--test", str(TESTS)]
     ended = subprocess.run(words, capture_output=True, text=True, timeout=300, check=False)
     counts = {

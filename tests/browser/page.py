@@ -22,7 +22,7 @@ from selenium.webdriver.common.keys import Keys
 from selenium.webdriver.remote.webelement import WebElement
 
 Value = TypeVar("Value")
-# The page does within so many seconds what is asked of it, however busy the machine is.
+# The page does within this number of seconds what it has to, however busy the machine is.
 SECONDS = 180
 # What an element is that is drawn again, not shown yet, or covered while the page moves.
 NOT_YET = (
@@ -160,7 +160,7 @@ class Page:
         self.wait(f"the button {text!r}", pressed)
 
     def click(self, selector: str) -> None:
-        """Presses an element, also where it is drawn again meanwhile or not shown yet."""
+        """Presses an element, also if it is drawn again meanwhile or not shown yet."""
 
         def pressed() -> bool:
             self.one(selector).click()
@@ -192,7 +192,7 @@ class Page:
         self.wait("the view", lambda: self.script(RESTS, x, y, zoom))
 
     def at(self, x: float, y: float) -> tuple[float, float]:
-        """Where a place in metres stands in the window."""
+        """The position in the window of a place in metres."""
         middle_x, middle_y, zoom = self.view()
         box = self.script(MAP_BOX)
         scale = 2**zoom
@@ -245,7 +245,7 @@ class Page:
         return ["#{:02x}{:02x}{:02x}".format(*pixel) for pixel in pixels]
 
     def wait_shown(self, collection: str, count: str) -> None:
-        """Waits until so many features of a collection are shown."""
+        """Waits until `count` features of a collection are shown."""
         selector = f"#panel-collections li[data-id='{collection}'] .count"
         text = "return document.querySelector(arguments[0])?.textContent"
         self.wait(f"{count} of {collection}", lambda: self.script(text, selector) == count)
@@ -253,7 +253,7 @@ class Page:
     # The basket and the queue.
 
     def save(self, name: str = "Anna Weiß") -> None:
-        """Saves the basket; types the name where it is asked."""
+        """Saves the basket; types the name if the page asks for it."""
 
         def is_shown() -> bool:
             # On a phone the tab that is shown closes the panel, and the page opens it by itself.
@@ -297,7 +297,7 @@ class Page:
         return rows
 
     def module(self, name: str, expression: str, *arguments: Any) -> Any:
-        """What an expression over the exports `it` of a module comes to."""
+        """The value of an expression over the exports `it` of a module."""
         text = f"""
             const done = arguments[arguments.length - 1];
             const given = [...arguments].slice(0, -1);

@@ -2,8 +2,8 @@
 
 The server is a stand-in that answers from memory, since the time is the page's, and a file of that
 size takes too long to fill. The browser's own brake slows the page's thread, and the best of some
-pans counts. The time is printed. The long form asks for 0.3 s, on a machine with no other work; the
-short one asks no more than that the features come.
+pans counts. The time is printed. The long form requires 0.3 s, on a machine with no other work; the
+short one requires no more than that the features come.
 """
 
 import contextlib
@@ -25,13 +25,13 @@ from browser.site import serve_map
 from browser.standing import drag_map
 
 COUNT = 100_000
-# The town is a square of so many millimetres, and is looked up in cells of so many.
+# The sides, in millimetres, of the town's square and of the cells of a lookup.
 SIDE, CELL = 1_000_000, 20_000
 KINDS = ("trees", "trees", "lamps", "kerbs", "parcels")
-# So many seconds a pan takes at most, and so many are tried.
+# The most seconds that a pan takes, and the number of pans.
 MOST_SECONDS, PANS = 0.3, 5
 SLOWED = 4
-# Street level: a metre has so many pixels, as a power of two.
+# Street level: the pixels of a metre, as a power of two.
 ZOOM = 3
 # Notes how long it takes from the end of each pan to the frame that has all features of the view.
 WATCH = """

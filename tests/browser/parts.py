@@ -15,9 +15,9 @@ from browser.page import GIVEN_UP
 Part = Callable[[Context], None]
 # More at once would slow each other down: a part has a browser, nginx and a server.
 AT_ONCE = 2
-# So long the parts that run are waited for once the group is given up.
+# The seconds to wait for running parts once the group is given up.
 LAST_SECONDS = 60
-# So many parts are named that took longest.
+# The number of parts named that took longest.
 NAMED = 4
 
 

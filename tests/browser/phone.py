@@ -59,10 +59,10 @@ return [...document.querySelectorAll("form.editor :is(input, select, button)")].
 
 
 def first_view(context: Context, page: Page) -> None:
-    """The first view shows all that there is."""
+    """The first view shows all features."""
     inserted = [it["collection"] for it in quarter()["edits"] if it["op"] == "insert"]
     wanted = {name: str(inserted.count(name)) for name in inserted}
-    # A server that is busy may be silent at first: the page asks it again.
+    # A server that is busy may be silent at first: the page requests again.
     shown = page.until(wanted, lambda: dict(page.script(COUNTS)), SECONDS)
     context.check("the first view", shown, wanted)
 

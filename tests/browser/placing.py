@@ -105,7 +105,7 @@ def own_position(context: Context, page: Page) -> None:
 
 
 def background(context: Context, page: Page, made: Site) -> None:
-    """An image of this device lies below; one of another address is not asked for."""
+    """An image of this device lies below; one of another address is not requested."""
     picture = context.folder / "plan.png"
     Image.new("RGB", (40, 20), "#1030f0").save(picture)
     page.tab("settings")

@@ -1,4 +1,4 @@
-/** @file What the test of readers asks of the page; each function lists what is at fault. */
+/** @file What the test of readers requires of the page; each function lists what is at fault. */
 
 /**
  * @param {number[]} rgb from 0 to 255
@@ -23,7 +23,7 @@ function contrast(one, other) {
 
 /**
  * @param {string} text a computed colour
- * @returns {number[]} its channels, and its opacity where it has one
+ * @returns {number[]} its channels, and its opacity if it has one
  */
 function channels(text) {
   return text.match(/[\d.]+/g).map(Number);
@@ -31,7 +31,7 @@ function channels(text) {
 
 /**
  * @param {Element} node
- * @returns {number[]} the colour that its text stands on
+ * @returns {number[]} the background colour of its text
  */
 function ground(node) {
   for (let at = node; at; at = at.parentElement) {
@@ -79,7 +79,7 @@ function smallTargets() {
   return small.map(({ innerText, id, type }) => innerText || id || type);
 }
 
-/** @returns {string} what has the focus, in a word; none where nothing has it */
+/** @returns {string} what has the focus, in a word; none if nothing has it */
 function focused() {
   const { activeElement: it } = document;
   if (it === document.body) return "";

@@ -154,7 +154,7 @@ def keyboard(context: Context, made: Site) -> None:
 
 def touch(page: Page, x: float, y: float, what: str, came: Callable[[], Any]) -> None:
     """A tap of a finger, in pixels of the window, and what comes of it. On a busy machine it may
-    last too long for a tap: then there is another."""
+    last too long for a tap: then another follows."""
 
     def touched() -> Any:
         send = page.driver.execute_cdp_cmd

@@ -11,12 +11,12 @@ from collections.abc import Callable
 from typing import Any
 
 SECONDS = 60
-# A batch that is refused in any case: by it the page asks whether a key was used.
+# A batch that is refused in any case: with it the page checks whether a key was used.
 QUESTION = b'"op":"delete","collection":"unknown-'
 
 
 def read_request(stream: socket.socket) -> bytes:
-    """The bytes of one request, head and body; none where the connection ends before."""
+    """The bytes of one request, head and body; none if the connection ends before."""
     data = b""
     while b"\r\n\r\n" not in data:
         received = stream.recv(65536)
@@ -47,7 +47,7 @@ class Relay:
         self.listener = socket.create_server(("127.0.0.1", 0))
         self.port: int = self.listener.getsockname()[1]
         self.server: int | None = None
-        # The bodies of all batches that came, and each one's answer where it was passed on.
+        # The bodies of all batches that came, and each one's answer if it was passed on.
         self.batches: list[tuple[bytes, bytes]] = []
         # What is answered to the next batches in the server's place.
         self.canned: deque[bytes] = deque()

@@ -1,4 +1,4 @@
-"""The queue: no network, lost answers, hard stops, two tabs, and what nginx answers in between."""
+"""The queue: no network, lost answers, kills, two tabs, and what nginx answers in between."""
 
 import json
 import time
@@ -24,14 +24,14 @@ def add_point(page: Page, name: str) -> None:
 
 
 def counted(made: Site) -> tuple[int, int]:
-    """How many lamps there are, and how many batches were accepted: the serial of one more says
+    """The number of lamps, and of batches that were accepted: the serial of one more says
     it."""
     lamps = made.ask("/collections/lamps/items?limit=1")["numberMatched"]
     return lamps, made.edit(f"counted-{time.monotonic_ns()}")["serial"] - 1
 
 
 def killed(context: Context) -> None:
-    """The server is killed hard behind the batch, before its answer: sent again, accepted once."""
+    """The server is killed after the batch, before its answer: sent again, accepted once."""
     with site(context, "killed", town()) as made, browser() as page:
         page.open(made.address)
         add_point(page, "K1")
@@ -202,7 +202,7 @@ def basket_survives(context: Context) -> None:
         large_basket(context, page)
 
 
-# Keeps the list of towns locked, which the panel of the queue reads last, until told.
+# Keeps the list of towns locked, which the panel of the queue reads last, until released.
 LOCK = """
 const done = arguments[0];
 const request = indexedDB.open("streetmap-towns");

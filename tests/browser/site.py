@@ -25,7 +25,7 @@ import serve_map as serve_map  # noqa: E402
 
 @dataclass
 class Site:
-    """What stands behind one address of the map."""
+    """What one address of the map is served by."""
 
     context: Context
     file: Path
@@ -53,7 +53,7 @@ class Site:
         self.relay.server = self.server.port
 
     def stop(self) -> None:
-        """Stops the server hard."""
+        """Kills the server."""
         self.relay.server = None
         if self._running is not None:
             self._running.close()

@@ -67,7 +67,7 @@ def here(context: Context) -> None:
 
 
 def follows(context: Context, page: Page) -> None:
-    """The map follows until it is dragged, and again if asked."""
+    """The map follows until it is dragged, and again on request."""
     page.one("#own-position").click()
     page.wait("the position", lambda: is_at(page, 200, 128))
     stand(page, 210, 130)

@@ -10,7 +10,7 @@ from browser.page import Page
 from browser.site import Site, site
 from browser.towns import insert, opened, point, town
 
-# More than the page shows of a view, so that the area has what was never looked at.
+# More than the page shows of a view, so that the area has what was never viewed.
 MANY = 5_200
 EACH = 1_300
 
@@ -24,12 +24,12 @@ def dots(made: Site) -> None:
 
 
 def cut_after(made: Site, pages: int) -> list[bytes]:
-    """Lets so many further pages pass, and then none. Returns the requests that passed."""
+    """Lets `pages` further pages pass, and then none. Returns the requests that passed."""
     passed: list[bytes] = []
     pass_on = made.relay._pass_on
 
     def lossy(request: bytes) -> bytes:
-        # Not a question how many there are, but a page.
+        # Not a request for a count, but for a page.
         if b"limit=1000" not in request.partition(b"\r\n")[0]:
             return pass_on(request)
         if len(passed) >= pages:
@@ -52,7 +52,7 @@ def area(page: Page) -> str:
 
 
 def cut(context: Context) -> None:
-    """The walk is cut, the page loaded again, and it goes on there; then there is no network."""
+    """The walk is cut, the page loaded again, and it goes on there; then the network is gone."""
     with site(context, "taken") as made, browser() as page:
         dots(made)
         page.open(made.address)
@@ -75,7 +75,7 @@ def cut(context: Context) -> None:
 
 
 def gone_on(page: Page) -> bool:
-    """Presses “Go on” while there is something to go on with."""
+    """Presses “Go on” while something is left to go on with."""
     if not area(page).startswith("5,200 features, "):
         page.script("document.querySelector('.area.begun button:nth-of-type(2)')?.click()")
     return area(page).startswith("5,200 features, ")
@@ -89,7 +89,7 @@ def walked(requests: list[bytes]) -> list[Any]:
 
 
 def offline(context: Context, page: Page, made: Site) -> None:
-    """What was never looked at is there without a network; the area is let go of."""
+    """What was never viewed is there without a network; the area is let go of."""
     text = area(page)
     context.check("its size and age", ("kB" in text or "MB" in text, "as of" in text), (True, True))
     page.network(False)

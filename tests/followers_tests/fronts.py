@@ -42,7 +42,7 @@ def check_methods(site: Site) -> None:
 
 
 def pins(site: Site, name: str) -> list[int]:
-    """Which follower each client is answered by: a client asks three times, on connections of its
+    """Which follower answers each client: a client sends three requests, on connections of its
     own, and is always answered."""
     chosen = []
     for number in range(CLIENTS):
@@ -116,7 +116,7 @@ def office(site: Site, folder: Path, port: int) -> Process:
 
 
 def check_office(site: Site) -> None:
-    """Behind TLS reading needs no password, and goes to followers; a batch needs one. With one it is
+    """Over TLS reading needs no password, and goes to followers; a batch needs one. With one it is
     refused too if a page of another origin sends it."""
     port, check = free_port(), site.context.check
     url = f"https://localhost:{port}"

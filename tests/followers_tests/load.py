@@ -14,15 +14,15 @@ from messages import delete, feature, open_collection, point, put
 from model import compact
 
 BROKEN = (OSError, http.client.HTTPException)
-# In seconds: for one answer; between two tries; between two looks of a follower at a standby.
+# In seconds: for one answer; between two tries; between two reads of a standby by a follower.
 ANSWER_SECONDS, AGAIN_SECONDS, POLL_SECONDS = 30, 0.05, 0.5
-# A client rests so many times as long as its answer took, so that all come along on a slow machine.
+# A client rests this many times as long as its answer took, so that a slow machine keeps up.
 RESTS = 10
 
 
 @dataclass
 class Client:
-    """A client at an address of this machine, with a connection that it makes anew where it
+    """A client at an address of this machine, with a connection that it makes again if it
     broke."""
 
     port: int
@@ -30,7 +30,7 @@ class Client:
     connection: http.client.HTTPConnection | None = None
 
     def ask(self, method: str, path: str, body: str | None = None) -> tuple[int, bytes]:
-        """The status and body of an answer; status 0 where none came."""
+        """The status and body of an answer; status 0 if none came."""
         try:
             if self.connection is None:
                 self.connection = http.client.HTTPConnection(
@@ -49,7 +49,7 @@ class Client:
         self.connection = None
 
     def post(self, text: str, stop: threading.Event | None = None) -> dict[str, Any]:
-        """The reply to a batch, which is sent under its key until one comes. Nothing where it is
+        """The reply to a batch, which is sent under its key until one comes. Nothing if it is
         stopped before."""
         while stop is None or not stop.is_set():
             status, body = self.ask("POST", "/batches", text)
@@ -63,7 +63,7 @@ class Client:
 
 
 def rest(begun: float) -> None:
-    """Rests after an answer that was asked for at a moment."""
+    """Rests after an answer that was requested at a moment."""
     time.sleep(min(RESTS * (time.monotonic() - begun), ANSWER_SECONDS / RESTS))
 
 
@@ -107,7 +107,7 @@ class Writer(threading.Thread):
 
 
 class Reader(threading.Thread):
-    """Asks for pages of a collection that grows, and keeps the numbers of features that it was
+    """Requests pages of a collection that grows, and keeps the numbers of features that it was
     answered, and the statuses of other answers."""
 
     def __init__(self, port: int, address: str, collection: str, stop: threading.Event) -> None:
@@ -133,7 +133,7 @@ class Reader(threading.Thread):
 @dataclass
 class Load:
     """Writers and readers at one address, up to the end of a `with` block. Each writer has one of
-    the collections; the first of them grows, and readers ask for it."""
+    the collections; the first of them grows, and readers request it."""
 
     port: int
     collections: list[str]
@@ -168,7 +168,7 @@ class Load:
 
 def delays(first: int, followers: list[int], name: str, count: int) -> list[list[float]]:
     """Of each follower, in milliseconds: how long after its acknowledgement by the first a batch
-    is seen there, for so many batches at random moments."""
+    is seen there, for `count` batches at random moments."""
     writer, readers, chance = (
         Client(first),
         [Client(port) for port in followers],

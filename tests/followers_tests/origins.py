@@ -10,7 +10,7 @@ from followers_tests.processes import Script
 from followers_tests.rows import ENDED
 from followers_tests.site import Site
 
-# What a form of any page can send: its text is a batch, and no preflight is asked.
+# What a form of any page can send: its text is a batch, and no preflight is sent.
 FORM = {"Content-Type": "text/plain"}
 SITE, ORIGIN = "Sec-Fetch-Site", "Origin"
 

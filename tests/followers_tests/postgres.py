@@ -25,7 +25,7 @@ fsync = off
 
 
 def as_user(*words: str | Path) -> list[str]:
-    """A command of PostgreSQL, as its user where the test runs as root."""
+    """A command of PostgreSQL, as its user if the test runs as root."""
     before = ["setpriv", f"--reuid={USER}", f"--regid={USER}", "--clear-groups"]
     return [*(before if os.geteuid() == 0 else []), *map(str, words)]
 
@@ -53,7 +53,7 @@ class Database:
             connection.close()
 
     def ask_alone(self, query: str) -> None:
-        """Asks in no transaction."""
+        """Queries in no transaction."""
         connection = psycopg2.connect(self.dsn)
         connection.autocommit = True
         try:

@@ -18,7 +18,7 @@ DEPLOY = ROOT / "deploy"
 
 
 def wait_until(what: str, holds: Callable[[], bool], seconds: float) -> None:
-    """Returns once something holds; fails where it does not in time."""
+    """Returns once something holds; fails if it does not in time."""
     end = time.monotonic() + seconds
     while not holds():
         if time.monotonic() > end:
@@ -72,7 +72,7 @@ class Process:
         return listens(self.port)
 
     def kill(self) -> None:
-        """A hard stop of the process and of those that it has started. All are gone behind it."""
+        """Kills the process and those that it has started. All are gone after it."""
         if self.process is None:
             return
         if self.process.poll() is None:
@@ -90,7 +90,7 @@ class Process:
 
 @contextlib.contextmanager
 def running(*processes: Process) -> Iterator[None]:
-    """Starts processes, and kills them behind the block, the last first."""
+    """Starts processes, and kills them after the block, the last first."""
     try:
         for process in processes:
             process.start()

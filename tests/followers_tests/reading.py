@@ -43,7 +43,7 @@ def asked_for(served: Served, collection: str) -> int:
 
 
 def check_drained(site: Site) -> None:
-    """The documented commands take a follower out, so that nobody asks it when it is killed."""
+    """The documented commands take a follower out, so that nobody queries it when it is killed."""
     served, folder = site.left, site.context.folder / site.nginx.name
     (commands,) = commands_of("Restarting a follower")
     places = {
@@ -97,7 +97,7 @@ def check_both_away(site: Site) -> None:
 
 
 def limited(process: Process, bytes_: int) -> Process:
-    """The same process, none of whose files may be longer. A write behind that fails, as on a full
+    """The same process, none of whose files may be longer. A write after that fails, as on a full
     disk."""
     before = ["env", "--ignore-signal=XFSZ", "prlimit", f"--fsize={bytes_}"]
     return Process(process.context, process.name, [*before, *process.words], process.port)

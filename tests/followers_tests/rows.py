@@ -62,7 +62,7 @@ class Rows:
         self, what: str, lines: list[bytes], begun: str | None, ends: str | None, count: int
     ) -> None:
         """Sends a journal from a position on. Wanted: the fault, the position and the number of
-        batches behind it. A position that is None has no file."""
+        batches after it. A position that is None has no file."""
         self.journal.write_bytes(b"".join(lines))
         self.position.unlink(missing_ok=True)
         if begun is not None:
@@ -189,7 +189,7 @@ def large_text(key: str) -> bytes:
 
 
 def apply_by_words(context: Context, file: Path, words: str) -> int:
-    """Runs the words that it gives, with FILE and the program in place."""
+    """Runs the command that it gives, with FILE and the program in place."""
     program = context.folder / "bin" / "streetmap"
     program.parent.mkdir(exist_ok=True)
     program.unlink(missing_ok=True)
@@ -203,7 +203,7 @@ def apply_by_words(context: Context, file: Path, words: str) -> int:
 
 
 def check_large(context: Context) -> None:
-    """A line that is longer than a body stops it. Its words bring the follower over it."""
+    """A line that is longer than a body stops it. Its options bring the follower over it."""
     large = large_text("large")
     context.check("a text that is longer than a body", len(large) > MOST_OF_BODY, True)
     journal, file = context.folder / "large.journal", context.new_file("large-follower")

@@ -118,7 +118,7 @@ def follower_script(context: Context, name: str, *words: str | Path) -> Process:
 
 @contextlib.contextmanager
 def site(context: Context) -> Iterator[Site]:
-    """A site that runs. All of it is killed behind the block."""
+    """A site that runs. All of it is killed after the block."""
     first, left, right = (Served.new(context, it) for it in ("first", "left", "right"))
     primary, port = postgres.primary(context), free_port()
     with running(primary.process):

@@ -32,7 +32,7 @@ class Tables:
         kept: list[bytes],
         *words: str,
     ) -> None:
-        """Puts a journal in. Wanted: the fault, and the lines of the table behind it."""
+        """Puts a journal in. Wanted: the fault, and the lines of the table after it."""
         self.journal.write_bytes(b"".join(lines))
         status, said = self.ends(*(words or ("--once",)))
         said = [it for it in said if not it.startswith("renewing")]

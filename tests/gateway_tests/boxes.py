@@ -24,9 +24,9 @@ MERCATOR = f"{EPSG}3857"
 # In degrees: what the plain test itself may err by, and by how much a box may be too large.
 SURE, EDGE = 3e-10, 3e-9
 FEW, MANY = 400, 10_000
-# Of so many boxes one goes over the bounds of the office's system, and one is turned on its grid.
+# Of this number of boxes one crosses the office system's bounds, and one is turned on its grid.
 FAR_EACH, TURNED_EACH = 20, 10
-# For each so many random boxes of a collection there is one through vertices of its features.
+# For each N random boxes of a collection one goes through vertices of its features.
 TOUCHING_EACH = 20
 # An office far from the middle of EPSG:3035 (LAEA Europe): parallels are turned by 20 degrees.
 TURNED = 'name = "EPSG:3035"\neasting = 5600000\nnorthing = 4400000'

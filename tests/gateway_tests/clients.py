@@ -32,7 +32,7 @@ def check_clients(context: Context, asked: Gateway) -> None:
 
 
 def check_qgis(context: Context, asked: Gateway) -> None:
-    """QGIS opens each collection, counts, reads all, asks boxes, and draws."""
+    """QGIS opens each collection, counts, reads all, requests boxes, and draws."""
     picture = context.folder / "map.png"
     words = [PYTHON, str(SCRIPT), asked.url, str(picture), GROUND, *collections(), *BOXES]
     folder = str(context.folder)
@@ -110,8 +110,8 @@ def grid_of_metres(geometry: dict[str, Any] | None) -> Any:
 
 
 def grid_of(geometry: dict[str, Any] | None) -> Any:
-    """The kind and positions of a geometry of the grid, heights left out of the comparison where
-    there are none."""
+    """The kind and positions of a geometry of the grid, heights left out of the comparison if
+    it has none."""
     if geometry is None:
         return None
     if geometry["type"] == "GeometryCollection":

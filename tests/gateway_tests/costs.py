@@ -18,7 +18,7 @@ from gateway_tests.service import Gateway
 from harness import Context
 
 BOXES, BOX_SECONDS, BOX_BYTES = 1000, 0.020, 50_000_000
-# A box that takes longer is asked for again, since others use the same caches of the machine.
+# A box that takes longer is requested again, since others use the same caches of the machine.
 TRIES = 4
 WAIT_SECONDS = 0.1
 ITEMS = "/collections/lamps/items"
@@ -83,7 +83,7 @@ def box_seconds(asked: Gateway, name: str, box: Box) -> float:
 
 
 def long_line(count: int) -> bytes:
-    """A line of so many positions in degrees."""
+    """A line of `count` positions in degrees."""
     source = random.Random(count)
     spots = [[9.9 + source.random() / 10, 53.5 + source.random() / 10] for _ in range(count)]
     return json.dumps(feature("long", shape("LineString", spots))).encode()

@@ -90,7 +90,7 @@ def check_life(context: Context, asked: Gateway) -> None:
 
 
 def check_kept_pages(context: Context, asked: Gateway) -> None:
-    """A page that the gateway has carried over before is not shown once the server's is another,
+    """A page that the gateway has passed on before is not shown once the server's is another,
     nor in another system."""
 
     def shown(**query: Any) -> list[dict[str, Any]]:
@@ -109,7 +109,7 @@ def check_kept_pages(context: Context, asked: Gateway) -> None:
 
 
 def check_nested(context: Context, asked: Gateway) -> None:
-    """Properties that look like features stay as they are, alone and on a page."""
+    """Properties that resemble features stay as they are, alone and on a page."""
     inner = feature("inner", shape("Point", [1, 2]))
     sent = lamp("nested", like=[inner, {"features": [inner]}], text='"},{"geometry":null,"id":"a')
     context.check("nested", asked.send("POST", ITEMS, sent).status_code, 201)

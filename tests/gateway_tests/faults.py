@@ -1,4 +1,4 @@
-"""Faults between gateway and server: a server that is away, connections that break, a hard stop
+"""Faults between gateway and server: a server that is away, connections that break, a kill
 between a batch and its answer, and more clients than connections."""
 
 import contextlib
@@ -101,7 +101,7 @@ def check_faults(context: Context) -> None:
 
 
 def check_lost_answer(context: Context, asked: Gateway, between: Relay) -> None:
-    """The connection breaks between batch and answer: the gateway asks again, and it acts once."""
+    """The connection breaks between batch and answer: the gateway sends again, and it acts once."""
     before = asked.ask(ITEMS).json()["numberMatched"]
     for name, key in ((None, None), ("lost", None), (None, "key 1")):
         between.batches, between.action = 0, lambda: None
@@ -113,7 +113,7 @@ def check_lost_answer(context: Context, asked: Gateway, between: Relay) -> None:
 
 
 def check_stop(context: Context, asked: Gateway, between: Relay, server: Server) -> None:
-    """The server is stopped hard between batch and answer: 503, to be sent again."""
+    """The server is killed between batch and answer: 503, to be sent again."""
     between.action = server.kill
     answer = asked.send("POST", ITEMS, lamp(None), Idempotency_Key="key 2")
     check_problem(context, answer, 503, "server_away")
@@ -121,7 +121,7 @@ def check_stop(context: Context, asked: Gateway, between: Relay, server: Server)
 
 
 def check_away(context: Context, asked: Gateway) -> None:
-    """Without a server: 503 for what asks it; the rest is answered."""
+    """Without a server: 503 for what needs it; the rest is answered."""
     for path in ("/collections", "/collections/lamps", ITEMS, f"{ITEMS}/L00000"):
         answer = asked.ask(path)
         check_problem(context, answer, 503, "server_away")
@@ -132,7 +132,7 @@ def check_away(context: Context, asked: Gateway) -> None:
 
 
 def check_again(context: Context, asked: Gateway) -> None:
-    """The server is back: the same request under its key says 201, and there is one feature."""
+    """The server is back: the same request under its key says 201, and one feature is kept."""
     before = asked.ask(ITEMS).json()["numberMatched"]
     context.check("the batch was applied", before, 54)
     answers = [asked.send("POST", ITEMS, lamp(None), Idempotency_Key="key 2") for _ in range(2)]
@@ -141,8 +141,8 @@ def check_again(context: Context, asked: Gateway) -> None:
 
 
 def check_killed_gateway(context: Context, between: Relay) -> None:
-    """The gateway is stopped hard between batch and answer: another one answers the same request
-    under its key, and there is one feature."""
+    """The gateway is killed between batch and answer: another one answers the same request
+    under its key, and one feature is kept."""
     with gateway(context, between.url) as asked:
         before = asked.ask(ITEMS).json()["numberMatched"]
         between.action = asked.process.kill
@@ -159,7 +159,7 @@ def check_killed_gateway(context: Context, between: Relay) -> None:
 
 def check_cut_connections(context: Context, file: object) -> None:
     """The server cuts idle connections of the gateway, since others come, or since it is started
-    anew; with --slow also after half a minute. The gateway's next requests are answered."""
+    again; with --slow also after half a minute. The gateway's next requests are answered."""
     with context.serve(str(file), "--clients", "2") as server:
         with gateway(context, server.url) as asked:
             for _ in range(3):

@@ -91,7 +91,7 @@ def is_page(answer: httpx.Response) -> bool:
 
 
 def evil_town() -> dict[str, list[Feature]]:
-    """Features whose ids, names and values are texts that look like HTML, one without geometry."""
+    """Features whose ids, names and values are texts that resemble HTML, one without geometry."""
     properties = {EVIL: EVIL, "plain": [EVIL], LINKED: LINKED, "null": None}
     many = {f"name {number:02}": number for number in range(60)}
     return {

@@ -224,7 +224,7 @@ def check_links(context: Context, base: str) -> None:
 
 
 def check_edits(context: Context, asked: Gateway, base: str) -> None:
-    """A token of the gateway writes, and nginx's password is not asked for; a page of another
+    """A token of the gateway writes, and nginx's password is not required; a page of another
     origin writes nothing. An id keeps its signs."""
     sent = json.dumps(feature(ID, shape("Point", [9.98, 53.55]))).encode()
     fields = {"Content_Type": "application/geo+json"}

@@ -105,7 +105,7 @@ def check_walk(context: Context, server: str) -> None:
 
 
 class StandIn(http.server.BaseHTTPRequestHandler):
-    """Answers as the server would over `COUNT` lines of 100 km, and a point behind them."""
+    """Answers as the server would over `COUNT` lines of 100 km, and a point after them."""
 
     COUNT = 18_000
     asked = 0
@@ -141,7 +141,7 @@ COLLECTION = {"id": "lines", "title": "lines", "extent": {"spatial": {"bbox": [B
 
 
 def check_short_pages(context: Context) -> None:
-    """Behind 21 pages of the server without a feature that meets the box comes a short page with
+    """After 21 pages of the server without a feature that meets the box comes a short page with
     a `next`. A stand-in for the server has lines of 100 km around a box in degrees that they
     miss."""
     with http.server.ThreadingHTTPServer(("127.0.0.1", 0), StandIn) as server:

@@ -10,7 +10,7 @@ from typing import Any
 import numpy
 import pyproj
 
-# A line of so many millimetres is off its chord in degrees by less than 0.01 mm.
+# A line of this many millimetres is off its chord in degrees by less than 0.01 mm.
 CHORD = 20_000_000 / 1000
 
 
@@ -53,7 +53,7 @@ class Plain:
         return easting * 1000 - self.easting * 1000.0, northing * 1000 - self.northing * 1000.0
 
     def shape(self, feature: dict[str, Any]) -> Shape | None:
-        """The geometry of a feature of the grid, none where it has none."""
+        """The geometry of a feature of the grid, none if it has none."""
         if feature["geometry"] is None:
             return None
         points, lines, polygons = parts(feature["geometry"])

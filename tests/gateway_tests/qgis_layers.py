@@ -46,7 +46,7 @@ def rectangle(box: str) -> Any:
 
 
 def look(url: str, name: str, boxes: list[str]) -> dict[str, Any]:
-    """What QGIS finds in a collection, whole and by boxes that it asks for."""
+    """What QGIS finds in a collection, whole and by boxes that it requests."""
     layer = layer_of(url, name, "pageSize='50'")
     found: dict[str, Any] = {"valid": layer.isValid(), "crs": layer.crs().authid()}
     found["count"] = layer.featureCount()
@@ -60,7 +60,7 @@ def look(url: str, name: str, boxes: list[str]) -> dict[str, Any]:
 
 
 def style(layer: Any) -> None:
-    """Gives a layer the look of its collection."""
+    """Gives a layer the style of its collection."""
     colour, outline, size = STYLES.get(layer.name(), PLAIN)
     symbol = layer.renderer().symbol()
     symbol.setColor(QColor(colour))

@@ -22,7 +22,7 @@ TO_SEQUENCE += ["-lco", "ID_FIELD=id", "-lco", "COORDINATE_PRECISION=3"]
 PLACED = ("--open", "--round", "--scale", "1000", "--shift", "565000,5934000")
 POINT = shape("Point", [1234567, -7654321])
 LACKING = object()
-# GDAL learns the fields from its first page, which has ten features where nothing else is said.
+# GDAL learns the fields from its first page, which has ten features if nothing else is set.
 FIRST_PAGE = 10
 LONG_PAGES = ("-oo", "PAGE_SIZE=1000")
 
@@ -109,7 +109,7 @@ def columns() -> list[Feature]:
 
 
 def behind(late: list[Any], first: Any) -> list[Feature]:
-    """Features of which those behind GDAL's first page have other values."""
+    """Features of which those after GDAL's first page have other values."""
     values = [first] * FIRST_PAGE + late
     made = [{} if value is LACKING else {"a": value} for value in values]
     return [feature(f"{late[0]}-{n:02}", POINT, each) for n, each in enumerate(made)]

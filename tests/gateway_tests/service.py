@@ -41,12 +41,12 @@ class Gateway:
     access: Path
 
     def ask(self, path: str, **parameters: Any) -> httpx.Response:
-        """A GET; in the names of parameters `_` stands for `-`."""
+        """A GET; in the names of parameters `_` represents `-`."""
         named = {name.replace("_", "-"): value for name, value in parameters.items()}
         return self.client.get(self.url + path, params=named or None)
 
     def send(self, method: str, path: str, body: Any = None, **fields: str) -> httpx.Response:
-        """An edit by the writer of the tests; in the names of fields `_` stands for `-`."""
+        """An edit by the writer of the tests; in the names of fields `_` represents `-`."""
         headers = {"Authorization": f"Bearer {TOKEN}"}
         if isinstance(body, bytes):
             headers["Content-Type"] = "application/geo+json"

@@ -72,7 +72,7 @@ def python(words: list[str]) -> subprocess.CompletedProcess[str]:
 
 def check_place(context: Context, asked: Gateway) -> None:
     """The table for the map page is good to a centimetre, here by a plain reader of its form and
-    by the page's own where that and Node are there."""
+    by the page's own if that and Node are there."""
     file = context.folder / f"gateway-{asked.url.rpartition(':')[2]}.toml"
     ended = python(["-m", "gateway.place", str(file)])
     context.check("the table", (ended.returncode, ended.stderr), (0, ""))

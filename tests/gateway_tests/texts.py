@@ -21,7 +21,7 @@ from gateway.systems import Position, System  # noqa: E402
 
 SHIFT = (0.25, 1000.5)
 PAGES = 300
-# Texts and members that look like parts of a page.
+# Texts and members that resemble parts of a page.
 LURES = ('{"geometry":', ',"id":', '],"links":[', '{"features":[', '},"|",{', "\\", '"', "\n ü")
 NESTED = {"geometry": {"coordinates": [1, 2], "type": "Point"}, "id": "x", "links": [], "type": 1}
 
@@ -45,14 +45,14 @@ def written(value: Any) -> str:
 
 
 def properties(source: random.Random) -> Any:
-    """Properties that may hold what looks like a feature."""
+    """Properties that may hold what resembles a feature."""
     lures = {lure: lure * source.randrange(3) for lure in source.sample(LURES, 3)}
     nested = {"deep": [NESTED, {"features": [NESTED]}]} if source.random() < 0.1 else {}
     return source.choice((None, {}, lures, lures | nested, nested))
 
 
 def made_page(source: random.Random) -> dict[str, Any]:
-    """A page of features of all kinds, and of points with what looks like more."""
+    """A page of features of all kinds, and of points with what resembles more."""
     kept = [each for made in collections().values() for each in made]
     kept.append(feature("line", shape("LineString", [[1, 2, 3], [4, 5, 6]])))
     shown = copy.deepcopy(source.sample(kept, source.randrange(8)))

@@ -13,7 +13,7 @@ ITEMS = "/collections/lamps/items"
 ITEM = f"{ITEMS}/guarded"
 SECONDS = 120
 PAGE = "https://maps.example"
-# Where the gateway says that it is, which is not where the tests ask for it.
+# Where the gateway says that it is, which is not where the tests request it.
 ADDRESS = "https://streets.example/town"
 OTHER_ORIGINS: list[dict[str, str]] = [
     {"Sec-Fetch-Site": "cross-site"},
@@ -60,7 +60,7 @@ def guarded(number: int = 0) -> dict[str, Any]:
 
 
 def kept_number(asked: Gateway) -> Any:
-    """The number of the feature that is kept; none if there is none."""
+    """The number of the feature that is kept; none if none is kept."""
     answer = asked.ask(ITEM)
     return answer.json()["properties"]["no"] if answer.status_code == 200 else None
 
@@ -72,7 +72,7 @@ def request(asked: Gateway, method: str, path: str, body: Any, fields: dict[str,
 
 def check_origins(context: Context, asked: Gateway) -> None:
     """A page of another origin writes nothing, with the right token too. What is no page writes,
-    and so does a page of the gateway's own address, or of the address that it was asked at."""
+    and so does a page of the gateway's own address, or of the address that it was requested at."""
     asked.send("POST", ITEMS, guarded())
     edits = (("POST", ITEMS), ("PUT", ITEM), ("DELETE", ITEM), ("PATCH", ITEM), ("POST", "/none"))
     for fields in OTHER_ORIGINS:

@@ -33,7 +33,7 @@ PATHS = {
 
 @dataclass(frozen=True)
 class Exchange:
-    """A request of a row, none of whose parts is there where it has no request line, and its
+    """A request of a row, which has no parts if it has no request line, and its
     answer."""
 
     method: str
@@ -58,7 +58,7 @@ def size_in(fields: dict[str, str]) -> int:
 
 
 def exchanges(sent: str, written: str) -> Iterator[Exchange]:
-    """The requests of a stream with their answers, as many as there are."""
+    """The requests of a stream with their answers, up to the last answer."""
     while written:
         line, asked, sent = head_of(sent.lstrip("\r\n"))
         found = REQUEST_LINE.fullmatch(line)
@@ -102,7 +102,7 @@ class Description:
         self.schemas = as_json_schema(document)
 
     def found(self, reference: str) -> Any:
-        """What a reference within the document names; nothing where it names nothing."""
+        """What a reference within the document names; nothing if it names nothing."""
         part: Any = self.document
         for name in reference.removeprefix("#/").split("/"):
             part = part.get(name) if isinstance(part, dict) else None
@@ -120,7 +120,7 @@ class Description:
         return None
 
     def response(self, exchange: Exchange) -> dict[str, Any] | None:
-        """What is described of an answer: that of its operation; a 405 where the path has another;
+        """What is described of an answer: that of its operation; a 405 if the path has another;
         else an error."""
         template = self.template(exchange.path)
         shared = self.document["components"]["responses"]
@@ -141,7 +141,7 @@ class Description:
 
 
 def check_document(context: Context, description: Description) -> None:
-    """What OpenAPI 3.0 asks of each document, as far as this one has it."""
+    """What OpenAPI 3.0 requires of each document, as far as this one has it."""
     document = description.document
     context.check("the version of OpenAPI", document["openapi"][:4], "3.0.")
     context.check("the eight paths", set(document["paths"]), PATHS)

@@ -1,7 +1,7 @@
 """The commands of README, the tutorial and docs/API.md give what these say; links, sizes hold.
 
-Blocks of a document that are fenced as `sh` are run as they stand, by bash, with the program on the
-PATH. A block fenced as `json` or `html` behind one is what it prints. Blocks of `text` are not run:
+Blocks of a document that are fenced as `sh` are run as they are, by bash, with the program on the
+PATH. A block fenced as `json` or `html` after one is what it prints. Blocks of `text` are not run:
 they need root, the toolchain, a browser, or are no commands.
 """
 
@@ -37,7 +37,7 @@ SERVING = re.compile(r"^(streetmap serve .*)$", re.MULTILINE)
 
 
 def blocks_of(document: Path, after: str = "") -> list[tuple[str, str]]:
-    """The fenced blocks of a document behind a heading: of each its language and its text."""
+    """The fenced blocks of a document after a heading: of each its language and its text."""
     text = document.read_text().partition(after)[2] if after else document.read_text()
     return FENCED.findall(text)
 
@@ -119,7 +119,7 @@ class Shell:
 
 
 def run_blocks(context: Context, shell: Shell, blocks: list[tuple[str, str]]) -> None:
-    """Runs blocks in order, and compares what each prints with the block behind it."""
+    """Runs blocks in order, and compares what each prints with the block after it."""
     what, printed = "", ""
     for language, text in blocks:
         if language == "sh":

@@ -1,8 +1,8 @@
 """Reads of requests, and writes of answers and journals, that fail after counts of bytes.
 
-The stream is two batches with a page between them, and a page behind. The program writes the
-beginning of the answers that it could, and ends with its fault; the file holds the state of a
-beginning of the batches that has each one whose answer was begun. A server whose writes of a
+The stream is two batches with a page between them, and a page after. The program writes the
+prefix of the answers that it could, and ends with its fault; the file holds the state of a
+prefix of the batches that has each one whose answer was begun. A server whose writes of a
 journal fail answers all, and completes the journal. The short form fails after some counts of
 bytes, the long one after each.
 """
@@ -19,7 +19,7 @@ from served_journal import check_failing_writes
 from sqlite_file import copy_file
 
 PACKAGES = ("gcc", "libc6-dev")
-# The short form fails after each of so many counts.
+# The short form fails after every N-th count.
 STRIDE = 13
 
 
@@ -39,7 +39,7 @@ STREAM = b"".join(REQUESTS)
 
 @dataclass
 class Wanted:
-    """What is written where nothing fails, and where the answers to the two batches begin."""
+    """What is written if nothing fails, and where the answers to the two batches begin."""
 
     written: bytes
     starts: tuple[int, int]
@@ -69,7 +69,7 @@ def without_failure(context: Context, first: Path, file: Path) -> Wanted:
 
 
 def check_failures(context: Context, first: Path, file: Path, wanted: Wanted, name: str) -> None:
-    """Each READS or WRITES that fails after so many bytes."""
+    """Each READS or WRITES that fails after a number of bytes."""
     reads = name == "READS"
     most, fault = (len(STREAM), "read_failed") if reads else (len(wanted.written), "write_failed")
     library, counted = context.folder / "fail.so", Counter[str]()

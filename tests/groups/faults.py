@@ -1,4 +1,4 @@
-"""Faults: a damaged row, a failed device, a shut store, refused memory, and sentences on them."""
+"""Faults: a damaged row, a failed device, a shut store, failed allocations, their sentences."""
 
 import contextlib
 import functools
@@ -48,7 +48,7 @@ KEPT = (
 
 
 def fault(code: str) -> bytes:
-    """The answer to a request that a fault of the server stops, which closes the connection."""
+    """The answer to a request that fails by a fault of the server, which closes the connection."""
     refused = Refused(code)
     body = compact(refused.body).encode()
     head = [f"HTTP/1.1 {refused.status} {PHRASES[refused.status]}"]
@@ -67,7 +67,7 @@ def asked(server: Server, sent: bytes) -> bytes:
 
 
 def a_damaged_row(context: Context) -> None:
-    """It shuts the store, which then refuses all that asks for its state, and nothing else."""
+    """It shuts the store, which then refuses all that needs its state, and nothing else."""
     file = context.new_file("damaged", FIRST.sent)
     change(file, DAMAGES[0])
     for words in (("--count", "99"), ("--count", "99", "--clients", "4")):
@@ -186,7 +186,7 @@ def short_of_memory(process: subprocess.Popen[bytes]) -> Iterator[None]:
 
 
 def refused_memory(context: Context) -> None:
-    """A client for whose body there is no memory is told so, over a stream and over sockets, also
+    """A client for whose body memory runs out is answered so, over a stream and over sockets, also
     while it still sends."""
     edits = [open_collection("large", title="x" * 200)]
     batch = Request("POST", "/batches", {"key": "large", "edits": edits})
@@ -227,7 +227,7 @@ def answer_while_sent(server: Server, sent: bytes) -> bytes:
 
 
 def asked_once(server: Server, sent: bytes) -> bytes:
-    """What a client is sent that ends its side behind its request."""
+    """What a client is sent that ends its side after its request."""
     with server.connect() as client:
         client.sendall(sent)
         client.shutdown(socket.SHUT_WR)

@@ -139,7 +139,7 @@ def check_written_file(context: Context) -> Path:
     return file
 
 
-# Another table, which stands first, and then ours in another order than `create` makes them in.
+# Another table, which is first, and then ours in another order than `create` makes them in.
 OTHER_ORDER = """
 CREATE TABLE notes (id INTEGER PRIMARY KEY, text TEXT) STRICT;
 INSERT INTO notes VALUES (1, 'a'), (2, 'b');
@@ -161,7 +161,7 @@ COUNTS = (
 
 
 def check_other_order(context: Context) -> None:
-    """Batches over tables that stand behind another table and in another order."""
+    """Batches over tables that follow another table and in another order."""
     file = context.folder / "beside"
     change(file, OTHER_ORDER)
 

@@ -1,4 +1,4 @@
-"""The first look of `make try`: its quarter, over its program in memory and over a file."""
+"""The first steps of `make try`: its quarter, over its program in memory and over a file."""
 
 import contextlib
 import importlib.util
@@ -45,7 +45,7 @@ def answers_at(port: int, sent: bytes) -> list[tuple[int, bytes]]:
 
 @contextlib.contextmanager
 def in_memory(context: Context) -> Iterator[int]:
-    """Serves a port by the program of a first look."""
+    """Serves a port by the program of `make try`."""
     port = free_port()
     with subprocess.Popen([str(BUILT), str(port)], stdout=subprocess.PIPE) as process:
         assert process.stdout is not None
@@ -58,7 +58,7 @@ def in_memory(context: Context) -> Iterator[int]:
 
 
 def check_words(context: Context) -> None:
-    """A port is asked for, and nothing else."""
+    """A port is requested, and nothing else."""
     for words in ((), ("0",), ("65536",), ("8080", "8081"), ("town",)):
         ended = subprocess.run([str(BUILT), *words], capture_output=True, check=False)
         got = (ended.returncode, ended.stdout, ended.stderr)

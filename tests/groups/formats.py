@@ -1,4 +1,4 @@
-"""Files of other formats: format 1 is carried over to format 2, others are refused."""
+"""Files of other formats: format 1 is migrated to format 2, others are refused."""
 
 from pathlib import Path
 
@@ -28,7 +28,7 @@ def check_other_formats(context: Context) -> None:
 
 
 def check_carried_over(context: Context) -> Path:
-    """A file of format 1 is carried over when it is opened: every column, and no more."""
+    """A file of format 1 is migrated when it is opened: every column, and no more."""
     file = town_file(context, "old")
     wanted, batches = rows(file, FEATURES), rows(file, SERIALS)
     make_format_1(file)

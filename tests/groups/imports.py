@@ -2,7 +2,7 @@
 
 A row of imports (examples/imports.jsonl) has the text of a FeatureCollection, or the name of its
 file, and what is exported once it was imported, or the fault that is reported; `key` and
-`collection` are those of the command, where they are not `k` and `lamps`. A row of batches
+`collection` are those of the command, if they are not `k` and `lamps`. A row of batches
 (examples/batches.jsonl) has the batches that are there before, a batch, and the text that is kept.
 """
 
@@ -27,7 +27,7 @@ class Importer:
     count: int = 0
 
     def exported(self, text: bytes, key: str = "k", collection: str = "lamps") -> str:
-        """What is exported of a new file behind the import of a text, or the fault reported."""
+        """What is exported of a new file after the import of a text, or the fault reported."""
         self.count += 1
         file = self.context.new_file(f"{self.count}", batch("open", [OPEN_LAMPS, TIMED]))
         source = text_path(self.context, "text", text)
@@ -80,7 +80,7 @@ def check_limits(importer: Importer) -> None:
 
 def check_exports_again(importer: Importer) -> None:
     """What is exported is in the order of ids, whatever order it came in, and it is exported
-    again where it is imported."""
+    again when it is imported."""
     for count in (0, 1, 1000, 1001, 2500):
         features = [
             f'{{"geometry":{{"coordinates":[{number},7],"type":"Point"}},'

@@ -90,7 +90,7 @@ def check_batches(context: Context, file: Path) -> None:
 
 
 def check_posts(context: Context, file: Path) -> None:
-    """What is behind the tab of each line is a batch that `POST /batches` takes."""
+    """What follows the tab of each line is a batch that `POST /batches` takes."""
     texts = [line.split(b"\t", 1)[1] for line in context.run("batches", file).splitlines()]
     other = context.new_file("posted", *map(post, texts))
     context.check("the rows of what was posted", kept_rows(other) == kept_rows(file), True)
@@ -188,7 +188,7 @@ def with_serial(serial: int, line: bytes) -> bytes:
 
 
 def faults(lines: list[bytes]) -> Iterator[tuple[str, int, list[bytes], int, str]]:
-    """What is applied: how many batches are there before, the lines, the state behind them, and the
+    """What is applied: how many batches are there before, the lines, the state after them, and the
     fault that is reported."""
     one, two, three, four = lines[:4]
     yield "two lines swapped", 0, [one, three, two], 1, "not_the_next 2"
@@ -215,7 +215,7 @@ def faults(lines: list[bytes]) -> Iterator[tuple[str, int, list[bytes], int, str
     yield "too many edits", 0, [one, bare("c", *[{}] * 10_001)], 1, "too_many_edits 2"
 
 
-# Lines that are none of a journal and no batch, behind two that are. No name is wanted for them.
+# Lines that are none of a journal and no batch, after two that are. No name is wanted for them.
 NO_LINES = (
     b"x",
     b"3",
@@ -309,7 +309,7 @@ def check_printed_load(context: Context) -> None:
 
 
 def check_words(context: Context, town: Path) -> None:
-    """Words, files and devices that are at fault."""
+    """Options, files and devices that are at fault."""
     for line in ("apply", "apply a b c", "apply a --nothing", "apply a --replace b"):
         context.run(*line.split(), status=2, code="usage")
     journal = text_path(context, "words.journal", b"".join(journal_of(town)))

@@ -60,7 +60,7 @@ def reset(stream: socket.socket) -> None:
 
 
 def check_idle_and_slow_clients(context: Context, server: Server) -> None:
-    """200 idle clients and 20 slow ones beside one that asks a thousand times."""
+    """200 idle clients and 20 slow ones beside one that sends a thousand requests."""
     idle = [server.connect() for _ in range(200)]
     slow = [server.connect() for _ in range(20)]
     with server.connect() as busy:
@@ -78,7 +78,7 @@ def check_idle_and_slow_clients(context: Context, server: Server) -> None:
 
 
 class OwnCollection(threading.Thread):
-    """A client with a collection of its own: it changes it and asks for pages of it, in pieces of
+    """A client with a collection of its own: it changes it and requests pages of it, in pieces of
     any length, and keeps what came."""
 
     def __init__(self, server: Server, number: int) -> None:
@@ -144,7 +144,7 @@ def check_own_collections(context: Context, server: Server) -> None:
 
 
 def check_requests_cut_at_every_byte(context: Context, server: Server) -> None:
-    """Two connections: the request of one is cut at each byte, and the other asks in between."""
+    """Two connections: the request of one is cut at each byte; the other sends one in between."""
     with server.connect() as cut, server.connect() as other:
         for at in range(len(batch("c000", [insert_lamp(0)]))):
             edit = insert_lamp(at % 10) | {"op": "insert" if at < 10 else "replace"}

@@ -1,7 +1,7 @@
-"""`load` beside plain rules: rows, random sessions, limits, hard stops, memory, progress.
+"""`load` beside plain rules: rows, random sessions, limits, kills, memory, progress.
 
-A row (examples/loads.jsonl) has the texts of the batches before, the words, the TEXT, the batches
-of the load (their keys, and of each edit the id, or `open`), and where there are such the opening,
+A row (examples/loads.jsonl) has the texts of the batches before, the options, the TEXT, the batches
+of the load (their keys, and of each edit the id, or `open`), the opening if any,
 the causes of the features at fault that are listed, and the fault that ends it. A session loads a
 TEXT, the same again, and changed ones, into one file. The rows of each file are those of the model.
 """
@@ -60,7 +60,7 @@ def errors_of(listed: dict[int, str], fault: str | None) -> bytes:
 
 
 def check_errors(context: Context, what: str, ended: Ended, wanted: bytes) -> None:
-    """Standard error. Where it says more of a TEXT that is no sequence, it names what makes one."""
+    """Standard error. If it says more of a TEXT that is no sequence, it names what makes one."""
     named = wanted == NO_SEQUENCE and all(it in ended.stderr for it in MAKERS)
     if named and ended.stderr.startswith(NO_SEQUENCE.rstrip()):
         wanted = ended.stderr
@@ -141,7 +141,7 @@ class Source:
         return [self.bad.get(at, text) for at, text in enumerate(self.texts)]
 
 
-# In front of others: foreign members, and members that are told once more behind them.
+# In front of others: foreign members, and members that are given once more after them.
 IN_FRONT = (
     '"bbox":[0,0,1,1]',
     '"note":{"a":[1,"b"]}',
@@ -192,7 +192,7 @@ def a_load(chance: random.Random) -> Load:
 
 
 def changed_load(chance: random.Random, load: Load) -> Load:
-    """The words with another option, which changes the texts or not, or another key."""
+    """The options with another one, which changes the texts or not, or another key."""
     others = [
         replace(load, each=chance.choice((1, 2, 4, 7, 1_000))),
         replace(load, replaces=not load.replaces),
@@ -228,7 +228,7 @@ class Session:
 
 
 def play(context: Context, name: str, chance: random.Random, faults: dict[str, str]) -> None:
-    """A TEXT, the same words again, the TEXT mended, with more behind it, and with other words."""
+    """A TEXT, the same options again, the TEXT mended, with more text, and with other options."""
     load = a_load(chance)
     opening = {"key": "o", "edits": [{**OPEN_LAMPS, "time": "when"}]}
     ledger, before = Ledger(), [] if load.opens else [opening]
@@ -260,7 +260,7 @@ def check_sessions(context: Context) -> None:
 
 
 def named_text(name: str, size: int) -> str:
-    """The text of a feature of so many bytes, as it is kept."""
+    """The text of a feature of `size` bytes, as it is kept."""
     made = feature(name, None, {"t": ""})
     return compact({**made, "properties": {"t": "x" * (size - len(compact(made)))}})
 
@@ -270,7 +270,7 @@ def edit_size(text: str) -> int:
 
 
 def check_large_features(context: Context) -> None:
-    """Batches end by their bytes, at the limit and one behind it."""
+    """Batches end by their bytes, at the limit and one after it."""
     ledger = Ledger()
     ledger.apply(OPENING)
     file = context.new_file("large", batch("o", [OPEN_LAMPS]))
@@ -337,7 +337,7 @@ def check_counts(context: Context) -> None:
 LARGEST = ((1, 10_000), (2, 10_000), (3, 2))
 
 
-# Faults of words, files and devices
+# Faults of options, files and devices
 
 
 WRONG_WORDS = """
@@ -447,7 +447,7 @@ def read_terminal(descriptor: int) -> bytes:
         return b""
 
 
-# Streams, hard stops, memory
+# Streams, kills, memory
 
 
 def within_seconds(test: Callable[[], bool]) -> bool:
@@ -525,7 +525,7 @@ def killed(context: Context, file: Path, source: Path, seconds: float) -> bool:
 
 
 def left_rows(context: Context, file: Path) -> list[Rows]:
-    """The rows that a stop has left. They are read in a copy, which SQLite changes."""
+    """The rows that a kill has left. They are read in a copy, which SQLite changes."""
     return kept_rows(copy_file(file, context.folder / "left"))
 
 
@@ -539,7 +539,7 @@ def begins(left: list[Rows], whole: list[Rows]) -> bool:
 
 
 def check_stops(context: Context) -> None:
-    """Loads that are killed at random moments, each gone on with by the same words."""
+    """Loads that are killed at random moments, each continued with the same options."""
     source = text_path(context, "stopped.text", sequence(many(STOPPED_FEATURES)))
     file = context.new_file("whole")
     words = load_words(file, source, "k", *STOPPED_WORDS)

@@ -19,7 +19,7 @@ from harness import Context
 from loading import faults_in, load_words, sequence
 
 PACKAGES = ("gdal-bin", "postgresql", "python3-psycopg2")
-# A table of it is loaded too where it is installed.
+# A table of it is loaded too if it is installed.
 POSTGIS = Path("/usr/share/postgresql/15/extension/postgis.control")
 METRES = ("--open", "--round", "--scale", "1000", "--shift", "412000,5712000")
 SEED, NUMBERS = 39, 120
@@ -39,7 +39,7 @@ EDGES = (
 
 @dataclass(frozen=True)
 class Placing:
-    """The words of a load that say how its numbers are read."""
+    """The options of a load that say how its numbers are read."""
 
     scale: str
     shift: str
@@ -60,13 +60,13 @@ def nearest(number: Fraction) -> int:
 
 
 def in_grid(number: Fraction) -> int | None:
-    """The nearest whole number, where that is a coordinate."""
+    """The nearest whole number, if that is a coordinate."""
     found = nearest(number)
     return found if abs(found) <= GREATEST else None
 
 
 def placed(text: str, placing: Placing, axis: int) -> int | str:
-    """The millimetres that a number comes to, or its fault."""
+    """The millimetres of a number, or its fault."""
     if len(text) > MOST_CHARACTERS:
         return "too_many_digits"
     shift, scale = Fraction(placing.shift_of(axis)), Fraction(placing.scale)
@@ -139,7 +139,7 @@ def check_placing(context: Context, number: int, placing: Placing, chance: Rando
 
 
 # Numbers whose millimetres, or faults, are written down: the scale, the shift, whether it rounds,
-# the axis (easting, northing, height), the number, and what it comes to.
+# the axis (easting, northing, height), the number, and its result.
 WRITTEN = (
     ("1000", "-500000.125,0", False, 0, "412345.678", 912345803),
     ("1000", "0,0", False, 0, "-1.5e3", -1500000),
@@ -223,7 +223,7 @@ def check_fractions(context: Context) -> None:
 
 
 def check_words(context: Context) -> None:
-    """Words that are no scale, no shift or no fate of fractions are usage faults, before all else."""
+    """Options that are no scale, shift or fate of fractions are usage faults, before all else."""
     absent = context.folder / "absent"
     bad: list[list[str]] = [["--scale", it] for it in ("0", "-1", "", "1e-10", "1e27", "01", "1 ")]
     bad += [["--shift", it] for it in ("1", "1;2", ",", "1,2,3", "1,1e18")]
@@ -242,7 +242,7 @@ def check_other_words(context: Context) -> None:
     first = context.run(*words, "--scale", "2", sent=text)
     context.check("again", context.run(*words, "--scale", "2.0", sent=text), first)
     context.run(*words, "--scale", "4", sent=text, status=1, code="key_used")
-    # A file of metres without the words is refused, and nothing of it is in.
+    # A file of metres without the options is refused, and nothing of it is in.
     context.run(*load_words(file, None, "l"), sent=text, status=1, code="bad_feature 1 fraction")
 
 
@@ -263,7 +263,7 @@ def lamps_of(context: Context, name: str, source: str) -> dict[str, tuple[int, .
 
 
 def check_layers(context: Context) -> None:
-    """A GeoPackage in metres (EPSG:25832), and where PostGIS is installed a table of it, come in to
+    """A GeoPackage in metres (EPSG:25832), and if PostGIS is installed a table of it, come in to
     the millimetre by `ogr2ogr`."""
     chance = Random(SEED)
     positions = [

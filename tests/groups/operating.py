@@ -1,7 +1,7 @@
-"""Commands of docs/OPERATING.md as they stand there: backup, rotation, restore, who may write.
+"""Commands of docs/OPERATING.md as they are there: backup, rotation, restore, who may write.
 
 A town is served by the line of its unit, its journal is copied by rsync over two rotations, and is
-restored. Then what streetmap-rotate-journal does where it is killed, repeated or refused; and what
+restored. Then what streetmap-rotate-journal does if it is killed, repeated or refused; and what
 is reported of a unit that fails.
 """
 

@@ -206,7 +206,7 @@ def check_verified(context: Context) -> None:
 
 
 def check_words(context: Context) -> None:
-    """The words of the program, with a journal and with an empty or a missing one."""
+    """The arguments of the program, with a journal and with an empty or a missing one."""
     settings = (REPOSITORY / "deploy" / "town.conf").read_text()
     without = "serve /var/lib/streetmap/town --port 8080 --clients 64 --base http://localhost:8080/"
     path = "/var/lib/streetmap/town journal"
@@ -327,7 +327,7 @@ class FreshRoot:
         self.run("dpkg", "--force-confdef", "--force-confold", "--install", "/package.deb")
 
     def started(self) -> list[str]:
-        """The words that the unit starts for the file `town`, by the settings that are there."""
+        """The arguments that the unit starts for the file `town`, by the settings that it has."""
         settings = self.path("/etc/streetmap/town.conf").read_text()
         return started(self.path("/lib/systemd/system/streetmap@.service"), settings)
 
@@ -399,7 +399,7 @@ def check_removal(root: FreshRoot) -> None:
 
 
 def check_purge(root: FreshRoot, package: Path) -> None:
-    """A purge that can ask nobody keeps the towns, which the next installation serves. It deletes
+    """A purge that can show no question keeps the towns for the next installation. It deletes
     them if that was answered beforehand, by the documented command."""
     data = root.path("/var/lib/streetmap/town")
     folder, enabled = root.path("/etc/streetmap"), root.path(ENABLED)
@@ -464,7 +464,7 @@ def check_map(root: FreshRoot, server: int) -> None:
 
 
 def hindrance(folder: Path) -> str | None:
-    """Makes a fresh Debian in the folder; or says why there is none."""
+    """Makes a fresh Debian in the folder; or says why it could not."""
     if os.geteuid() != 0:
         return "that needs root"
     words = ["debootstrap", "--variant=minbase", "bookworm", str(folder)]

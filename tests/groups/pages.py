@@ -1,7 +1,7 @@
 """Pages of boxes as features come, move and go, beside what plain Python finds.
 
 A first collection has more features than a chunk of the index holds, half of them under ids that
-follow their places. A second one has more than are learnt in order of their ids, and its rows stand
+follow their places. A second one has more than are learnt in order of their ids, and its rows are
 among those of a third.
 """
 
@@ -112,7 +112,7 @@ def check_changes(context: Context) -> None:
 
 
 def check_many(context: Context) -> None:
-    """A large collection whose rows stand among those of another, both learnt from the file."""
+    """A large collection whose rows are among those of another, both learnt from the file."""
     towns = [Town(2, "lamps"), Town(3, "trees")]
     edits = towns[0].scattered(MANY) + towns[1].scattered(FEW)
     towns[0].random.shuffle(edits)

@@ -76,7 +76,7 @@ def with_library(library: Path, **numbers: int) -> dict[str, str]:
 
 
 def requests_cut_at_each_byte(context: Context) -> None:
-    """The stream ends, or its next read fails, behind each of its bytes: each whole request is
+    """The stream ends, or its next read fails, after each of its bytes: each whole request is
     answered, and of the next one nothing is applied."""
     pairs, copies, library = stream(), Copies(context), context.shim("fail")
     sent = b"".join(request for request, _ in pairs)
@@ -110,7 +110,7 @@ def requests_in_pieces(context: Context) -> None:
 
 
 def writes_that_stop(context: Context) -> None:
-    """Behind each byte a writer of answers, lines or an export fails, or takes no more."""
+    """After each byte a writer of answers, lines or an export fails, or takes no more."""
     ledger = Ledger()
     ledger.answer(BATCH)
     filled = context.new_file("filled", BATCH.sent)
@@ -125,7 +125,7 @@ def writes_that_stop(context: Context) -> None:
 
 
 def answers_that_stop(context: Context, library: Path, name: str) -> None:
-    """What is written is a beginning of the answers, and the batch is applied before its answer."""
+    """What is written is a prefix of the answers, and the batch is applied before its answer."""
     pairs, copies = stream(), Copies(context)
     sent, answers = (b"".join(texts) for texts in zip(*pairs, strict=True))
     for room in range(0, len(answers), 1 if name == "WRITES" or context.slow else 7):
@@ -145,7 +145,7 @@ def check_written(
 
 
 def lines_cut_at_each_byte(context: Context) -> None:
-    """Lines whose next read fails behind each byte: those that ended are answered."""
+    """Lines whose next read fails after each byte: those that ended are answered."""
     library = context.shim("fail")
     for size in range(len(LINES)):
         ended = context.start("lines", sent=LINES, env=with_library(library, READS=size))
@@ -177,7 +177,7 @@ def a_client_in_pieces(context: Context) -> None:
 
 
 def a_client_a_byte_at_a_time(context: Context) -> None:
-    """Each byte comes once the ones before were read, and another client asks in between."""
+    """Each byte comes once the ones before were read; another client's request comes in between."""
     pairs, copies = stream(), Copies(context)
     with context.serve(copies.fresh(), "--clients", "4", "--base", "http://localhost/") as server:
         with server.connect() as client, server.connect() as other:

@@ -4,9 +4,10 @@ import json
 import os
 import subprocess
 from pathlib import Path
+from typing import IO
 
 from examples import text_path
-from harness import Context, Word
+from harness import Context, Word, first_line
 from messages import OPEN_LAMPS, batch, get, insert_lamp, open_collection
 
 MOST_BYTES = 8_388_608
@@ -60,7 +61,7 @@ HELPS = {
     "help import": "streetmap import [OPTIONS] --key <key> --collection <collection> <file> <text>",
     "lines -h": "streetmap lines [OPTIONS]",
 }
-# Words that are refused, and the sentence on them.
+# Arguments that are refused, and the sentence on them.
 MISTAKES = {
     "create a --prot": "unexpected argument '--prot' found. For help: streetmap help create",
     "serve a": "the following required arguments were not provided: --port <port>."
@@ -106,7 +107,7 @@ def check_help(context: Context) -> None:
 
 
 def check_mistakes(context: Context) -> None:
-    """The second line on words that are refused, with --explain and on a terminal."""
+    """The second line on arguments that are refused, with --explain and on a terminal."""
     for line, sentence in MISTAKES.items():
         context.explain(*line.split(), status=2, code="usage", sentence=sentence)
     shown = context.on_terminal("create", "a", "--prot")
@@ -262,8 +263,8 @@ def check_refused_imports(context: Context, file: Path, text: Path) -> None:
 
 
 def check_progress(context: Context) -> None:
-    """Lines on standard error report how far an import and an export are, where they are asked
-    for; all else is as without them."""
+    """Lines on standard error report how far an import and an export are, if they are
+    requested; all else is as without them."""
     features = [{"type": "Feature"}] * 2_500
     many = json.dumps({"type": "FeatureCollection", "features": features})
     file, text = context.new_file("progress.db"), text_path(context, "many.json", many)
@@ -311,7 +312,7 @@ def check_standard_input(context: Context) -> None:
 
 
 def check_degrees(context: Context) -> None:
-    """A load whose coordinates all lie within 360 of 0 is asked about degrees, for people alone."""
+    """A load with all coordinates within 360 of 0 gets a question on degrees, for people only."""
     near, far = LAMP % (b"L1", b"-360,360"), LAMP % (b"L2", b"0,361")
 
     def check(what: str, words: tuple[str, ...], sent: bytes, wanted: bytes) -> None:
@@ -354,6 +355,33 @@ def check_progress_on_terminal(context: Context) -> None:
     context.check("a fault takes its line", wanted_line in shown, True)
 
 
+def check_flushes(context: Context) -> None:
+    """Each answer comes before the next request is sent."""
+    file = context.new_file("flushed", batch("o", [OPEN_LAMPS]))
+    cases: list[tuple[list[Word], bytes]]
+    cases = [(["pipe", file], get(ITEMS)), (["lines"], b"page lamps\n")]
+    for words, sent in cases:
+        wanted = context.run(*words, sent=sent).splitlines(keepends=True)[0]
+        given = [str(context.program), *map(str, words)]
+        with subprocess.Popen(given, stdin=subprocess.PIPE, stdout=subprocess.PIPE) as process:
+            assert process.stdin is not None and process.stdout is not None
+            for number in range(3):
+                process.stdin.write(sent)
+                process.stdin.flush()
+                line = first_line(process.stdout, context.seconds)
+                context.check(f"{words[0]}: answer {number + 1}", line, wanted)
+                if "pipe" in words:
+                    read_rest(process.stdout)
+            process.stdin.close()
+
+
+def read_rest(output: IO[bytes]) -> None:
+    """Reads what follows the first line of an HTTP answer."""
+    fields = [*iter(output.readline, b"\r\n")]
+    length = next(it for it in fields if it.startswith(b"Content-Length: "))
+    output.read(int(length.split()[1]))
+
+
 def run(context: Context) -> None:
     check_wrong_commands(context)
     check_mistakes(context)
@@ -361,6 +389,7 @@ def run(context: Context) -> None:
     check_help(context)
     check_faults_of_files(context)
     check_pipe(context)
+    check_flushes(context)
     check_imports(context)
     check_progress(context)
     check_standard_input(context)

@@ -1,7 +1,7 @@
 """Rows of queries: the first fault, the links of pages, ids that come back from them.
 
 A row (examples/queries.jsonl) has a query, and its fault (`answer`), or the query of its page's
-link to itself (`self`), or that of the link to the page behind the id `last` (`next`).
+link to itself (`self`), or that of the link to the page after the id `last` (`next`).
 """
 
 from urllib.parse import parse_qs, quote_plus
@@ -80,8 +80,8 @@ OTHER_IDS += ["€", "日本", "\ufffd", "\U0010ffff", "😀+😀", "x" * 128]
 
 
 def check_ids_come_back(context: Context) -> None:
-    """Each id stands in the link to the page behind it, and the page that this link asks for
-    begins behind it."""
+    """Each id is in the link to the page after it, and the page that this link requests
+    begins after it."""
     ids = sorted(PRINTABLE + OTHER_IDS, key=str.encode)
     queries = ["limit=1", *(f"after={form_value(it)}&limit=1" for it in ids[:-1])]
     found = links(context, "ids", ids, list(queries))

@@ -1,13 +1,13 @@
-"""Refused allocations: the same answers, or want of memory and the state as it was.
+"""Failed allocations: the same answers, or a fault of memory and the state as it was.
 
-Refused are those of `lines`; of `pipe` over a file, and of `serve` for one of many clients, with a
-journal and without; and of `create`, `import`, `load`, `apply`, `batches`, `export` and `check`.
-A stream is answered as with memory, or by a beginning of that and then the 503 or 500 that closes
-the connection, or it ends for want of memory before the first answer; one of many clients may be
-let go behind any answer. Opened again with memory, the file holds the state before the batch or the
-one behind it, and the latter where its 200 was begun.
-The short form refuses some of the allocations, the long one each; it also builds two tests, whose
-allocations it refuses.
+They fail in `lines`; in `pipe` over a file, and in `serve` for one of many clients, with a
+journal and without; and in `create`, `import`, `load`, `apply`, `batches`, `export` and `check`.
+A stream is answered as with memory, or by a prefix of that and then the 503 or 500 that closes
+the connection, or it ends out of memory before the first answer; one of many clients may be
+let go after any answer. Opened again with memory, the file holds the state before the batch or the
+one after it, and the latter if its 200 was begun.
+The short form fails some of the allocations, the long one each; it also builds two tests, whose
+allocations it fails.
 """
 
 import contextlib
@@ -26,9 +26,9 @@ from messages import Edit, batch, delete, feature, get, open_collection, point, 
 from sqlite_file import copy_file, forget
 
 PACKAGES = ("gcc", "libc6-dev")
-# The short form refuses one of so many allocations.
+# The short form fails one of N allocations.
 STRIDE = 131
-# What a command that ends for want of memory says last; `apply` names its line.
+# What a command that ends out of memory says last; `apply` names its line.
 NO_MEMORY = re.compile(rb"streetmap: memory( [0-9]+)?\n$")
 REFUSED = b"refused\n"
 
@@ -37,7 +37,7 @@ def lamp(name: str, x: int, y: int) -> Edit:
     return feature(name, point(x, y), {"when": "2024-05-01"})
 
 
-# None of its properties may be a time, so it is read again where its time is asked for.
+# None of its properties may be a time, so it is read again if a query has a time.
 POLE = feature("P1", point(6, 6), {"kind": "pole"})
 
 
@@ -76,21 +76,21 @@ JOURNAL = b"2\t" + SECOND.partition(b"\r\n\r\n")[2] + b"\n"
 
 @dataclass
 class Refuser:
-    """Runs commands of which one allocation is refused."""
+    """Runs commands of which one allocation fails."""
 
     context: Context
     library: Path
     first: Path
 
     def environment(self, number: int) -> dict[str, str]:
-        """That in which this allocation is refused; 0 refuses none."""
+        """That in which this allocation fails; with 0 none does."""
         return os.environ | {"LD_PRELOAD": str(self.library), "REFUSE": str(number)}
 
     def start(self, number: int, *words: Word, sent: bytes = b"") -> Ended:
         return self.context.start(*words, sent=sent, env=self.environment(number))
 
     def each(self, what: str, run: Callable[[int], Ended]) -> Iterator[tuple[int, Ended]]:
-        """Runs of which one allocation is refused, up to the first run that has not so many."""
+        """Runs of which one allocation fails, up to the first run that has fewer."""
         step = 1 if self.context.slow else STRIDE
         number = 1
         while REFUSED in (ended := run(number)).stderr:
@@ -111,7 +111,7 @@ def wants_memory(ended: Ended) -> bool:
 
 
 def check_lines(refuser: Refuser) -> None:
-    """`lines` ends as with memory, or for want of it behind some whole lines."""
+    """`lines` ends as with memory, or out of memory after some whole lines."""
     sent, counted = (EXAMPLES / "three.lines").read_bytes(), Counter[str]()
     whole = refuser.start(0, "lines", sent=sent)
     refuser.context.check("lines with memory", whole.returncode, 0)
@@ -125,7 +125,7 @@ def check_lines(refuser: Refuser) -> None:
 
 
 def check_create(refuser: Refuser) -> None:
-    """`create` leaves a file that opens with no collection where it reports no fault, and else
+    """`create` leaves a file that opens with no collection if it reports no fault, and else
     that or none of ours."""
     path, counted = refuser.context.folder / "made", Counter[str]()
     look = get("/collections")
@@ -172,7 +172,7 @@ def serve_one(refuser: Refuser, number: int, file: Path, *more: str) -> Ended:
 
 
 def how_it_ended(ended: Ended, whole: Ended, lets_go: bool) -> str | None:
-    """How a stream of answers ended, where it may end so."""
+    """How a stream of answers ended, if it may end so."""
     if ended.stdout == whole.stdout and ended.returncode == 0:
         return "as with memory"
     if wants_memory(ended) and not ended.stdout:
@@ -215,8 +215,8 @@ def check_stream(refuser: Refuser, what: str, run: Callable[[int, Path], Ended])
 
 def check_journal(refuser: Refuser) -> None:
     """`serve --journal` answers as `serve` does, and the journal has each batch of the file: one
-    for whose line there is no memory is not applied. Where the server does not come to listen it
-    has a beginning."""
+    whose line fails to get memory is not applied. If the server does not come to listen it
+    has a prefix."""
     journal = refuser.context.folder / "town.journal"
 
     def serve(number: int, file: Path) -> Ended:
@@ -265,7 +265,7 @@ def check_command(refuser: Refuser, name: str, *more: Word) -> None:
     print(f"  {name}: {dict(counted)}")
 
 
-# Tests that make each refused call again over the keeper in memory, and one that serves a stream.
+# Tests that make each failed call again over the keeper in memory, and one that serves a stream.
 TESTS_CRATE = "streetmap_memory_tests"
 TESTED = (
     "answers::a_line_refused_for_memory_is_answered_again",
@@ -274,7 +274,7 @@ TESTED = (
 
 
 def check_test(refuser: Refuser, crate: str, test: str) -> None:
-    """A proved test passes whatever allocation is refused. It is built first, which takes long."""
+    """A proved test passes whatever allocation fails. It is built first, which takes long."""
     folder = TESTS.parent / "crates" / crate
     built = subprocess.run(["rt", "test"], cwd=folder, capture_output=True, check=False)
     refuser.context.check(f"{crate} is built", built.returncode, 0)

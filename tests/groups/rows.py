@@ -39,7 +39,7 @@ def asked_of_feature(text: str, wanted: str) -> Asked:
 
 
 def points(before: int, *last: str) -> str:
-    """A multipoint of so many positions and these."""
+    """A multipoint of `before` positions and these."""
     positions = ",".join([*["[1,2]"] * before, *last])
     return f'{{"type":"MultiPoint","coordinates":[{positions}]}}'
 
@@ -79,7 +79,7 @@ def limits_of_positions() -> Iterator[Asked]:
 
 
 def limits_of_edits() -> Iterator[Asked]:
-    """Batches of as many edits as there may be and of one more. Edits are counted behind the key,
+    """Batches of as many edits as there may be and of one more. Edits are counted after the key,
     and before they are read."""
     opened = batch_line("b1", [OPEN_LAMPS])
     turns = [put("insert", "lamps", feature("T")), delete("lamps", "T")] * (MOST_EDITS // 2 + 1)
@@ -105,7 +105,7 @@ def check_answers(context: Context) -> None:
 
 @dataclass(frozen=True)
 class Page:
-    """A query, the ids that its page shows, how many are selected, and the last id shown where
+    """A query, the ids that its page shows, how many are selected, and the last id shown if
     more follow."""
 
     query: str
@@ -114,7 +114,7 @@ class Page:
     following: str | None = None
 
 
-# Of so many features, those of a thousand numbers in a row, a millimetre apart.
+# Of this number of features, those of a thousand numbers in a row, a millimetre apart.
 PAGES = {
     2_500: [
         Page("bbox=0,0,999,2&limit=3&after=p2499", ["p2500"], 2_500),
@@ -159,7 +159,7 @@ SEVEN = {
 
 
 def check_walks(context: Context) -> None:
-    """Walks over the pages of seven features, of which five meet a box: each page is asked behind
+    """Walks over the pages of seven features, of which five meet a box: each page is read after
     the one before."""
     inserted = [put("insert", "seven", feature(*it)) for it in SEVEN.items()]
     opened = batch_line("seven", [open_collection("seven"), *inserted])

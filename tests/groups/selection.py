@@ -135,8 +135,8 @@ def a_hedge(chance: random.Random, number: int) -> dict[str, Any]:
 
 
 def hedges(context: Context) -> None:
-    """Pages whose box so many lines cross, beyond two of its edges, that the store finds them row by
-    row, also where a row that no answer needs cannot be read. Of those that cross one edge alone
+    """Pages whose box enough lines cross, beyond two edges, that the store finds them row by
+    row, also if a row that no answer needs cannot be read. Of those that cross one edge alone
     only what is shown is read."""
     chance, ledger = random.Random(9), Ledger()
     numbers = [*range(HEDGE_COUNT + 5)]

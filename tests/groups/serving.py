@@ -1,4 +1,4 @@
-"""A file over sockets: clients in turn and at once, long heads, --log, hard stops."""
+"""A file over sockets: clients in turn and at once, long heads, --log, kills."""
 
 import contextlib
 import socket

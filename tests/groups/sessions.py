@@ -1,4 +1,4 @@
-"""Random sessions of batches, pages and look-ups, to the byte, beside plain rules."""
+"""Random sessions of batches, pages and lookups, to the byte, beside plain rules."""
 
 import random
 from pathlib import Path
@@ -81,7 +81,7 @@ def an_insertion(chance: random.Random, name: str, identity: str) -> dict[str, A
 
 def a_run(chance: random.Random, key: str) -> Request:
     """A batch that inserts features into one collection, which a file takes 25 by one statement:
-    mostly one edit is another, or is refused where the time or the id of a feature is not taken."""
+    mostly one edit is another, or is refused if the time or the id of a feature is not taken."""
     name, ids = chance.choice(NAMES[:2]), chance.sample(RUN_IDS, chance.choice((7, 24, 25, 26, 51)))
     edits = [an_insertion(chance, name, it) for it in ids]
     others = [
@@ -98,7 +98,7 @@ def a_run(chance: random.Random, key: str) -> Request:
 
 
 def runs(chance: random.Random) -> list[Request]:
-    """Two collections, one of them with times, batches of many insertions, and looks."""
+    """Two collections, one of them with times, batches of many insertions, and reads."""
     opened = [open_collection(NAMES[0], time="when"), open_collection(NAMES[1])]
     session = [Request("POST", "/batches", {"key": "opened", "edits": opened})]
     for turn in range(12):
@@ -119,7 +119,7 @@ def a_request(chance: random.Random) -> Request:
 
 
 def as_line(asked: Request) -> str | None:
-    """The line that asks the same of a ledger in memory; none where no line does."""
+    """The line that requests the same of a ledger in memory; none if no line does."""
     if asked.batch is not None:
         return f"batch {asked.text}"
     parts = asked.path.split("/")

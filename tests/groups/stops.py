@@ -1,10 +1,10 @@
-"""Stops at calls that write or synchronise the file: what opens again is whole.
+"""Crashes at calls that write or synchronise the file: what opens again is whole.
 
-A stop is before the call, within it, or so that what was never synchronised is lost. Stopped are
+A crash is before the call, within it, or loses what was never synchronised. The programs are
 `create`; `pipe` on a stream of batches, one of them of 40 edits, with a page between them; `pipe`
-where it opens the file that such a stop left; and `pipe` where it carries a file of format 1 over.
-What opens again is the state of a beginning of the batches that has each acknowledged one, and what
-was being carried over has the rows of format 1 or of format 2, whole. The short form stops at some
+as it opens the file that such a crash left; and `pipe` as it migrates a file of format 1.
+What opens again is the state of a prefix of the batches that has each acknowledged one, and what
+was being migrated has the rows of format 1 or of format 2, whole. The short form crashes at some
 of the calls, the long one at each.
 """
 
@@ -31,7 +31,7 @@ from sqlite_file import Rows, copy_file, forget, kept_rows, make_format_1, rows
 PACKAGES = ("gcc", "libc6-dev")
 STOPPED = 86
 WAYS = ("before", "within", "lost")
-# In the short form, of so many calls one is stopped: in all, and in opening what a stop left.
+# In the short form, one of N calls crashes: in all, and in opening what a crash left.
 STRIDE, STRIDE_AGAIN = 7, 11
 
 
@@ -60,13 +60,13 @@ LOOKS = b"".join(
     )
 )
 PAGE = get("/collections/lamps/items?bbox=0,0,9,9&limit=1")
-# The page stands behind so many batches of the stream.
+# The number of batches of the stream before the page.
 BEFORE_PAGE = 2
 
 
 @dataclass
 class Stopper:
-    """Runs commands that are stopped at one of their calls."""
+    """Runs commands that crash at one of their calls."""
 
     context: Context
     library: Path
@@ -83,8 +83,8 @@ class Stopper:
     def stops(
         self, words: list[Word], sent: bytes, how: str, begin: Callable[[], Any], stride: int
     ) -> Iterator[tuple[int, Ended]]:
-        """Runs that are stopped at one call each, each over what `begin` makes of the file; the
-        last one meets no such call, and ends as without a stop."""
+        """Runs that crash at one call each, each over what `begin` makes of the file; the
+        last one meets no such call, and ends as without a crash."""
         step = 1 if self.context.slow else stride
         at = 1 + WAYS.index(how) % step
         while True:
@@ -98,7 +98,7 @@ class Stopper:
 
 
 def check_create(stopper: Stopper, opening: bytes) -> None:
-    """A stop of `create` leaves the opening state, or no file of ours."""
+    """A crash of `create` leaves the opening state, or no file of ours."""
     path, counted = stopper.context.folder / "made", Counter[str]()
     for how in WAYS:
         stops = stopper.stops(["create", path], b"", how, lambda: forget(path), STRIDE)
@@ -111,7 +111,7 @@ def check_create(stopper: Stopper, opening: bytes) -> None:
 
 
 def check_batches(stopper: Stopper, first: Path, states: list[bytes]) -> None:
-    """Stops within the stream, and then within the opening of what each of them left."""
+    """Crashes within the stream, and then within the opening of what each of them left."""
     stream = b"".join([*BATCHES[:BEFORE_PAGE], PAGE, *BATCHES[BEFORE_PAGE:]])
     folder, counted = stopper.context.folder, Counter[str]()
     path, left = folder / "town", folder / "left"
@@ -133,7 +133,7 @@ def check_batches(stopper: Stopper, first: Path, states: list[bytes]) -> None:
 
 
 def check_stopped_stream(stopper: Stopper, what: str, ended: Ended) -> int:
-    """How many batches a stopped run has acknowledged."""
+    """The number of batches that a crashed run has acknowledged."""
     answers = whole_answers(ended.stdout)
     statuses = [answer.status for answer in answers]
     stopper.context.check(f"{what}: statuses", statuses, [200] * len(answers))
@@ -141,7 +141,7 @@ def check_stopped_stream(stopper: Stopper, what: str, ended: Ended) -> int:
 
 
 def check_openings(stopper: Stopper, left: Path, path: Path, how: str, allowed: list[bytes]) -> int:
-    """Stops within the opening of what a stop left; how many there were."""
+    """Crashes within the opening of what a crash left; their number."""
     count = 0
     begin = lambda: copy_file(left, path)
     for at, _ in stopper.stops(["pipe", path], LOOKS, how, begin, STRIDE_AGAIN):
@@ -152,7 +152,7 @@ def check_openings(stopper: Stopper, left: Path, path: Path, how: str, allowed: 
 
 
 def check_sent_again(stopper: Stopper, what: str, path: Path, last: bytes) -> None:
-    """All batches sent again over what a stop left give their replies and the last state."""
+    """All batches sent again over what a crash left give their replies and the last state."""
     ended = stopper.run("pipe", path, sent=b"".join(BATCHES))
     serials = [answer.json()["serial"] for answer in whole_answers(ended.stdout)]
     stopper.context.check(f"{what}: sent again", serials, list(range(1, len(BATCHES) + 1)))
@@ -167,7 +167,7 @@ def rows_in(context: Context, source: Path) -> list[Rows]:
 
 
 def check_carrying(stopper: Stopper, new: Path) -> None:
-    """Stops within the opening of a file of format 1, made of one of format 2."""
+    """Crashes within the opening of a file of format 1, made of one of format 2."""
     context, counted = stopper.context, Counter[str]()
     old, path = copy_file(new, context.folder / "old"), context.folder / "carried"
     make_format_1(old)

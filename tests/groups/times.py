@@ -2,7 +2,7 @@
 
 A row (examples/times.jsonl) has a text, and the first and the last nanosecond since 1970 that it
 means as the time property of a feature (`property`) and as a `datetime` (`interval`): null for an
-open end, and in place of both where it is refused. Or it has two texts, and whether they meet. What
+open end, and in place of both if it is refused. Or it has two texts, and whether they meet. What
 is meant is found by the seconds that a file keeps, and by pages that begin and end at nanoseconds.
 """
 

@@ -1,4 +1,4 @@
-"""The scripts behind make: its list of targets, a build with no change, wrong bodies by name."""
+"""The scripts that make runs: its list of targets, a build with no change, wrong bodies by name."""
 
 import importlib.util
 import re

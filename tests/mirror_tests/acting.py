@@ -108,7 +108,7 @@ class Maker:
 
 
 def check_refused(mirror: Mirror, lines: list[Any], edits: list[Value], refused: Refused) -> None:
-    """A batch that the model refuses, as the next line behind others: nothing of them is kept."""
+    """A batch that the model refuses, as the next line after others: nothing of them is kept."""
     before = mirror.state()
     line = mirror.line(batch_text("refused", edits))
     place = f" {refused.body['place']}" if "place" in refused.body else ""
@@ -118,7 +118,7 @@ def check_refused(mirror: Mirror, lines: list[Any], edits: list[Value], refused:
 
 
 def check_acting(context: Context, cluster: Database, rounds: int) -> None:
-    """Groups of batches; each batch that is refused is tried behind those of its group."""
+    """Groups of batches; each batch that is refused is tried after those of its group."""
     mirror, maker = Mirror.new(context, cluster, "acting"), Maker(rounds)
     number = 0
     for at in range(rounds):

@@ -68,7 +68,7 @@ def areas_meet(one: Area, other: Area) -> bool:
 
 
 def has_inside(one: Area, other: Area) -> bool:
-    """Whether a position of the other lies inside a polygon of the first. Where no segments meet,
+    """Whether a position of the other lies inside a polygon of the first. If no segments meet,
     one position of each path shows it for the whole path."""
     starts = {start for start, _ in other.segments}
     return any(

@@ -91,7 +91,7 @@ class MirrorSite:
         return int(lines[-1].partition(b"\t")[0]) if lines else 0
 
     def mirrored(self) -> int:
-        """The serial of the mirror's state; -1 where the database does not answer."""
+        """The serial of the mirror's state; -1 if the database does not answer."""
         try:
             ((serial,),) = self.database.ask(SERIAL)
             return int(str(serial))

@@ -37,7 +37,7 @@ def batch_text(key: str, edits: list[Value]) -> bytes:
 
 
 def filled(geometry: Geometry | None) -> Geometry | None:
-    """A geometry as PostGIS has it: where some positions have a height, others have 0."""
+    """A geometry as PostGIS has it: if some positions have a height, others have 0."""
     found = list(vertices(geometry))
     if geometry is None or not any(len(it) == 3 for it in found):
         return geometry

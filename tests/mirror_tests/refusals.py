@@ -119,7 +119,7 @@ def check_faults(context: Context, front: Front) -> None:
 
 
 def check_texts(context: Context, front: Front) -> None:
-    """Texts that look like SQL are values like others: as values, as names, and wherever a
+    """Texts that resemble SQL are values like others: as values, as names, and wherever a
     parameter takes a text."""
     made = [
         feature(f"H{number:02}", None, {"said": text, text: number})

@@ -1,5 +1,5 @@
 """Lines that act once, that are refused by name, and that others put in; the role that only reads;
-how a mirror is made over a table that has lines, and its words."""
+how a mirror is made over a table that has lines, and its options."""
 
 import re
 import subprocess
@@ -36,7 +36,7 @@ BAD_TEXTS = (
 
 
 def check_bad_texts(mirror: Mirror) -> None:
-    """A line that cannot be read is refused, behind others too, and changes nothing."""
+    """A line that cannot be read is refused, after others too, and changes nothing."""
     good = [mirror.line(batch_text(f"g{at}", [lamp(at + 50)]), mirror.serial + at) for at in (1, 2)]
     before = mirror.state()
     for text in BAD_TEXTS:
@@ -87,7 +87,7 @@ def check_by_hand(mirror: Mirror) -> None:
 
 
 def refused_code(database: Database, query: str) -> str | None:
-    """The SQLSTATE of a query by the role that only reads; None where it succeeds."""
+    """The SQLSTATE of a query by the role that only reads; None if it succeeds."""
     connection = psycopg2.connect(database.dsn)
     try:
         with connection, connection.cursor() as cursor:
@@ -154,7 +154,7 @@ class Journal:
         self.path.write_bytes(b"".join(lines))
 
     def row(self, what: str, words: tuple[str, ...], ends: str | None, serial: int | None) -> None:
-        """Puts the journal in. Wanted: the fault, and the serial of the mirror, if there is one."""
+        """Puts the journal in. Wanted: the fault, and the serial of the mirror, if any."""
         script = Script(self.context, SCRIPT)
         once = () if "--renew" in words else ("--once",)
         status, said = script.ends(self.path, self.database.dsn, *once, *words)
@@ -166,7 +166,7 @@ class Journal:
 
 
 def check_made_later(context: Context, cluster: Database) -> None:
-    """A mirror over a table that has lines; its words; a journal that lacks its first lines."""
+    """A mirror over a table that has lines; its options; a journal that lacks its first lines."""
     journal = Journal.new(context, cluster, "mirror_later")
     row, mirrored = journal.row, ("--features", *SYSTEM)
     journal.write(LINES)
@@ -265,7 +265,7 @@ def check_towns(context: Context, cluster: Database) -> None:
 
 
 def documented_words(context: Context) -> list[str]:
-    """The words of MIRROR in README.md, which the settings show and the unit takes."""
+    """The options of MIRROR in README.md, which the settings show and the unit takes."""
     (words,) = re.findall(r"(?m)^MIRROR=(.*)$", (DEPLOY / "postgis" / "README.md").read_text())
     settings = (DEPLOY / "town.conf").read_text()
     context.check("the words in the settings", f"{words}." in settings, True)

@@ -147,7 +147,7 @@ def check_ogr(tools: Tools) -> None:
 
 
 def check_qgis(tools: Tools) -> None:
-    """QGIS opens views, counts, reads all, asks boxes and filters, and draws."""
+    """QGIS opens views, counts, reads all, requests boxes and filters, and draws."""
     folder = tools.context.folder
     words = ["127.0.0.1", str(tools.database.port), tools.database.name]
     words += [str(folder / "mirror.png"), str(folder / "mirror.qgs"), office(GROUND)]

@@ -17,7 +17,7 @@ WRITES = 60
 
 
 def check_pages(context: Context, front: Front) -> None:
-    """Pages of the mirror are those of the server where both can answer."""
+    """Pages of the mirror are those of the server if both can answer."""
     asked = front.asked
     for name in front.kept:
         plain = asked.all_items(name, limit=1000)
@@ -202,7 +202,7 @@ def check_walks(context: Context, front: Front) -> None:
 
 
 def check_serials(context: Context, front: Front) -> None:
-    """What a walk is told, and that a write to another collection does not end it."""
+    """What a walk is answered, and that a write to another collection does not end it."""
     page = json_of(front.asked.ask("/collections/walked/items", sortby="rank", limit=20))
     following = next_link(page) or ""
     one = insert("lamps", feature("walk-1", None, {}))

@@ -13,7 +13,7 @@ from operating_tests.machine import DEPLOY
 from units import unit_lines
 
 UNIT = "streetmap@town.service"
-# The rule: so many MB, and bytes a feature. What was measured: features, and MB.
+# The rule: N MB, and bytes a feature. What was measured: features, and MB.
 RULE = re.compile(r"([0-9,]+)\s+MB\s+and\s+([0-9,]+)\s+bytes\s+a\s+feature")
 MEASURED = re.compile(
     r"(?m)^\| ([0-9,]+0) \|(?: [0-9.,]+ \|){3} ([0-9,]+) \| [0-9.]+ \| [0-9.]+ \|$"

@@ -3,7 +3,7 @@
 It is called as `systemctl.py MACHINE PROGRAM start|stop|restart|is-active .. streetmap@town`.
 The server goes on when this has ended; its process is named in a file of the machine. A file
 `kill-at` names a command at which the caller is killed: after a stop, and before a start. While
-there is a file `is-restarting`, the unit waits to be started again after a crash.
+a file `is-restarting` exists, the unit waits to be started again after a crash.
 """
 
 import contextlib
@@ -59,7 +59,7 @@ def stop(machine: Path) -> None:
 
 
 def kill_caller(machine: Path, command: str) -> None:
-    """Kills the process that has called this, once, if that is asked for at this command."""
+    """Kills the process that has called this, once, if that is requested at this command."""
     asked = machine / "kill-at"
     if asked.exists() and asked.read_text() == command:
         asked.unlink()

@@ -1,9 +1,9 @@
 /* Has the reads of standard input fail once READS bytes were read, or the writes of standard output
    once WRITES bytes were written. A number that is not given lets all pass.
 
-   Of the file whose path is FILE, where one is given, the writes fail once FILE_BYTES bytes were
+   Of the file whose path is FILE, if one is given, the writes fail once FILE_BYTES bytes were
    written, FILE_FAILS times, and then pass again. For each of its writes that passes a byte "w" is
-   put behind the file CALLS, and for each time that it is synchronised an "s". */
+   appended to the file CALLS, and for each time that it is synchronised an "s". */
 #define _GNU_SOURCE
 #include <dlfcn.h>
 #include <errno.h>
@@ -17,7 +17,7 @@ enum { UNREAD = -2, ALL = -1 };
 
 typedef ssize_t Call(int, void *, size_t);
 
-/* The call, of as many bytes as may still pass by the number of that name; where none may, it
+/* The call, of as many bytes as may still pass by the number of that name; if none may, it
    fails. */
 static ssize_t limited(Call *real, const char *name, long *room, int fd, void *bytes,
                        size_t count) {

@@ -24,7 +24,7 @@ static int is_stream(int fd) {
     return fstat(fd, &found) == 0 && S_ISSOCK(found.st_mode);
 }
 
-/* How many of these bytes the call may pass; -1 where it is interrupted. */
+/* How many of these bytes the call may pass; -1 if it is interrupted. */
 static ssize_t piece(int fd, size_t count) {
     static int turn;
     long most = number("PIECE");

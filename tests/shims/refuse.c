@@ -1,5 +1,5 @@
 /* Refuses one allocation of a program: the Nth, N being REFUSE in its environment. It is loaded
-   before the C library (LD_PRELOAD), and writes `refused` on standard error where it refuses. */
+   before the C library (LD_PRELOAD), and writes `refused` on standard error if it refuses. */
 #include <stdlib.h>
 #include <unistd.h>
 

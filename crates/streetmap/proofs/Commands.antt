@@ -1,4 +1,4 @@
--- What a command leaves in FILE, by what its calls of the keeper owe.
+-- What a command leaves in FILE, by the contracts of its calls of the keeper.
 use Rattle.std.proofs.Common.{◌≡◌, ◌⊎◌, inl, inr, ℕ, ◌+◌, List, [], ◌∷◌, ◌++◌, length, Option, None, Some, Result, Ok, Err, String, Bool, true, false, refl, sym, ap, subst, ◌∙◌}
 use Rattle.std.specs.Prelude.{IsOk, IfSome, IfErr, ◌||◌}
 use Rattle.std.specs.declared.alloc.Global.{Global}
@@ -19,20 +19,20 @@ use Rattle.streetmap_ledger.specs.declared.reply.Reply.TheVariants as replies
 use Rattle.streetmap_exchange.specs.declared.fault.ImportStop.{ImportStop}
 use Rattle.streetmap_exchange.specs.declared.fault.ImportStop.TheVariants as imports
 use Rattle.streetmap_exchange.specs.KeeperImports.{Imports, ImportsBatch, IsReported}
-use Rattle.streetmap_text_lines.specs.Reading.{WhereKnown}
+use Rattle.streetmap_text_lines.specs.LineReads.{WhereKnown}
 use Rattle.streetmap_text_lines.specs.declared.fault.LineFault.TheVariants as lines
 use Rattle.streetmap_batch.specs.declared.batch_fault.BatchFault.TheVariants as batches
 use Rattle.streetmap_replay.specs.Calls.{LastAnswer, Stays}
 use Rattle.streetmap_replay.specs.Lines.{Line}
 use Rattle.streetmap_replay.specs.JournalText.{text_of_lines}
-use Rattle.streetmap_replay.specs.Following.{LineFault, follow, line_outcome}
-use Rattle.streetmap_replay.specs.Acting.{Follows}
+use Rattle.streetmap_replay.specs.FollowedLines.{LineFault, follow, line_outcome}
+use Rattle.streetmap_replay.specs.LineEffects.{Follows}
 use Rattle.streetmap_replay.specs.Ends.{IsInputLine, FollowsLines, FollowingEndsBy}
 use Rattle.streetmap_replay.specs.declared.line_stop.LineStop.{LineStop}
 use Rattle.streetmap_replay.specs.declared.line_stop.LineStop.TheVariants as stops
-use Rattle.streetmap_replay.specs.declared.following.Followed.{Followed}
-use Rattle.streetmap_replay.specs.declared.following.End.{End as FollowEnd}
-use Rattle.streetmap_replay.specs.declared.following.End.TheVariants as ends
+use Rattle.streetmap_replay.specs.declared.follower.Followed.{Followed}
+use Rattle.streetmap_replay.specs.declared.follower.End.{End as FollowEnd}
+use Rattle.streetmap_replay.specs.declared.follower.End.TheVariants as ends
 use Rattle.streetmap_loading.specs.Places.{PlacedValue, edits_of}
 use Rattle.streetmap_loading.specs.Sources.{Item}
 use Rattle.streetmap_loading.specs.Loads.{items_of, Skips, SkippedAt}
@@ -53,20 +53,20 @@ same_state s t e = cc
 
 -- the law of a keeper whose store can be opened again
 abbrev pub ImagesHoldStates : {K Image : Type 0} → Model K → (Image → State → Type 0) → (K → Image → Type 0) → Type 0
-ImagesHoldStates {K} {Image} model holds leaves = (first last : K) (s : State) (image : Image) → model.represents first s → model.spares first last → model.is_clean last
+ImagesHoldStates {K} {Image} model holds leaves = (first last : K) (s : State) (image : Image) → model.represents first s → model.preserves first last → model.is_clean last
     → leaves last image → (t : State) × holds image t × model.may_leave last (Some t)
 
 module _ {K Image : Type 0} (model : Model K) {holds : Image → State → Type 0} {leaves : K → Image → Type 0} (images : ImagesHoldStates model holds leaves) where
-  -- what a crash may leave is so
-  pub hold_one_of : (first last : K) (s : State) (Is : State → Type 0) → model.represents first s → model.spares first last → model.is_clean last
+  -- each image that a crash may leave holds a state with a property of all states that may be left
+  pub hold_one_of : (first last : K) (s : State) (Is : State → Type 0) → model.represents first s → model.preserves first last → model.is_clean last
       → ((t : State) → model.may_leave last (Some t) → Is t) → HoldOneOf holds (leaves last) Is
-  hold_one_of first last s Is is spared clean so image left = let it = images first last s image is spared clean left in (it.0, it.1, so it.0 it.2)
+  hold_one_of first last s Is is preserved clean so image left = let it = images first last s image is preserved clean left in (it.0, it.1, so it.0 it.2)
 
   -- no call was made
   pub hold_still : (k : K) (s : State) (Is : State → Type 0) → model.represents k s → model.is_clean k → Is s → HoldOneOf holds (leaves k) Is
-  hold_still k s Is is clean so = hold_one_of k k s Is is (model.spares_itself k) clean (λ t left. subst Is (sym (same_state t s (model.leaves_it k s is (Some t) left))) so)
+  hold_still k s Is is clean so = hold_one_of k k s Is is (model.preserves_itself k) clean (λ t left. subst Is (sym (same_state t s (model.leaves_it k s is (Some t) left))) so)
 
--- what is so means more
+-- a property that implies another one
 pub hold_more : {Image : Type 0} {holds : Image → State → Type 0} {leaves : Image → Type 0} {Is As : State → Type 0} → ((t : State) → Is t → As t)
     → HoldOneOf holds leaves Is → HoldOneOf holds leaves As
 hold_more so hold image left = let it = hold image left in (it.0, it.1, so it.0 it.2)
@@ -103,9 +103,9 @@ module _ {K : Type 0} (model : Model K) where
   -- ---- an import
 
   acknowledged_if : (key : Text) (r : Reply) (body : String Global) → IsReported key r (Ok body) → IsAcknowledged r
-  acknowledged_if key (replies.Accepted counts serial) body told = tt
-  acknowledged_if key (replies.Repeated counts serial) body told = tt
-  acknowledged_if key (replies.Refused why place) body told = absurd cc
+  acknowledged_if key (replies.Accepted counts serial) body reported = tt
+  acknowledged_if key (replies.Repeated counts serial) body reported = tt
+  acknowledged_if key (replies.Refused why place) body reported = absurd cc
 
   -- how the command ends, if the reply was to be printed
   abbrev pub IsPrinted : Done → Type 0
@@ -131,9 +131,9 @@ module _ {K : Type 0} (model : Model K) where
 
   -- the refusal that was returned is the reply
   is_refusal : (key : Text) (r : Reply) (why : _) (place : _) → IsReported key r (Err (imports.Refused why place)) → r ≡ replies.Refused why place
-  is_refusal key (replies.Accepted counts serial) why place told = absurd told
-  is_refusal key (replies.Repeated counts serial) why place told = absurd told
-  is_refusal key (replies.Refused reason inner) why place told = cc
+  is_refusal key (replies.Accepted counts serial) why place reported = absurd reported
+  is_refusal key (replies.Repeated counts serial) why place reported = absurd reported
+  is_refusal key (replies.Refused reason inner) why place reported = cc
 
   pub by_stop : (old new : K) (s t : State) (b : BatchValue) (stop : ImportStop) → Imports model old new s (Ok b) (Err stop) → model.may_leave new (Some t)
       → Imported s b (Err (Import stop)) t
@@ -205,7 +205,7 @@ module _ {K : Type 0} (model : Model K) where
       | inl e ↦ inl e
       | inr more ↦ inr (it.0, more.0, more.1, more.2)
     ]
-    after_end read ends.NotTold it = inr (it.0, it.3.0, it.3.1, leaves_one new it.3.0.state t it.3.2 left)
+    after_end read ends.NotReported it = inr (it.0, it.3.0, it.3.1, leaves_one new it.3.0.state t it.3.2 left)
 
     -- all lines were read
     all_known : (read : List Line) (text rest : Option Text) → WhereKnown text rest (λ bytes remaining. (bytes ≡ text_of_lines read) × (remaining ≡ [])) → IfSome text (λ bytes. bytes ≡ text_of_lines read)
@@ -219,9 +219,9 @@ module _ {K : Type 0} (model : Model K) where
     all_lines it read ends.CutLine by ok = absurd cc
     all_lines it read (ends.NotRead fault) by ok = absurd cc
     all_lines it read (ends.Stopped stop) by ok = absurd cc
-    all_lines it read ends.NotTold by ok = absurd cc
+    all_lines it read ends.NotReported by ok = absurd cc
 
-    pub applied : {T : Type 0} {tells : T → Text → Reply → T → Type 0} {first last : T} (it : Followed) → FollowsLines model old new s input rest tells first last it
+    pub applied : {T : Type 0} {reports : T → Text → Reply → T → Type 0} {first last : T} (it : Followed) → FollowsLines model old new s input rest reports first last it
         → Applied s input (end_of_lines it it.end) t
     applied it by = record {
       read = by.read;
@@ -232,7 +232,7 @@ module _ {K : Type 0} (model : Model K) where
       all = all_lines it by.read it.end by.ends;
     }
 
-  -- a text that is not known says less
+  -- less holds if the text is not known
   pub applied_some : (s t : State) (text : Option Text) (done : Done) → Applied s text done t → Applied s None done t
   applied_some s t text done it = record {
     read = it.read;
@@ -275,7 +275,7 @@ module _ {K : Type 0} (model : Model K) where
   all_read (Some items) read is = is
 
   module _ (old new : K) (s t : State) (each : ℕ) (key : Text) (text : Option (List Item)) where
-    -- it came to its end, and then nothing else was changed
+    -- the load reached its end, and then nothing else was changed
     pub loaded_all : (it : LoadResult) (done : Done) → it.end ≡ loads.All → LoadsTo model old new s each key text it → ((u : State) → model.represents new u → t ≡ u) → Loaded s each key text done t
     loaded_all it done is load same =
         let ends = subst (EndsIn model old new each key load.read load.sent (after_all s load.sent)) is load.ends in
@@ -320,7 +320,7 @@ module _ {K : Type 0} (model : Model K) where
     packed_of read sent (loads.Stopped fault) by = inr (by.rest, by.are_left)
     packed_of read sent loads.WriteFailed by = absurd by
 
-    -- and nothing else was called
+    -- and the keeper was not called after it
     pub loaded_as : (it : LoadResult) (done : Done) → (IsOk done → it.end ≡ loads.All) → LoadsTo model old new s each key text it → model.may_leave new (Some t) → Loaded s each key text done t
     loaded_as it done whole load left = record {
       read = load.read;
@@ -337,7 +337,7 @@ module _ {K : Type 0} (model : Model K) where
           );
     }
 
-  -- a text that is not known says less
+  -- less holds if the text is not known
   pub loaded_some : (s t : State) (each : ℕ) (key : Text) (text : Option (List Item)) (done : Done) → Loaded s each key text done t → Loaded s each key None done t
   loaded_some s t each key text done it = record {
     read = it.read;
@@ -364,7 +364,7 @@ module _ {K : Type 0} (model : Model K) where
   unless_failed true s each key text why = refl
   unless_failed false s each key text why = nothing_loaded s each key text why
 
-  -- a text that is not known says less
+  -- less holds if the text is not known
   pub unless_some : (reads : Bool) (s t : State) (each : ℕ) (key : Text) (text : Option (List Item)) (done : Done) → LoadedUnless reads s each key text done t → LoadedUnless reads s each key None done t
   unless_some true s t each key text done it = it
   unless_some false s t each key text done it = loaded_some s t each key text done it

@@ -1,4 +1,4 @@
--- How many clients were asked for.
+-- How many clients were requested.
 use Rattle.std.proofs.Common.{◌≡◌, ◌≤◌, ℕ, Option, None, Some, IfSome, arith}
 
 pub as_many : (o : Option ℕ) (n m : ℕ) → IfSome o (λ k. n ≡ k) → n ≤ m → IfSome o (λ k. k ≤ m)

@@ -1,4 +1,4 @@
--- What is guaranteed if nobody was let in.
+-- What is guaranteed if no client was accepted.
 use Rattle.std.proofs.Common.{◌≡◌, List, [], ◌∷◌, ◌++◌, Option, Some, refl, sym, subst}
 use Rattle.std.proofs.lemmas.List.Elements.{All-nil}
 use Rattle.streetmap_batch.specs.Text.{Text}
@@ -32,7 +32,7 @@ module _ {Image : Type 0} (holds : Image → State → Type 0) (leaves : Image �
       interleaved = interleaving.none;
       server = serving s;
       sequential = refl;
-      pages = λ before later e name q is asks ok. no_event before later e is;
+      pages = λ before later e name q is has_page ok. no_event before later e is;
       acts = refl;
       survives = λ image gone. let it = states image gone in (it.0, it.1, same_state it.0 s (only (Some it.0) it.2));
     };

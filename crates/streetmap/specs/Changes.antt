@@ -12,7 +12,7 @@ use Rattle.streetmap_ledger.specs.declared.reply.Reply.TheVariants as replies
 use Rattle.streetmap_exchange.specs.declared.fault.ImportStop.TheVariants as imports
 use Rattle.streetmap_replay.specs.Lines.{Line}
 use Rattle.streetmap_replay.specs.JournalText.{text_of_lines}
-use Rattle.streetmap_replay.specs.Following.{follow, line_outcome}
+use Rattle.streetmap_replay.specs.FollowedLines.{follow, line_outcome}
 use Rattle.streetmap_replay.specs.Ends.{IsInputLine}
 use Rattle.streetmap_packing.specs.Packs.{Packs}
 use Rattle.streetmap_loading.specs.Places.{PlacedValue, edits_of}
@@ -35,7 +35,7 @@ Done = Result (Unit {0}) ProgramFault
 
 -- An import of a batch into the state s leaves t. If it is done the batch was accepted, now or
 -- before; so it was if its reply was not printed. If the store failed the batch is in the file or
--- not. Else it is not.
+-- not. Otherwise it is not.
 abbrev pub Imported : (s : State) → BatchValue → Done → (t : State) → Type 0
 Imported s b (Ok done) t = IsAcknowledged (act s b).reply × (t ≡ (act s b).state)
 Imported s b (Err WriteFailed) t = IsAcknowledged (act s b).reply × (t ≡ (act s b).state)
@@ -83,8 +83,8 @@ abbrev pub SkipsNone : Option ℕ → Type 0
 SkipsNone known = IfSome known (λ n. n ≡ 0)
 
 -- Lines of batches that are applied to the state s leave t: the first of them were followed, one
--- after the other; if the store failed at the next one, or its reply was not printed, that is in the
--- file or not. If the command is done these are all lines of the text, if it is known.
+-- after the other; if the store failed at the next one, or its reply was not printed, that is in
+-- the file or not. If the command is done these are all lines of the text, if it is known.
 pub record Applied (s : State) (text : Option Text) (done : Done) (t : State) : Type 0 where
   pub read : List Line
   pub lines : All IsInputLine read
@@ -95,7 +95,7 @@ pub record Applied (s : State) (text : Option Text) (done : Done) (t : State) : 
   pub all : IsOk done → (t ≡ (follow s read).state)
       × IfSome text (λ bytes. bytes ≡ text_of_lines read)
 
--- a load that is asked only to check or to print the text leaves the state
+-- a load that only checks or prints the text leaves the state
 abbrev pub LoadedUnless : (reads : Bool) → (s : State) → (each : ℕ) → (key : Text)
     → Option (List Item) → Done → (t : State) → Type 0
 LoadedUnless true s each key text done t = t ≡ s

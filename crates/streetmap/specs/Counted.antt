@@ -1,8 +1,8 @@
--- Failures that are counted, up to the most of 64 bits, over stretches of calls.
+-- Failures that are counted over a number of calls, up to the largest number of 64 bits.
 use Rattle.std.specs.Prelude.{◌≤◌, ◌<◌, ◌-◌, ◌^◌, ◌⊎◌, ℕ}
 use Rattle.std.proofs.Common.{inl, inr, arith}
 
--- more were counted, or there are more than are counted
+-- more were counted, or the count has reached its limit
 abbrev pub HasFailed : (old new : ℕ) → Type 0
 HasFailed old new = (old < new) ⊎ (2 ^ 64 - 1 ≤ new)
 

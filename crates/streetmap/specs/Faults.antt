@@ -13,21 +13,21 @@ use Rattle.streetmap_faults.specs.declared.cause.PortCause.{PortCause}
 use Rattle.streetmap_faults.specs.declared.cause.PortCause.TheVariants as ports
 use Rattle.streetmap_ledger.specs.declared.reply.Fault.{Fault as KeeperFault}
 use Rattle.streetmap_ledger.specs.declared.reply.Fault.TheVariants as keeper
-use Rattle.streetmap_journal.specs.declared.starting.StartFault.{StartFault}
-use Rattle.streetmap_journal.specs.declared.starting.StartFault.TheVariants as starting
+use Rattle.streetmap_journal.specs.declared.starts.StartFault.{StartFault}
+use Rattle.streetmap_journal.specs.declared.starts.StartFault.TheVariants as starting
 use Rattle.streetmap_store.specs.declared.fault.CreateFault.{CreateFault}
 use Rattle.streetmap_store.specs.declared.fault.CreateFault.TheVariants as creation
 use Rattle.streetmap_store.specs.declared.fault.OpenFault.{OpenFault}
 use Rattle.streetmap_store.specs.declared.fault.OpenFault.TheVariants as opening
-use Rattle.streetmap_checking.specs.declared.checking.CheckFault.{CheckFault}
-use Rattle.streetmap_checking.specs.declared.checking.CheckFault.TheVariants as checking
+use Rattle.streetmap_checking.specs.declared.check.CheckFault.{CheckFault}
+use Rattle.streetmap_checking.specs.declared.check.CheckFault.TheVariants as checking
 use Rattle.streetmap_replay.specs.declared.fault.ReplayStop.{ReplayStop}
 use Rattle.streetmap_replay.specs.declared.fault.ReplayStop.TheVariants as replay
-use Rattle.streetmap_web.specs.declared.serving.End.{End}
-use Rattle.streetmap_web.specs.declared.serving.End.TheVariants as stream
-use Rattle.streetmap_replay.specs.declared.following.Followed.{Followed}
-use Rattle.streetmap_replay.specs.declared.following.End.{End as FollowEnd}
-use Rattle.streetmap_replay.specs.declared.following.End.TheVariants as following
+use Rattle.streetmap_web.specs.declared.turns.End.{End}
+use Rattle.streetmap_web.specs.declared.turns.End.TheVariants as stream
+use Rattle.streetmap_replay.specs.declared.follower.Followed.{Followed}
+use Rattle.streetmap_replay.specs.declared.follower.End.{End as FollowEnd}
+use Rattle.streetmap_replay.specs.declared.follower.End.TheVariants as following
 use Rattle.streetmap_faults.specs.declared.fault.ProgramFault.{ProgramFault}
 use Rattle.streetmap_faults.specs.declared.fault.ProgramFault.TheVariants.{Follow}
 use Rattle.streetmap_faults.specs.declared.fault.ProgramFault.TheVariants.{NotOurs, NewFormat}

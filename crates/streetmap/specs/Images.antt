@@ -2,7 +2,7 @@
 use Rattle.std.specs.Prelude.{◌⊎◌}
 use Rattle.sqlite_wal.specs.Recovery.{Image}
 use Rattle.streetmap_ledger.specs.State.{State}
-use Rattle.streetmap_store.specs.Holding.{HoldsState, HoldsOldState}
+use Rattle.streetmap_store.specs.HeldFiles.{HoldsState, HoldsOldState}
 
 -- the files hold the tables of this state, of format 2 or of format 1
 abbrev pub HoldsTables : Image → State → Type 0

@@ -2,7 +2,7 @@
 use Rattle.std.specs.Prelude.{Option}
 use Rattle.streetmap_batch.specs.Text.{Text}
 use Rattle.streetmap_ledger.specs.State.{State}
-use Rattle.streetmap_web.specs.declared.serving.End.{End}
+use Rattle.streetmap_web.specs.declared.turns.End.{End}
 use Rattle.streetmap_guarantee.specs.Streams.{GuaranteeOfStream}
 
 -- they were served as a stream; what standard input had and standard output got is not known here

@@ -11,7 +11,7 @@ use streetmap_faults::ProgramFault;
 use streetmap_ledger::{Durable, KeepsBatches};
 use streetmap_replay::{ReplyLines, follow_lines};
 
-/// Prints the kept batches whose serial is above one, a line each.
+/// Prints the kept batches after a serial, one per line.
 pub(crate) fn print<K: Durable + KeepsBatches>(
     rt: &HostRuntime,
     keeper: &mut K,
@@ -55,7 +55,7 @@ pub(crate) fn apply<K: Durable + KeepsBatches>(
     keeper: &mut K,
     text: Option<&str>,
 ) -> Result<(), ProgramFault>
-    // What the text has is not known here.
+    // The content of the text is not known here.
     ensures leaves { K.model.is_clean keeper.new → (s : State) → K.model.represents keeper.old s →
         HoldOneOf K.holds (K.leaves keeper.new) (Applied s None result) }
     ensures began_clean { K.model.is_clean keeper.new → K.model.is_clean keeper.old }

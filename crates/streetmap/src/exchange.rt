@@ -14,17 +14,17 @@ use streetmap_faults::ProgramFault;
 use streetmap_ledger::Durable;
 
 /// Reads a text into the batch that puts its features into a collection.
-pub(crate) fn read_batch(rt: &HostRuntime, asked: Import<'_>) -> Result<Batch, ProgramFault> {
-    let text = texts::read(rt, asked.text)?;
+pub(crate) fn read_batch(rt: &HostRuntime, requested: Import<'_>) -> Result<Batch, ProgramFault> {
+    let text = texts::read(rt, requested.text)?;
     let mut lines = ProgressLines {
-        output: progress::output(rt, asked.progress, false),
+        output: progress::output(rt, requested.progress, false),
     };
     let batch = import_batch(
         rt.alloc(),
         text.as_slice(),
-        asked.key,
-        asked.collection,
-        asked.replace,
+        requested.key,
+        requested.collection,
+        requested.replace,
         &mut lines,
     );
     lines.clear();
@@ -62,7 +62,7 @@ pub(crate) fn export_collection<K: Durable>(
     rt: &HostRuntime,
     keeper: &mut K,
     collection: &str,
-    is_told: bool,
+    is_reported: bool,
 ) -> Result<(), ProgramFault>
     ensures leaves { K.model.is_clean keeper.new → (s : State) → K.model.represents keeper.old s →
         HoldOneOf K.holds (K.leaves keeper.new) (λ t. t ≡ s) }
@@ -70,7 +70,7 @@ pub(crate) fn export_collection<K: Durable>(
 {
     let mut output = writer(rt);
     let mut lines = ProgressLines {
-        output: progress::output(rt, is_told, true),
+        output: progress::output(rt, is_reported, true),
     };
     let done = export(rt.alloc(), keeper, collection, &mut output, &mut lines);
     lines.clear();

@@ -17,7 +17,7 @@ use streetmap_replay::{End as FollowEnd, Followed, ReplayStop};
 use streetmap_store::{CreateFault, OpenFault};
 use streetmap_web::End;
 
-/// The fault of words that cannot be had: one of them is no UTF-8, or memory is refused.
+/// The fault of arguments that cannot be read: one of them is not UTF-8, or an allocation fails.
 pub(crate) fn of_words(error: &Error) -> ProgramFault
     ensures memory { error_kind error.now ≡ ErrorKind.OutOfMemory
         → result ≡ ProgramFault.Memory }
@@ -31,7 +31,7 @@ pub(crate) fn of_words(error: &Error) -> ProgramFault
     }
 }
 
-/// The fault of a text that cannot be had: its file is not there, memory is refused, or a read
+/// The fault of a text that cannot be read: its file does not exist, an allocation fails, or a read
 /// fails.
 pub(crate) fn of_text(error: &Error) -> ProgramFault
     ensures { result ≡ fault_of_text (error_kind error.now) }
@@ -43,7 +43,7 @@ pub(crate) fn of_text(error: &Error) -> ProgramFault
     }
 }
 
-/// The fault of a journal that cannot be opened: memory is refused, or the device fails.
+/// The fault of a journal that cannot be opened: an allocation fails, or the device fails.
 pub(crate) fn of_journal(error: &Error) -> ProgramFault
     ensures { result ≡ fault_of_journal (error_kind error.now) }
 {

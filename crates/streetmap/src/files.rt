@@ -5,11 +5,11 @@ use crate::opened::{
 };
 use crate::same::{parts, refuse_same};
 use crate::served::{pipe_file, serve_file};
-use crate::{fault, loading};
+use crate::{fault, loads};
 use sqlite::Unknown;
 use std::fs::{OpenOptions, exists, metadata};
 use std::io::ErrorKind;
-use streetmap_command::{Connections, Import, JournalAsked, LoadAsked};
+use streetmap_command::{Connections, Import, JournalArguments, LoadArguments};
 use streetmap_faults::{OpenCause, ProgramFault};
 use streetmap_placing::Numbers;
 use streetmap_routes::Base;
@@ -48,7 +48,7 @@ pub(crate) fn with_cause(rt: &HostRuntime, path: &str, fault: ProgramFault) -> P
     }
 }
 
-/// Makes an empty file if there is none.
+/// Makes an empty file if it does not exist.
 fn make(rt: &HostRuntime, path: &str) -> Result<(), ProgramFault> {
     match streetmap_store::create(rt, path, Unknown) {
         Ok(_keeper) => Ok(()),
@@ -93,9 +93,9 @@ fn length_of(rt: &HostRuntime, path: &str) -> u64 {
     metadata(rt, path).map_or(0, |found| found.len())
 }
 
-/// Says on standard error which file is opened, and how large it is with the log beside it: a large
-/// one takes a while.
-fn tell_size(rt: &HostRuntime, path: &str) {
+/// Reports on standard error which file is opened, and how large it is with the log beside it: a
+/// large one takes a while.
+fn report_size(rt: &HostRuntime, path: &str) {
     if let Ok(log) = format!(in rt.alloc(); "{path}-wal") {
         let bytes = length_of(rt, path).saturating_add(length_of(rt, log.as_str()));
         let _ = eprintln!(rt; "streetmap: opening {path}, {bytes} bytes");
@@ -108,17 +108,17 @@ pub(crate) fn serve(
     path: &str,
     connections: Connections,
     base: Base,
-    journal: Option<JournalAsked<'_>>,
+    journal: Option<JournalArguments<'_>>,
 ) -> Result<(), ProgramFault> {
     refuse_missing(rt, path)?;
-    if let Some(asked) = journal {
-        refuse_same(rt, path, asked.path)?;
+    if let Some(requested) = journal {
+        refuse_same(rt, path, requested.path)?;
     }
-    tell_size(rt, path);
+    report_size(rt, path);
     serve_file(rt, path, Unknown, connections, base, journal)?.ended
 }
 
-/// Reads all rows of a file; before that its kept batches are replayed, if that is asked for.
+/// Reads all rows of a file; before that its kept batches are replayed, if that is requested.
 pub(crate) fn check(rt: &HostRuntime, path: &str, replay: bool) -> Result<(), ProgramFault> {
     refuse_missing(rt, path)?;
     if replay {
@@ -130,9 +130,13 @@ pub(crate) fn check(rt: &HostRuntime, path: &str, replay: bool) -> Result<(), Pr
 
 /// Puts the features of a text into a collection of a file. The text is read, and its batch made,
 /// before the file is opened: a text that is refused writes nothing.
-pub(crate) fn import(rt: &HostRuntime, path: &str, asked: Import<'_>) -> Result<(), ProgramFault> {
+pub(crate) fn import(
+    rt: &HostRuntime,
+    path: &str,
+    requested: Import<'_>,
+) -> Result<(), ProgramFault> {
     refuse_missing(rt, path)?;
-    let batch = read_batch(rt, asked)?;
+    let batch = read_batch(rt, requested)?;
     import_file(rt, path, Unknown, &batch)?.ended
 }
 
@@ -140,16 +144,16 @@ pub(crate) fn import(rt: &HostRuntime, path: &str, asked: Import<'_>) -> Result<
 pub(crate) fn load(
     rt: &HostRuntime,
     path: &str,
-    asked: LoadAsked<'_>,
+    requested: LoadArguments<'_>,
     numbers: Numbers,
 ) -> Result<(), ProgramFault> {
     let is_file = is_there(rt, path)?;
-    let load = loading::read(rt, asked, numbers)?;
-    look_for(rt, path, asked.text)?;
-    if asked.print && (asked.opens || !asked.skip) {
-        loading::print(rt, load, asked)
+    let load = loads::read(rt, requested, numbers)?;
+    require_text(rt, path, requested.text)?;
+    if requested.print && (requested.opens || !requested.skip) {
+        loads::print(rt, load, requested)
     } else if is_file {
-        load_file(rt, path, Unknown, load, asked)?.ended
+        load_file(rt, path, Unknown, load, requested)?.ended
     } else {
         Err(ProgramFault::NoFile)
     }
@@ -158,12 +162,12 @@ pub(crate) fn load(
 /// Applies the lines of a text, or of standard input, to a file.
 pub(crate) fn apply(rt: &HostRuntime, path: &str, text: Option<&str>) -> Result<(), ProgramFault> {
     refuse_missing(rt, path)?;
-    look_for(rt, path, text)?;
+    require_text(rt, path, text)?;
     apply_file(rt, path, Unknown, text)?.ended
 }
 
-/// Checks that a text exists, if one is named, and is another than the file.
-fn look_for(rt: &HostRuntime, file: &str, text: Option<&str>) -> Result<(), ProgramFault> {
+/// Checks that a text exists, if one is named, and is not the file.
+fn require_text(rt: &HostRuntime, file: &str, text: Option<&str>) -> Result<(), ProgramFault> {
     let Some(path) = text else {
         return Ok(());
     };

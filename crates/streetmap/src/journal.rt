@@ -1,13 +1,13 @@
 //! The journal beside a file that is served: how it is begun, and what it is written to.
 ghost use Rattle.std.specs.Prelude.{◌≡◌, ◌≤◌, true, IfOk, IsOk};
-ghost use Rattle.streetmap_journal.specs.Telling.{WriterIsTold};
+ghost use Rattle.streetmap_journal.specs.Reports.{WriterIsInformed};
 ghost use Rattle.streetmap.specs.Counted.{HasFailed};
 ghost use Rattle.streetmap.specs.Kept.{IsKept};
 
 use crate::fault;
 use std::fs::{File, OpenOptions};
 use std::io::{BufReader, Error, ErrorKind, Stderr, Write};
-use streetmap_command::JournalAsked;
+use streetmap_command::JournalArguments;
 use streetmap_faults::ProgramFault;
 use streetmap_journal::{Journal, JournalPlace, JournalWriter, start_journal};
 use streetmap_ledger::KeepsBatches;
@@ -23,16 +23,16 @@ pub(crate) struct JournalFile {
     /// Whether lines are synchronised before answers.
     syncs: bool,
     /// The serial from which on lines were reported missing.
-    told: Option<u64>,
-    /// Whether all that was written was synchronised, if that is asked for. The contract speaks of
+    reported: Option<u64>,
+    /// Whether all that was written was synchronised, if that is requested. The contract speaks of
     /// this and the next field, and no code reads them.
     is_kept: bool,
-    /// How many writes and synchronisations failed: that many at least, if it is the most of 64
-    /// bits.
+    /// How many writes and synchronisations failed: at least that many, if it is the largest number
+    /// of 64 bits.
     failures: u64,
 }
 
-/// One failure more.
+/// One more failure.
 fn one_more(failures: u64) -> u64
     ensures grows { failures ≤ result }
     ensures failed { HasFailed failures result }
@@ -43,7 +43,7 @@ fn one_more(failures: u64) -> u64
 impl JournalWriter for JournalFile {
     ghost use Rattle.streetmap.specs.Counted as counted;
 
-    ghost told = { λ f. f.told };
+    ghost reported = { λ f. f.reported };
 
     ghost is_kept = { λ f. f.is_kept ≡ true };
 
@@ -84,7 +84,7 @@ impl JournalWriter for JournalFile {
 
     /// A line that cannot be written is left out.
     fn behind(&mut self, serial: u64) {
-        self.told = Some(serial);
+        self.reported = Some(serial);
         let _ = writeln!(
             self.messages,
             "streetmap: journal behind from serial {serial}"
@@ -93,18 +93,18 @@ impl JournalWriter for JournalFile {
 
     /// A line that cannot be written is left out.
     fn whole(&mut self, serial: u64) {
-        if self.told.is_some() {
-            self.told = None;
+        if self.reported.is_some() {
+            self.reported = None;
             let _ = writeln!(self.messages, "streetmap: journal whole at {serial}");
         }
     }
 }
 
-/// Where the journal that is asked for is kept.
+/// The path of the requested journal.
 #[derive(Drop)]
 struct JournalPath<'a> {
     rt: &'a HostRuntime,
-    asked: JournalAsked<'a>,
+    requested: JournalArguments<'a>,
 }
 
 impl<'a> JournalPlace for JournalPath<'a> {
@@ -113,7 +113,7 @@ impl<'a> JournalPlace for JournalPath<'a> {
     type Writer = JournalFile;
 
     fn read(&mut self) -> Result<Option<BufReader<File>>, Error> {
-        match File::open(self.rt, self.asked.path) {
+        match File::open(self.rt, self.requested.path) {
             Ok(file) => Ok(Some(BufReader::new(self.rt.alloc(), file)?)),
             Err(error) if error.kind() == ErrorKind::NotFound => Ok(None),
             Err(error) => Err(error),
@@ -124,31 +124,32 @@ impl<'a> JournalPlace for JournalPath<'a> {
         let file = OpenOptions::new()
             .append(true)
             .create(true)
-            .open(self.rt, self.asked.path)?;
+            .open(self.rt, self.requested.path)?;
         file.set_len(bytes)?;
         Ok(JournalFile {
             file,
             messages: self.rt.stderr(),
-            syncs: self.asked.sync,
-            told: None,
+            syncs: self.requested.sync,
+            reported: None,
             is_kept: false,
             failures: 0,
         })
     }
 }
 
-/// Begins the journal that is asked for (`streetmap_journal::start_journal`).
+/// Begins the requested journal (`streetmap_journal::start_journal`).
 pub(crate) fn begin<K: KeepsBatches>(
     rt: &HostRuntime,
     keeper: &mut K,
-    asked: JournalAsked<'_>,
+    requested: JournalArguments<'_>,
 ) -> Result<Journal<JournalFile>, ProgramFault>
     ensures kept { IsKept K.model keeper.old keeper.new (IsOk result) }
-    ensures told { IfOk result (λ journal. WriterIsTold ⟦<JournalFile as JournalWriter>⟧.told
+    ensures reported { IfOk result (λ journal.
+        WriterIsInformed ⟦<JournalFile as JournalWriter>⟧.reported
         ⟦<JournalFile as JournalWriter>⟧.is_kept journal) }
 {
-    let mut place = JournalPath { rt, asked };
-    match start_journal(rt.alloc(), keeper, asked.after as u64, &mut place) {
+    let mut place = JournalPath { rt, requested };
+    match start_journal(rt.alloc(), keeper, requested.after as u64, &mut place) {
         Ok(journal) => Ok(journal),
         Err(refused) => Err(fault::of_start(&refused)),
     }

@@ -1,31 +1,31 @@
 //! The program `streetmap`: features of a map office, kept in a file, served over HTTP, imported
 //! and exported, or read and changed by lines.
 //!
-//! Modules, in the order of reading: `files` (whether FILE is there), `opening` (how it is opened),
+//! Modules, in the order of reading: `files` (whether FILE exists), `openings` (how it is opened),
 //! `served` (`serve`, `pipe`) and `opened` (the other commands): what is done to FILE, from opening
-//! it to the end. Below these: `serving` and `journal`; `exchange` (`import`, `export`), with
-//! `texts` and `progress`; `loading` (`load`); `batches` (`batches`, `apply`); `checking` (`check`).
+//! it to the end. Below these: `server` and `journal`; `exchange` (`import`, `export`), with
+//! `texts` and `progress`; `loads` (`load`); `batches` (`batches`, `apply`); `checks` (`check`).
 //! Beside them: `lines` (`lines`) and `help`. `fault` turns faults of the crates below into that of
 //! the program, and `report` prints them. The command line, what is printed for a fault, and what
 //! the commands do in turn are in those crates.
 #![tactic(auto)]
 
 mod batches;
-mod checking;
+mod checks;
 mod exchange;
 mod fault;
 mod files;
 mod help;
 mod journal;
 mod lines;
-mod loading;
+mod loads;
 mod opened;
-mod opening;
+mod openings;
 mod progress;
 mod report;
 mod same;
 mod served;
-mod serving;
+mod server;
 mod texts;
 
 use std::env;
@@ -43,12 +43,12 @@ fn words_of(rt: &HostRuntime) -> Result<Vec<String>, ProgramFault> {
     Ok(words)
 }
 
-/// Does what the arguments ask for.
+/// Does what the arguments request.
 fn run(rt: &HostRuntime, words: &[String]) -> Result<(), ProgramFault> {
     perform(rt, read_command(rt.alloc(), words)?)
 }
 
-/// Does what a command asks for. A base of links is checked before the file is.
+/// Does what a command requests. A base of links is checked before the file is.
 fn perform(rt: &HostRuntime, command: Command<'_>) -> Result<(), ProgramFault> {
     match command {
         Command::Help(topic) => help::print(rt, topic),
@@ -76,7 +76,7 @@ fn perform(rt: &HostRuntime, command: Command<'_>) -> Result<(), ProgramFault> {
         } => files::export(rt, file, collection, progress),
         Command::Check { file, replay } => files::check(rt, file, replay),
         Command::Load { file, load } => {
-            let numbers = loading::numbers_of(load)?;
+            let numbers = loads::numbers_of(load)?;
             files::load(rt, file, load, numbers)
         }
         Command::Batches { file, after } => files::print_batches(rt, file, after),

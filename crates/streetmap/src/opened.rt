@@ -10,11 +10,11 @@ ghost use Rattle.streetmap_loading.specs.Options.{load_value};
 ghost use Rattle.streetmap.specs.Changes.{HoldOneOf, Imported, Applied, LoadedUnless};
 ghost use Rattle.streetmap.specs.Images.{HoldsTables};
 
-use crate::opening::{ServedFile, open_file, open_indexed};
-use crate::{batches, checking, exchange, loading};
+use crate::openings::{ServedFile, open_file, open_indexed};
+use crate::{batches, checks, exchange, loads};
 use sqlite::Start;
 use streetmap_batch::Batch;
-use streetmap_command::LoadAsked;
+use streetmap_command::LoadArguments;
 use streetmap_faults::ProgramFault;
 use streetmap_ledger::{Durable, Keeper};
 use streetmap_loading::{KeeperSink, Load};
@@ -65,24 +65,24 @@ pub(crate) fn export_file<S: Start>(
 }
 
 /// Puts the features of a text, or of standard input, into a collection by batches; or only reads
-/// or prints them, if that is asked for.
+/// or prints them, if that is requested.
 pub(crate) fn load_file<S: Start>(
     rt: &HostRuntime,
     path: &str,
     start: S,
     load: Load,
-    asked: LoadAsked<'_>,
+    requested: LoadArguments<'_>,
 ) -> Result<Worked<FileKeeper<S>>, ProgramFault>
     ensures { IfOk result (λ it. ⟦<FileKeeper<S> as Keeper>⟧.model.is_clean it.keeper →
         (s : State) → HoldsTables (image_at S.Start) s →
         HoldOneOf ⟦<FileKeeper<S> as Durable>⟧.holds
         (⟦<FileKeeper<S> as Durable>⟧.leaves it.keeper)
-        (LoadedUnless (asked.entry.check || asked.entry.print) s load.each (load_value load).key None
-        it.ended)) }
+        (LoadedUnless (requested.entry.check || requested.entry.print) s load.each
+        (load_value load).key None it.ended)) }
 {
     let keeper = open_file(rt, path, start)?;
     let mut sink = KeeperSink { keeper };
-    let ended = loading::run(rt, &mut sink, load, asked);
+    let ended = loads::run(rt, &mut sink, load, requested);
     Ok(Worked {
         keeper: sink.keeper,
         ended,
@@ -106,7 +106,7 @@ pub(crate) fn apply_file<S: Start>(
     Ok(Worked { keeper, ended })
 }
 
-/// Prints the kept batches whose serial is above one.
+/// Prints the kept batches after a serial.
 pub(crate) fn print_file<S: Start>(
     rt: &HostRuntime,
     path: &str,
@@ -135,16 +135,16 @@ pub(crate) fn replay_file<S: Start>(
         (⟦<ServedFile<S> as Durable>⟧.leaves it.keeper) (λ t. t ≡ s)) }
 {
     let mut keeper = open_indexed(rt, path, start)?;
-    let ended = checking::replay(rt, &mut keeper);
+    let ended = checks::replay(rt, &mut keeper);
     Ok(Worked { keeper, ended })
 }
 
-/// Reads all rows, and prints how many there are.
+/// Reads all rows, and prints how many the file has.
 pub(crate) fn check_file<S: Start>(
     rt: &HostRuntime,
     path: &str,
     start: S,
 ) -> Result<(), ProgramFault> {
     let keeper = open_file(rt, path, start)?;
-    checking::check(rt, keeper)
+    checks::check(rt, keeper)
 }

@@ -12,16 +12,16 @@ pub(crate) struct ProgressOutput<W> {
     overwrites: bool,
 }
 
-/// Standard error, if progress is asked for, or if that is a terminal. There each line is written
+/// Standard error, if progress is requested, or if it is a terminal. There each line is written
 /// over the one before, unless the command prints on a terminal as well.
 pub(crate) fn output(
     rt: &HostRuntime,
-    is_asked: bool,
+    is_requested: bool,
     prints: bool,
 ) -> Option<ProgressOutput<Stderr>> {
     let output = rt.stderr();
     let is_terminal = output.is_terminal();
-    if is_asked || is_terminal {
+    if is_requested || is_terminal {
         let overwrites = is_terminal && !(prints && rt.stdout().is_terminal());
         Some(ProgressOutput { output, overwrites })
     } else {
@@ -30,7 +30,7 @@ pub(crate) fn output(
 }
 
 impl<W: Write> ProgressOutput<W> {
-    /// Takes away the line that is written over.
+    /// Clears the line that is written over.
     pub(crate) fn clear(&mut self) {
         if self.overwrites {
             let _ = write!(self.output, "\r\x1b[K");
@@ -45,7 +45,7 @@ impl<W: Write> ProgressOutput<W> {
     }
 }
 
-/// Writes a line for each thousand features of an import or an export, if there is an output.
+/// Writes a line for each thousand features of an import or an export, if it has an output.
 #[derive(Drop)]
 pub(crate) struct ProgressLines<W> {
     /// Where the lines go, if they are written.
@@ -53,7 +53,7 @@ pub(crate) struct ProgressLines<W> {
 }
 
 impl<W: Write> ProgressLines<W> {
-    /// Takes away the line that is written over.
+    /// Clears the line that is written over.
     pub(crate) fn clear(&mut self) {
         if let Some(output) = &mut self.output {
             output.clear();
@@ -98,9 +98,9 @@ impl Pace {
         Some(whole.saturating_add(took.subsec_millis() as u64))
     }
 
-    /// Writes a line on how many features were met, in how many bytes, how much of the text that
+    /// Writes a line on how many features were found, in how many bytes, how much of the text that
     /// is, how many features a second, and how long the rest may take, as far as these are known.
-    pub(crate) fn tell<W: Write>(
+    pub(crate) fn report<W: Write>(
         &self,
         rt: &HostRuntime,
         lines: &mut ProgressOutput<W>,

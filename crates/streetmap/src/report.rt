@@ -5,10 +5,10 @@ use streetmap_command::{is_explained, usage_sentence};
 use streetmap_faults::{ProgramFault, Sentence};
 use streetmap_loading::{End, TextFault};
 
-/// Prints the line of a fault. A sentence on it follows if that is asked for, if standard error is
-/// a terminal, and always for a text that is no sequence of features. Features that were skipped,
-/// a collection that differs in a replay, and a store that failed while it was served have their
-/// lines already. A line that cannot be written is left out.
+/// Prints the line of a fault. A sentence on it follows if that is requested, if standard error is
+/// a terminal, and always for a text that is not a sequence of features. Features that were
+/// skipped, a collection that differs in a replay, and a store that failed while it was served have
+/// their lines already. A line that cannot be written is left out.
 pub(crate) fn print(rt: &HostRuntime, words: &[String], fault: ProgramFault) {
     if !matches!(
         fault,
@@ -25,7 +25,7 @@ pub(crate) fn print(rt: &HostRuntime, words: &[String], fault: ProgramFault) {
     }
 }
 
-/// Prints the sentence on a fault: of words that ask for nothing what is wrong with them.
+/// Prints the sentence on a fault; for arguments that are not a command, what is wrong with them.
 fn print_sentence(rt: &HostRuntime, words: &[String], fault: ProgramFault) {
     if matches!(fault, ProgramFault::Usage) && !words.is_empty() {
         if let Ok(sentence) = usage_sentence(rt.alloc(), words) {

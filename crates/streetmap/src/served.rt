@@ -9,11 +9,11 @@ ghost use Rattle.streetmap_guarantee.specs.Town.{GuaranteeOfTown};
 ghost use Rattle.streetmap.specs.Images.{HoldsTables};
 ghost use Rattle.streetmap.specs.Piped.{GuaranteeOfPipe};
 
-use crate::opening::{ServedFile, open_indexed};
-use crate::serving::{Service, limits_of, pipe, serve, service_of};
+use crate::openings::{ServedFile, open_indexed};
+use crate::server::{Service, limits_of, pipe, serve, service_of};
 use mio::net::TcpStream;
 use sqlite::Start;
-use streetmap_command::{Connections, JournalAsked};
+use streetmap_command::{Connections, JournalArguments};
 use streetmap_connections::Clients;
 use streetmap_faults::ProgramFault;
 use streetmap_ledger::{Durable, Keeper, KeepsBatches};
@@ -35,13 +35,13 @@ pub(crate) struct Piped<K> {
     pub(crate) end: End,
 }
 
-/// Serves the connections of a port over a keeper, with a journal if one is asked for.
+/// Serves the connections of a port over a keeper, with a journal if one is requested.
 fn serve_over<K: Durable + KeepsBatches + Drop>(
     rt: &HostRuntime,
     keeper: K,
     connections: Connections,
     base: Base,
-    journal: Option<JournalAsked<'_>>,
+    journal: Option<JournalArguments<'_>>,
 ) -> Result<Town<K>, ProgramFault>
     ensures guarantee { IfOk result (λ town.
         K.model.is_clean town.service.keeper.keeper → (s : State) → K.model.represents keeper s →
@@ -74,7 +74,7 @@ pub(crate) fn serve_file<S: Start>(
     start: S,
     connections: Connections,
     base: Base,
-    journal: Option<JournalAsked<'_>>,
+    journal: Option<JournalArguments<'_>>,
 ) -> Result<Town<ServedFile<S>>, ProgramFault>
     ensures guarantee { IfOk result (λ town.
         ⟦<ServedFile<S> as Keeper>⟧.model.is_clean town.service.keeper.keeper → (s : State) →

@@ -8,7 +8,7 @@ use std::io::Read;
 use streetmap_faults::ProgramFault;
 
 /// The most bytes that are read of a text: one more than `streetmap_exchange::MAX_TEXT`, so that a
-/// text that is too large is seen to be so, and is not read to its end.
+/// text that is too large is recognised, and is not read to its end.
 const MOST_READ: u64 = 8_388_609;
 
 /// The bytes of a text, or the first of them if it is too large.

@@ -6,7 +6,7 @@ use Rattle.serde_json.specs.Data.{Data, no_items}
 use Rattle.streetmap_json.proofs.Fronts.{before}
 use Rattle.streetmap_batch.specs.BatchValue.{EditValue}
 use Rattle.streetmap_batch.specs.BatchFaults.{Fails}
-use Rattle.streetmap_batch.specs.BatchReading.{◌>>=◌, unless, most_edits, list_of, edit_at, and_more, edits_after, keyed, batch_from}
+use Rattle.streetmap_batch.specs.ParsedBatches.{◌>>=◌, unless, most_edits, list_of, edit_at, and_more, edits_after, keyed, batch_from}
 use Rattle.streetmap_batch.specs.Names.{is_key}
 use Rattle.streetmap_batch.specs.Text.{Text}
 use Rattle.streetmap_batch.specs.BatchTokens.{few_edits}
@@ -15,7 +15,7 @@ use Rattle.streetmap_batch.specs.declared.batch_fault.BatchFault.TheVariants.{Ba
 
 -- ---- one more edit
 
--- an edit behind the others
+-- an edit after the others
 abbrev and_last : Result (List EditValue) BatchFault → Result EditValue BatchFault → Result (List EditValue) BatchFault
 and_last (Ok es) (Ok e) = Ok (es ++ e ∷ [])
 and_last (Ok es) (Err f) = Err f
@@ -56,20 +56,20 @@ fault_comes BadKey es l h = ap (and_last (Ok es)) h
 fault_comes TooManyEdits es l h = ap (and_last (Ok es)) h
 fault_comes (BadFeature place cause) es l h = ap (and_last (Ok es)) h
 
-module _ (ds : List Data) (d : Data) (place : ℕ) (behind : place ≡ length ds + 1) where
+module _ (ds : List Data) (d : Data) (place : ℕ) (following : place ≡ length ds + 1) where
   -- a fault before stays the first
   pub faulty_before : (f : BatchFault) → Fails f (edits_after 0 ds) → Fails f (edits_after 0 (ds ++ d ∷ []))
-  faulty_before f h = subst (Fails f) (sym (next_edit ds d place behind)) (fault_stays f (edits_after 0 ds) (edit_at place d) h)
+  faulty_before f h = subst (Fails f) (sym (next_edit ds d place following)) (fault_stays f (edits_after 0 ds) (edit_at place d) h)
 
   -- a fault of the last edit is the first
   pub faulty_last : (f : BatchFault) (es : List EditValue) → edits_after 0 ds ≡ Ok es → Fails f (edit_at place d) → Fails f (edits_after 0 (ds ++ d ∷ []))
-  faulty_last f es read h = subst (Fails f) (sym (next_edit ds d place behind ∙ ap (λ r. and_last r (edit_at place d)) read)) (fault_comes f es (edit_at place d) h)
+  faulty_last f es read h = subst (Fails f) (sym (next_edit ds d place following ∙ ap (λ r. and_last r (edit_at place d)) read)) (fault_comes f es (edit_at place d) h)
 
   -- no fault
   pub one_more_edit : (es : List EditValue) (e : EditValue) → edits_after 0 ds ≡ Ok es → edit_at place d ≡ Ok e → edits_after 0 (ds ++ d ∷ []) ≡ Ok (es ++ e ∷ [])
-  one_more_edit es e read last = next_edit ds d place behind ∙ (ap (λ r. and_last r (edit_at place d)) read ∙ ap (and_last (Ok es)) last)
+  one_more_edit es e read last = next_edit ds d place following ∙ (ap (λ r. and_last r (edit_at place d)) read ∙ ap (and_last (Ok es)) last)
 
--- ---- how many there are
+-- ---- the number of edits
 
 pub few_are : (ds : List Data) → length ds ≤ most_edits → few_edits ds ≡ edits_after 0 ds
 few_are ds few = ap (λ b. unless b TooManyEdits >>= λ x. edits_after 0 ds) (le-leb _ _ few)
@@ -80,7 +80,7 @@ too_many ds many = by (nat_le (length ds) most_edits) refl where
   by true is = let few = leb-true _ _ is in let never : ⊥ = omega (arith, few, many) in absurd never
   by false is = refl
 
--- as many edits as elements
+-- one edit for each element
 counted : (n : ℕ) (ds : List Data) (es : List EditValue) → edits_after n ds ≡ Ok es → length es ≡ length ds
 unfolding edits_after
 counted n [] es e = let same : [] ≡ es = cc in ap length (sym same)
@@ -101,14 +101,14 @@ pub list_of-before : (ds : List Data) → list_of (before ds no_items) ≡ ds
 list_of-before [] = refl
 list_of-before (d ∷ ds) = ap (λ rest. d ∷ rest) (list_of-before ds)
 
--- ---- behind the key
+-- ---- after the key
 
 regroup : {A B C : Type 0} (r : Result A BatchFault) (e : Result B BatchFault) (f : B → Result C BatchFault) → (r >>= λ x. (e >>= f)) ≡ ((r >>= λ x. e) >>= f)
 regroup (Ok x) e f = refl
 regroup (Err fault) e f = refl
 
-pub keyed_read : (told : Option Text) (key : Text) (ds : List Data) (es : List EditValue) → told ≡ Some key → is_key key ≡ true → few_edits ds ≡ Ok es → keyed told ds ≡ batch_from key es
+pub keyed_read : (stated : Option Text) (key : Text) (ds : List Data) (es : List EditValue) → stated ≡ Some key → is_key key ≡ true → few_edits ds ≡ Ok es → keyed stated ds ≡ batch_from key es
 unfolding keyed
-keyed_read told key ds es is named read =
+keyed_read stated key ds es is named read =
     let few : nat_le (length es) most_edits ≡ true = le-leb _ _ (few_read ds es read) in
     rw (is, named, few) (regroup (unless (nat_le (length ds) most_edits) TooManyEdits) (edits_after 0 ds) (λ edits. Ok (record { key = key; edits = edits })) ∙ ap (λ r. r >>= λ edits. Ok (record { key = key; edits = edits })) read)

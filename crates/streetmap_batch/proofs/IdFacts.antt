@@ -1,4 +1,4 @@
--- The id that a value gives is the one that it stands for.
+-- The id that a value gives is the one that it represents.
 use Rattle.std.proofs.Common.{◌≡◌, ℤ, Bool, true, false, cond, Option, None, Some, Result, Ok, Err, refl, sym}
 use Rattle.std.specs.Fmt.{signed_decimal}
 use Rattle.serde_json.specs.Data.{Data, null, boolean, number, string, array, object}

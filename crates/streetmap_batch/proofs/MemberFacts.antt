@@ -7,7 +7,7 @@ use Rattle.serde_json.specs.Find.{as_object}
 use Rattle.serde_json.specs.View.{items_of, members_view}
 use Rattle.serde_json.proofs.Views.{Entry}
 use Rattle.streetmap_batch.specs.Text.{Text}
-use Rattle.streetmap_batch.specs.BatchReading.{names_pass, may_have, has_only, list_of}
+use Rattle.streetmap_batch.specs.ParsedBatches.{names_pass, may_have, has_only, list_of}
 use Rattle.streetmap_batch.specs.declared.format.Format.{Format}
 
 pub names_pass-members_view : (test : Text → Bool) (es : List Entry) → names_pass test (members_view es) ≡ list_all (λ name. test (string_bytes name)) (keys_of es)

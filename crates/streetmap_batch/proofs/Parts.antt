@@ -21,11 +21,11 @@ use Rattle.streetmap_json.specs.JsonText.{utf8_value}
 use Rattle.streetmap_json.proofs.Fronts.{whole_value, more_than_a_value, no_value, no_object, empty_front}
 use Rattle.streetmap_batch.specs.Text.{Text}
 use Rattle.streetmap_batch.specs.BatchFaults.{Gives}
-use Rattle.streetmap_batch.specs.BatchReading.{list_of, array_at, may_have, names_pass, has_only, batch}
+use Rattle.streetmap_batch.specs.ParsedBatches.{list_of, array_at, may_have, names_pass, has_only, batch}
 use Rattle.streetmap_batch.specs.BatchTokens.{edits_view, few_edits, IsArrayRead, AreRead, IsWholeRead, batch_in}
 use Rattle.streetmap_batch.specs.declared.batch_fault.BatchFault.{BatchFault}
 use Rattle.streetmap_batch.specs.declared.batch_fault.BatchFault.TheVariants.{BadBatch}
-use Rattle.streetmap_batch.specs.declared.batch_reading.Parts.{Parts}
+use Rattle.streetmap_batch.specs.declared.batch_parser.Parts.{Parts}
 use Rattle.streetmap_batch.specs.declared.edit.Edit.{Edit}
 use Rattle.streetmap_batch.specs.declared.format.Format.TheVariants as formats
 
@@ -61,23 +61,23 @@ array_put name d ms is = ap (λ n. option_map list_of (option_and_then as_array 
 array_kept : (name : Text) (d : Data) (ms : Members) → (codes "edits" ≡ name → ⊥) → array_at (codes "edits") (object (put name d ms)) ≡ array_at (codes "edits") (object ms)
 array_kept name d ms other = ap (λ o. option_map list_of (option_and_then as_array o)) (get_member-put_other (codes "edits") name d ms other)
 
-abbrev Told : Type 0
-Told = Option (Result (Vec Edit Global) BatchFault)
+abbrev Stated : Type 0
+Stated = Option (Result (Vec Edit Global) BatchFault)
 
 -- what an array of elements is known by
-abbrev HasEdits : Option (List Data) → Told → Type 0
-HasEdits found told = MatchOption told (found ≡ None) (λ edits. (ds : List Data) × (found ≡ Some ds) × Gives edits_view edits (few_edits ds))
+abbrev HasEdits : Option (List Data) → Stated → Type 0
+HasEdits found stated = MatchOption stated (found ≡ None) (λ edits. (ds : List Data) × (found ≡ Some ds) × Gives edits_view edits (few_edits ds))
 
-array_told : (d : Data) (told : Told) → IsArrayRead d told → HasEdits (option_map list_of (as_array d)) told
-array_told d None h = ap (option_map list_of) h
-array_told d (Some edits) h = (list_of h.0, ap (option_map list_of) h.1, h.2)
+array_given : (d : Data) (stated : Stated) → IsArrayRead d stated → HasEdits (option_map list_of (as_array d)) stated
+array_given d None h = ap (option_map list_of) h
+array_given d (Some edits) h = (list_of h.0, ap (option_map list_of) h.1, h.2)
 
 module _ (ms : Members) (parts : Parts) (held : AreRead ms parts) (name : Text) (d : Data) where
-  pub with_edits : name ≡ codes "edits" → (told : Told) → IsArrayRead d told → AreRead (put name d ms) (record { only = parts.only; key = parts.key; edits = told })
-  with_edits is told h = record {
+  pub with_edits : name ≡ codes "edits" → (stated : Stated) → IsArrayRead d stated → AreRead (put name d ms) (record { only = parts.only; key = parts.key; edits = stated })
+  with_edits is stated h = record {
     only = held.only ∙ sym (names_put (may_have formats.Batch) name d ms ∙ ap (λ n. may_have formats.Batch n && names_pass (may_have formats.Batch) ms) is);
     key = held.key ∙ sym (get_member-put_other (codes "key") name d ms (λ e. differs (e ∙ is)));
-    edits = subst (λ found. HasEdits found told) (sym (array_put name d ms is)) (array_told d told h);
+    edits = subst (λ found. HasEdits found stated) (sym (array_put name d ms is)) (array_given d stated h);
   } where
     differs : codes "key" ≡ codes "edits" → ⊥
     differs e = absurd cc
@@ -126,18 +126,18 @@ without_brace all ts t is other = by (value_at 127 all) refl where
   by (Some (d, [])) e = ap batch_in (whole_value (value 127 all) d e) ∙ no_object_no_batch d (no_object 127 t ts [] d (sym (ap (value_at 127) is) ∙ e) other)
   by (Some (d, u ∷ rest)) e = no_batch _ (more_than_a_value (value 127 all) d u rest e)
 
--- members that cannot be read, and tokens behind the object
+-- members that cannot be read, and tokens after the object
 pub without_members : (all : List Token) → value_at 127 all ≡ None → batch_in (whole (value 127 all)) ≡ Err (BadBatch None)
 without_members all e = no_batch _ (no_value (value 127 all) e)
 
-pub with_more_behind : (all rest : List Token) (d : Data) (t : Token) → value_at 127 all ≡ Some (d, t ∷ rest) → batch_in (whole (value 127 all)) ≡ Err (BadBatch None)
-with_more_behind all rest d t e = no_batch _ (more_than_a_value (value 127 all) d t rest e)
+pub with_more_after : (all rest : List Token) (d : Data) (t : Token) → value_at 127 all ≡ Some (d, t ∷ rest) → batch_in (whole (value 127 all)) ≡ Err (BadBatch None)
+with_more_after all rest d t e = no_batch _ (more_than_a_value (value 127 all) d t rest e)
 
 pub fault_of_members : (all ts : List Token) (fault : ParseFault) → value_at 127 all ≡ parse_map object (members_at 126 ts) → Fails fault (members_at 126 ts) → IsWholeRead (whole (value 127 all)) (Err fault)
 fault_of_members all ts Memory opened h = tt
 fault_of_members all ts NotJson opened h = without_members all (opened ∙ ap (parse_map object) h)
 
--- bytes that are no text
+-- bytes that are not UTF-8
 pub not_utf8 : (bytes : List ℕ) → (is_utf8 bytes ≡ true → ⊥) → batch_in (utf8_value bytes) ≡ Err (BadBatch None)
 not_utf8 bytes other = by (is_utf8 bytes) refl where
   by : (b : Bool) → is_utf8 bytes ≡ b → batch_in (utf8_value bytes) ≡ Err (BadBatch None)

@@ -7,7 +7,7 @@ use Rattle.serde_json.specs.Data.{Data, null, boolean, number, string, array, ob
 use Rattle.serde_json.specs.Find.{as_str, get}
 use Rattle.streetmap_geojson.specs.declared.fault.Fault.{Fault}
 use Rattle.streetmap_geojson.specs.FeatureValue.{FeatureValue}
-use Rattle.streetmap_geojson.specs.FeatureReading.{feature}
+use Rattle.streetmap_geojson.specs.ParsedFeatures.{feature}
 use Rattle.streetmap_geojson.specs.FeatureMeaning.{IsId, ReadsAs}
 use Rattle.streetmap_geojson.specs.Id.{id_from}
 use Rattle.streetmap_geojson.specs.JsonText.{json_of}
@@ -18,7 +18,7 @@ use Rattle.streetmap_batch.specs.Names.{is_key, is_collection_id, is_title, is_t
 use Rattle.streetmap_batch.specs.BatchValue as value
 use Rattle.streetmap_batch.specs.BatchValue.{EditValue, BatchValue}
 use Rattle.streetmap_batch.specs.BatchFaults.{Gives}
-use Rattle.streetmap_batch.specs.BatchReading.{◌>>=◌, unless, text_at, array_at, has_only, shaped, operation_of, operation_at, collection_at, title_of, time_of, as_shape, as_cause, told_feature, told_id, open_at, feature_at, delete_at, edit_as, edit_at, and_more, edits_after, keyed, batch, as_whole, batch_of, most_edits}
+use Rattle.streetmap_batch.specs.ParsedBatches.{◌>>=◌, unless, text_at, array_at, has_only, shaped, operation_of, operation_at, collection_at, title_of, time_of, as_shape, as_cause, stated_feature, stated_id, open_at, feature_at, delete_at, edit_as, edit_at, and_more, edits_after, keyed, batch, as_whole, batch_of, most_edits}
 use Rattle.streetmap_batch.specs.BatchMeaning.{HasText, IsEditOf, IsTitleOf, IsTimeMember, HasMember, IsEdit, AreEdits, IsBatch, IsBatchText}
 use Rattle.streetmap_batch.specs.declared.batch_fault.BatchFault.{BatchFault}
 use Rattle.streetmap_batch.specs.declared.batch_fault.BatchFault.TheVariants.{BadBatch, BadKey, TooManyEdits}
@@ -154,28 +154,28 @@ shape_ok : (place : ℕ) (r : Result Text Fault) (id : Text) → as_shape place 
 shape_ok place (Ok t) id e = let same : t ≡ id = cc in ap (λ (w : Text). Ok w) same
 shape_ok place (Err fault) id e = absurd cc
 
-told_feature_found : (place : ℕ) (o : Option Data) (f : FeatureValue) → told_feature place o ≡ Ok f → (told : Data) × (o ≡ Some told) × ReadsAs None told f
-told_feature_found place o f e =
+stated_feature_found : (place : ℕ) (o : Option Data) (f : FeatureValue) → stated_feature place o ≡ Ok f → (stated : Data) × (o ≡ Some stated) × ReadsAs None stated f
+stated_feature_found place o f e =
     let d = bind_ok (shaped place o) _ f e in
     (d.0, or_ok o (BadBatch (Some place)) d.0 d.1, feature_found None None d.0 f (cause_ok place (feature None d.0) f d.2))
 
-told_feature_again : (place : ℕ) (told : Data) (f : FeatureValue) → ReadsAs None told f → told_feature place (Some told) ≡ Ok f
-told_feature_again place told f h = rw (feature_again None None told f h) refl
+stated_feature_again : (place : ℕ) (stated : Data) (f : FeatureValue) → ReadsAs None stated f → stated_feature place (Some stated) ≡ Ok f
+stated_feature_again place stated f h = rw (feature_again None None stated f h) refl
 
-told_id_found : (place : ℕ) (o : Option Data) (id : Text) → told_id place o ≡ Ok id → (told : Data) × (o ≡ Some told) × IsId told id
-told_id_found place o id e =
+stated_id_found : (place : ℕ) (o : Option Data) (id : Text) → stated_id place o ≡ Ok id → (stated : Data) × (o ≡ Some stated) × IsId stated id
+stated_id_found place o id e =
     let d = bind_ok (shaped place o) _ id e in
     (d.0, or_ok o (BadBatch (Some place)) d.0 d.1, id_found d.0 id (shape_ok place (id_from d.0) id d.2))
 
-told_id_again : (place : ℕ) (told : Data) (id : Text) → IsId told id → told_id place (Some told) ≡ Ok id
-told_id_again place told id h = rw (id_again told id h) refl
+stated_id_again : (place : ℕ) (stated : Data) (id : Text) → IsId stated id → stated_id place (Some stated) ≡ Ok id
+stated_id_again place stated id h = rw (id_again stated id h) refl
 
 -- ---- edits
 
 edit_of : (format : Format) (op : Operation) (place : ℕ) (d : Data) (t : Bool) (collection : Text) → operation_at d ≡ Some op → unless (has_only format d) (BadBatch (Some place)) ≡ Ok t
     → collection_at place d ≡ Ok collection → IsEditOf format (name_of op) collection d
-edit_of format op place d t collection is only told =
-    let c = collection_found place d collection told in
+edit_of format op place d t collection is only stated =
+    let c = collection_found place d collection stated in
     record { only = unless_ok (has_only format d) (BadBatch (Some place)) t only; op_is = op_found d op is; collection_is = c.0; named = c.1 }
 
 open_found : (place : ℕ) (d : Data) (e : EditValue) → operation_at d ≡ Some operations.Open → open_at place d ≡ Ok e → IsEdit d e
@@ -197,20 +197,20 @@ unfolding feature_at
 feature_edit_found op place d p is read =
     let o = bind_ok (unless (has_only formats.Feature d) (BadBatch (Some place))) _ p read in
     let c = bind_ok (collection_at place d) _ p o.2 in
-    let f = bind_ok (told_feature place (get (codes "feature") d)) _ p c.2 in
+    let f = bind_ok (stated_feature place (get (codes "feature") d)) _ p c.2 in
     let made : (c.0, f.0) ≡ p = ok_is (c.0, f.0) p f.2 in
     subst (λ (w : Text × FeatureValue). IsFeatureEdit (name_of op) d w) made
-    (edit_of formats.Feature op place d o.0 c.0 is o.1 c.1, told_feature_found place (get (codes "feature") d) f.0 f.1)
+    (edit_of formats.Feature op place d o.0 c.0 is o.1 c.1, stated_feature_found place (get (codes "feature") d) f.0 f.1)
 
 delete_found : (place : ℕ) (d : Data) (e : EditValue) → operation_at d ≡ Some operations.Delete → delete_at place d ≡ Ok e → IsEdit d e
 unfolding delete_at
 delete_found place d e is read =
     let o = bind_ok (unless (has_only formats.Delete d) (BadBatch (Some place))) _ e read in
     let c = bind_ok (collection_at place d) _ e o.2 in
-    let i = bind_ok (told_id place (get (codes "id") d)) _ e c.2 in
+    let i = bind_ok (stated_id place (get (codes "id") d)) _ e c.2 in
     let made : value.delete c.0 i.0 ≡ e = ok_is (value.delete c.0 i.0) e i.2 in
     subst (λ (w : EditValue). IsEdit d w) made
-    (edit_of formats.Delete operations.Delete place d o.0 c.0 is o.1 c.1, told_id_found place (get (codes "id") d) i.0 i.1)
+    (edit_of formats.Delete operations.Delete place d o.0 c.0 is o.1 c.1, stated_id_found place (get (codes "id") d) i.0 i.1)
 
 edit_as_found : (o : Option Operation) (place : ℕ) (d : Data) (e : EditValue) → operation_at d ≡ o → edit_as o place d ≡ Ok e → IsEdit d e
 edit_as_found None place d e is read = absurd cc
@@ -232,7 +232,7 @@ edit_found place d e read = edit_as_found (operation_at d) place d e refl read
 feature_edit_again : (place : ℕ) (op : Text) (d : Data) (p : Text × FeatureValue) → IsFeatureEdit op d p → feature_at place d ≡ Ok p
 unfolding feature_at
 feature_edit_again place op d p h =
-    rw (h.0.only, collection_again place d p.0 h.0.collection_is h.0.named, h.1.1, told_feature_again place h.1.0 p.1 h.1.2) refl
+    rw (h.0.only, collection_again place d p.0 h.0.collection_is h.0.named, h.1.1, stated_feature_again place h.1.0 p.1 h.1.2) refl
 
 pub edit_again : (place : ℕ) (d : Data) (e : EditValue) → IsEdit d e → edit_at place d ≡ Ok e
 unfolding edit_at open_at delete_at
@@ -241,7 +241,7 @@ edit_again place d (value.«open» collection title time) h =
 edit_again place d (value.insert collection f) h = rw (op_again d operations.Insert h.0.op_is, feature_edit_again place (codes "insert") d (collection, f) h) refl
 edit_again place d (value.replace collection f) h = rw (op_again d operations.Replace h.0.op_is, feature_edit_again place (codes "replace") d (collection, f) h) refl
 edit_again place d (value.delete collection id) h =
-    rw (op_again d operations.Delete h.0.op_is, h.0.only, collection_again place d collection h.0.collection_is h.0.named, h.1.1, told_id_again place h.1.0 id h.1.2) refl
+    rw (op_again d operations.Delete h.0.op_is, h.0.only, collection_again place d collection h.0.collection_is h.0.named, h.1.1, stated_id_again place h.1.0 id h.1.2) refl
 
 -- ---- lists of edits
 
@@ -283,12 +283,12 @@ batch_found d b read =
     let es = bind_ok (edits_after 0 ds.0) _ b f.2 in
     let made : record { key = k.0; edits = es.0 } ≡ b = ok_is (record { key = k.0; edits = es.0 }) b es.2 in
     let key = passed_text is_key (as_str t.0) k.0 (or_ok _ BadKey k.0 k.1) in
-    let told : get (codes "key") d ≡ Some t.0 = or_ok _ (BadBatch None) t.0 t.1 in
+    let stated : get (codes "key") d ≡ Some t.0 = or_ok _ (BadBatch None) t.0 t.1 in
     let edits = edits_found 0 ds.0 es.0 es.1 in
     let few : length ds.0 ≤ most_edits = leb-true (length ds.0) most_edits (unless_ok (nat_le (length ds.0) most_edits) TooManyEdits f.0 f.1) in
     subst (λ (w : BatchValue). IsBatch d w) made (record {
       only = unless_ok (has_only formats.Batch d) (BadBatch None) o.0 o.1;
-      key_is = told ∙ ap (λ (w : Data). Some w) (str_found t.0 k.0 key.0);
+      key_is = stated ∙ ap (λ (w : Data). Some w) (str_found t.0 k.0 key.0);
       named = key.1;
       edits_are = (ds.0, or_ok _ (BadBatch None) ds.0 ds.1, edits.0);
       few = omega (arith, few, edits.1);

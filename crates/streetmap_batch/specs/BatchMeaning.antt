@@ -9,7 +9,7 @@ use Rattle.streetmap_batch.specs.Text.{Text}
 use Rattle.streetmap_batch.specs.Names.{is_key, is_collection_id, is_title, is_time_property}
 use Rattle.streetmap_batch.specs.BatchValue as value
 use Rattle.streetmap_batch.specs.BatchValue.{EditValue, BatchValue}
-use Rattle.streetmap_batch.specs.BatchReading.{has_only, array_at, most_edits}
+use Rattle.streetmap_batch.specs.ParsedBatches.{has_only, array_at, most_edits}
 use Rattle.streetmap_batch.specs.declared.format.Format.{Format}
 use Rattle.streetmap_batch.specs.declared.format.Format.TheVariants as formats
 
@@ -29,7 +29,7 @@ abbrev pub IsTitleOf : Option Data → Text → Text → Type 0
 IsTitleOf None collection title = title ≡ collection
 IsTitleOf (Some d) collection title = (d ≡ string title) × IsTrue (is_title title)
 
--- the time property, if there is one
+-- the time property, if any
 abbrev pub IsTimeMember : Option Data → Option Text → Type 0
 IsTimeMember None time = time ≡ None
 IsTimeMember (Some d) time = (t : Text) × (d ≡ string t) × IsTrue (is_time_property t)
@@ -37,7 +37,7 @@ IsTimeMember (Some d) time = (t : Text) × (d ≡ string t) × IsTrue (is_time_p
 
 -- the member of that name represents it
 abbrev pub HasMember : {A : Type 0} → Text → (Data → A → Type 0) → Data → A → Type 0
-HasMember name R d a = (told : Data) × (get name d ≡ Some told) × R told a
+HasMember name R d a = (stated : Data) × (get name d ≡ Some stated) × R stated a
 
 -- a feature is read without a time property: its time is set when the edit acts
 abbrev pub IsEdit : Data → EditValue → Type 0

@@ -11,14 +11,14 @@ use Rattle.streetmap_json.specs.declared.fault.ParseFault.{ParseFault}
 use Rattle.streetmap_json.specs.declared.fault.ParseFault.TheVariants.{Memory, NotJson}
 use Rattle.streetmap_geojson.specs.declared.fault.Fault.TheVariants as faults
 use Rattle.streetmap_batch.specs.BatchFaults.{Gives}
-use Rattle.streetmap_batch.specs.BatchReading.{◌>>=◌, unless, most_edits, may_have, names_pass}
-use Rattle.streetmap_batch.specs.BatchReading.{list_of, array_at, edits_after, as_whole, batch}
+use Rattle.streetmap_batch.specs.ParsedBatches.{◌>>=◌, unless, most_edits, may_have, names_pass}
+use Rattle.streetmap_batch.specs.ParsedBatches.{list_of, array_at, edits_after, as_whole, batch}
 use Rattle.streetmap_batch.specs.BatchValue.{EditValue, BatchValue}
 use Rattle.streetmap_batch.specs.BatchView.{edit_values}
 use Rattle.streetmap_batch.specs.declared.batch_fault.BatchFault.{BatchFault}
 use Rattle.streetmap_batch.specs.declared.batch_fault.BatchFault.TheVariants.{TooManyEdits}
 use Rattle.streetmap_batch.specs.declared.batch_fault.BatchFault.TheVariants.{BadBatch}
-use Rattle.streetmap_batch.specs.declared.batch_reading.Parts.{Parts}
+use Rattle.streetmap_batch.specs.declared.batch_parser.Parts.{Parts}
 use Rattle.streetmap_batch.specs.declared.edit.Edit.{Edit}
 use Rattle.streetmap_batch.specs.declared.format.Format.TheVariants as formats
 
@@ -41,7 +41,7 @@ AreItemsRead ds edits = Gives edits_view edits (few_edits (list_of ds))
 
 -- the edits of an array; none of a value that is not an array
 abbrev pub IsArrayRead : Data → Option (Result (Vec Edit Global) BatchFault) → Type 0
-IsArrayRead d told = MatchOption told (as_array d ≡ None) (λ edits. (ds : Items)
+IsArrayRead d stated = MatchOption stated (as_array d ≡ None) (λ edits. (ds : Items)
     × (as_array d ≡ Some ds) × AreItemsRead ds edits)
 
 -- what is kept of these members

@@ -4,7 +4,7 @@ pub mod BatchValue
 pub mod BatchView
 pub mod BatchText
 pub mod BatchFaults
-pub mod BatchReading
+pub mod ParsedBatches
 pub mod BatchTokens
 pub mod BatchMeaning
 pub mod BatchFacts

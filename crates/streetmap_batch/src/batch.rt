@@ -21,7 +21,7 @@ impl Batch {
     ghost use Rattle.streetmap_batch.specs.BatchFacts.{IsSoundBatch};
     ghost use Rattle.streetmap_batch.specs.BatchView.{batch_value, edit_values};
     ghost use Rattle.streetmap_batch.specs.BatchFaults.{Gives};
-    ghost use Rattle.streetmap_batch.specs.BatchReading.{batch_from};
+    ghost use Rattle.streetmap_batch.specs.ParsedBatches.{batch_from};
     ghost use Rattle.streetmap_batch.specs.BatchText.{batch_text};
 
     /// The batch of a key and edits. It is refused as `BadKey`, then as `TooManyEdits`.

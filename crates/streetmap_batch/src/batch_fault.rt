@@ -12,7 +12,7 @@ pub enum BatchFault {
     BadBatch { place: Option<u64> },
     /// The key is not valid.
     BadKey,
-    /// There are more than 10,000 edits.
+    /// The batch has more than 10,000 edits.
     TooManyEdits,
     /// The feature of the edit of that place cannot be read.
     BadFeature { place: u64, cause: Fault },

@@ -120,7 +120,7 @@ fn push_edit(alloc: Global, out: &mut String, edit: &Edit) -> Result<(), AllocEr
     }
 }
 
-/// The room that the names in an edit mostly take in its text, in bytes.
+/// The room that the names in an edit usually take in its text, in bytes.
 const NAMES_ROOM: usize = 128;
 
 /// The room that the text of an edit begins with, in bytes.

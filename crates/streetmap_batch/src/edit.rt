@@ -4,7 +4,7 @@ ghost use Rattle.streetmap_batch.specs.Names.{is_collection_id, is_title, is_tim
 ghost use Rattle.streetmap_batch.specs.Names.{passing};
 ghost use Rattle.streetmap_batch.specs.BatchFacts.{IsSoundEdit};
 ghost use Rattle.streetmap_batch.specs.BatchFaults.{Gives};
-ghost use Rattle.streetmap_batch.specs.BatchReading.{collection_in};
+ghost use Rattle.streetmap_batch.specs.ParsedBatches.{collection_in};
 ghost use Rattle.streetmap_batch.specs.BatchView.{edit_value};
 
 use crate::batch_fault::BatchFault;
@@ -163,7 +163,7 @@ pub enum Edit {
 }
 
 impl Edit {
-    ghost use Rattle.streetmap_batch.specs.BatchReading.{edit_in};
+    ghost use Rattle.streetmap_batch.specs.ParsedBatches.{edit_in};
     ghost use Rattle.streetmap_batch.specs.BatchValue as value;
 
     /// What is true of every edit.

@@ -7,22 +7,22 @@
 //! of `specs/BatchText`, by which a repeated batch is recognised.
 //!
 //! Modules, in the order of reading: `names`, `edit`, `batch_fault`, `batch`, `batch_text`,
-//! `format`, `member`, `edit_reading`, `edit_gathering`, `batch_reading`.
+//! `format`, `member`, `edit_parser`, `edit_tokens`, `batch_parser`.
 #![tactic(auto)]
 
 mod batch;
 mod batch_fault;
-mod batch_reading;
+mod batch_parser;
 mod batch_text;
 mod edit;
-mod edit_gathering;
-mod edit_reading;
+mod edit_parser;
+mod edit_tokens;
 mod format;
 mod member;
 mod names;
 
 pub use batch::Batch;
 pub use batch_fault::BatchFault;
-pub use batch_reading::read_batch;
+pub use batch_parser::read_batch;
 pub use edit::{CollectionId, Edit, TimeProperty, Title};
 pub use names::{is_collection_id, is_key, is_time_property, is_title};

@@ -3,8 +3,8 @@ ghost use Rattle.std.specs.Prelude.{◌≡◌, option_map, string_bytes};
 ghost use Rattle.std.specs.BTreeMap.{keys};
 ghost use Rattle.std.specs.List.{list_all};
 ghost use Rattle.serde_json.specs.View.{view, members_view};
-ghost use Rattle.streetmap_batch.specs.BatchReading.{has_only, may_have, names_pass, operation_at};
-ghost use Rattle.streetmap_batch.specs.BatchReading.{operation_of, text_at};
+ghost use Rattle.streetmap_batch.specs.ParsedBatches.{has_only, may_have, names_pass, operation_at};
+ghost use Rattle.streetmap_batch.specs.ParsedBatches.{operation_of, text_at};
 
 use crate::format::{Format, Operation};
 use serde_json::{Map, Value};

@@ -14,11 +14,11 @@ use Rattle.streetmap_bodies.specs.Plain.{IsPlain, IsEscapeFree}
 quoted_then : (s others : List ℕ) → IsEscapeFree s → quoted s ++ others ≡ 34 ∷ (s ++ 34 ∷ others)
 quoted_then s others e = ap (λ l. (34 ∷ (l ++ 34 ∷ [])) ++ others) e ∙ ap (λ l. 34 ∷ l) (append_assoc s (34 ∷ []) others)
 
--- one more text, before the others
+-- one more text, after the others
 pub before : (s t u m r : List ℕ) → m ≡ s ++ t → r ≡ m ++ u → r ≡ s ++ (t ++ u)
 before s t u m r p q = q ∙ ap (λ l. l ++ u) p ∙ append_assoc s t u
 
--- from the quote behind the description on
+-- from the quote after the description on
 abbrev error_end : Option ℕ → List ℕ
 error_end place = codes "\"" ++ (place_text place ++ codes "}")
 

@@ -41,12 +41,12 @@ items_href root name = collection_href root name ++ codes "/items"
 abbrev pub page_href : Text → Text → Text → Text
 page_href root name query = items_href root name ++ codes "?" ++ query
 
--- the link to the page after it, if there is one
+-- the link to the next page, if any
 abbrev pub next_link : Option Text → Items
 next_link None = no_items
 next_link (Some href) = item (link href (codes "next") geo_json) no_items
 
--- to itself, and to the page after it, if there is one; OGC 17-069, section 7.15.5
+-- to itself, and to the next page, if any; OGC 17-069, section 7.15.5
 abbrev pub page_links : Text → Option Text → Data
 page_links here next = array (item (link here (codes "self") geo_json) (next_link next))
 
@@ -132,7 +132,7 @@ extent_data b = object (member (codes "spatial")
     (object (member (codes "bbox") (array (item (array (items_of (box_numbers b))) no_items))
     (member (codes "crs") grid_crs no_members))) no_members)
 
--- the member `extent`, if there is a position
+-- the member `extent`, if any feature has a position
 abbrev pub extent_member : Option BoxValue → Members → Members
 extent_member None others = others
 extent_member (Some b) others = member (codes "extent") (extent_data b) others

@@ -18,10 +18,11 @@ use streetmap_ledger::Summary;
 fn extent_value(alloc: Global, area: GridBox) -> Result<Value, AllocError>
     ensures { IfOk result (λ v. view v ≡ spec.extent_data (box_value area)) }
 {
-    json!(in alloc; {"spatial": {"bbox": [[area.x0, area.y0, area.x1, area.y1]], "crs": "tag:streetmap.invalid,2024:crs/grid-mm"}})
+    json!(in alloc; {"spatial": {"bbox": [[area.x0, area.y0, area.x1, area.y1]], "crs":
+        "tag:streetmap.invalid,2024:crs/grid-mm"}})
 }
 
-/// The member `extent` and a comma, if there is a box.
+/// The member `extent` and a comma, if the collection has a box.
 fn extent_text(alloc: Global, extent: Option<GridBox>) -> Result<String, AllocError>
     ensures { IfOk result (λ text. string_bytes text
         ≡ spec.extent_text (option_map box_value extent)) }

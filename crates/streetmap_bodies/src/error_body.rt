@@ -8,7 +8,7 @@ ghost use Rattle.streetmap_bodies.specs.Plain.{IsPlain};
 
 use streetmap_http::{push, push_number};
 
-/// Appends the member `cause`, if there is one.
+/// Appends the member `cause`, if any.
 fn push_cause(out: &mut String, cause: Option<&str>)
     requires room { string_len out.old + 80 ≤ string_capacity out.old }
     requires plain { ForSome (option_copied cause) IsPlain }
@@ -24,7 +24,7 @@ fn push_cause(out: &mut String, cause: Option<&str>)
     }
 }
 
-/// Appends the member `place`, if there is one.
+/// Appends the member `place`, if any.
 fn push_place(out: &mut String, place: Option<u64>)
     requires { string_len out.old + 32 ≤ string_capacity out.old }
     ensures bytes { string_bytes out.new ≡ string_bytes out.old ++ place_text place }
@@ -38,8 +38,8 @@ fn push_place(out: &mut String, place: Option<u64>)
 }
 
 /// Appends the body of an error: its code and sentence, the place of the edit or feature at fault
-/// (counted from 1), if there is one, and the name of the fault within that feature, if there is
-/// one. There must be room for 320 bytes, so that no memory is allocated.
+/// (counted from 1), if any, and the name of the fault within that feature, if any. `out` must have
+/// room for 320 bytes, so that no memory is allocated.
 pub fn push_error(
     out: &mut String,
     code: &str,

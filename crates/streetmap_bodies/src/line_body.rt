@@ -25,7 +25,7 @@ pub fn line_feature_text(alloc: Global, feature: &Feature) -> Result<String, All
     Ok(out)
 }
 
-/// Appends the member `next`, if there is one.
+/// Appends the member `next`, if any.
 fn add_next(alloc: Global, out: &mut String, next: &Option<String>) -> Result<(), AllocError>
     ensures { OnOk result (string_bytes out.new
         ≡ string_bytes out.old ++ next_text (option_map string_bytes next.now)) }

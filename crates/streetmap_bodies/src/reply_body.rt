@@ -24,7 +24,7 @@ fn push_count(out: &mut String, name: &str, number: u64)
 }
 
 /// Appends the body of the reply to an accepted or repeated batch: how many edits of each kind it
-/// has, its key and its serial. There must be room for 320 bytes, so that no memory is allocated.
+/// has, its key and its serial. `out` must have room for 320 bytes; no memory is allocated.
 pub fn push_reply(out: &mut String, key: &str, counts: Counts, serial: u64)
     requires room { string_len out.old + 320 ≤ string_capacity out.old }
     requires key { IsEscapeFree key.now }
@@ -45,7 +45,7 @@ pub fn push_reply(out: &mut String, key: &str, counts: Counts, serial: u64)
 }
 
 /// Appends the body of the reply to a batch: the reply if it was accepted or repeated, the error if
-/// it was refused. There must be room for 320 bytes, so that no memory is allocated.
+/// it was refused. `out` must have room for 320 bytes, so that no memory is allocated.
 #[tactic(auto, unfolding(crate::specs::Replies::reply_body))]
 pub fn push_reply_body(out: &mut String, batch: &Batch, reply: Reply)
     requires { string_len out.old + 320 ≤ string_capacity out.old }

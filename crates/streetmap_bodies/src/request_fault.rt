@@ -20,7 +20,7 @@ pub enum RequestFault {
     Framing(FramingFault),
     /// The target does not begin with a slash.
     BadTarget,
-    /// There is nothing at the path.
+    /// The path has no resource.
     NotFound,
     /// The path has these methods, and the request another.
     MethodNotAllowed(Methods),
@@ -28,7 +28,7 @@ pub enum RequestFault {
     Query(QueryFault),
     /// The batch cannot be read.
     Batch(BatchFault),
-    /// The batch is refused, with the place of the edit at fault if there is one.
+    /// The batch is refused, with the place of the edit at fault, if any.
     Refused(Refusal, Option<u64>),
     /// The keeper did not answer.
     Keeper(Fault),
@@ -122,7 +122,7 @@ impl RequestFault {
     }
 }
 
-/// Appends the body of the answer. There must be room for 320 bytes, so that no memory is
+/// Appends the body of the answer. `out` must have room for 320 bytes, so that no memory is
 /// allocated.
 #[tactic(auto, unfolding(crate::specs::RequestFaults::fault_body))]
 pub fn push_fault(out: &mut String, fault: &RequestFault)

@@ -10,7 +10,7 @@ use Rattle.streetmap_grid.proofs.Signs.{le_decides}
 use Rattle.streetmap_cells.specs.Envelopes.{IsFromCorner, IsEnvelopeOf, overlaps}
 use Rattle.streetmap_cells.specs.declared.envelope.Envelope.{Envelope}
 
--- bounds stand in the order in which they do counted from the corner of the grid
+-- bounds have the same order if they are counted from the corner of the grid
 same_order : (m n : ℕ) (a b : ℤ) → IsFromCorner m a → IsFromCorner n b → nat_le m n ≡ int_le a b
 same_order m n a b is is' = same_from_decides (nat_le m n) (int_le a b)
     (λ h. let le = leb-true m n h in omega (arith, ints, is, is', le), λ le. le-leb m n (omega (arith, ints, is, is', le)))

@@ -1,4 +1,4 @@
--- What stands in cells stays there.
+-- What cells contain stays in them.
 use Rattle.std.proofs.Common.{◌≡◌, ◌<◌, ℕ, List, ◌++◌, Bool, true, false, cond, Contains, length, get_or, set, sym, subst, inl, inr}
 use Rattle.std.specs.List.{HoldsAt}
 use Rattle.std.specs.declared.vec.Vec.{Vec}
@@ -13,7 +13,7 @@ use Rattle.streetmap_cells.specs.declared.cells.Cells.{Cells}
 abbrev Bucket : Type 0
 Bucket = Vec Entry Global
 
--- an entry of a bucket still stands in it where others were added
+-- an entry of a bucket is still in it after others were added
 pub pushed : (b : Bool) (xs ys : List Entry) (e : Entry) → Contains xs e → Contains (cond b (xs ++ ys) xs) e
 pushed true xs ys e h = Contains-append_left xs ys e h
 pushed false xs ys e h = h
@@ -27,7 +27,7 @@ still_there bs n old new e within is grows k h d = elim (cases_eq k n) [
   | inr other ↦ subst (HasEntry e) (sym (get_or-set_other bs n k new d other)) (h d)
 ]
 
--- where the entries of one bucket become more, all that stands in cells stays there
+-- when one bucket gains entries, all that the cells contain stays in them
 pub kept : (old new : Cells) (n : ℕ) (before after : Bucket) → n < length old.buckets.items → before ≡ get_or old.buckets.items n before → new.buckets.items ≡ set old.buckets.items n after
     → ((e : Entry) → Contains before.items e → Contains after.items e) → KeepsListed old new
 kept old new n before after within is set_so grows c e h =

@@ -41,7 +41,7 @@ reach a b h =
     let three = and_parts (nat_le a.y0 b.y1) (nat_le b.y0 a.y1) two.1 in
     record { west = leb-true a.x0 b.x1 one.0; east = leb-true b.x0 a.x1 two.0; south = leb-true a.y0 b.y1 three.0; north = leb-true b.y0 a.y1 three.1 }
 
--- the cells of these rows and columns are all that an extent could stand in which overlaps the window
+-- an extent that overlaps the window can only be in the cells of these rows and columns
 pub level_searched : (cells : Cells) (window : Envelope) (marks : Marks) (level size : ℕ) → size ≡ cell_size level
     → AreRowsSearched cells window marks level ((window.y0 - size) / size) (window.y1 / size) ((window.x0 - size) / size) (window.x1 / size) → IsLevelSearched cells window marks level
 level_searched cells window marks level size is h = λ x y west east south north.
@@ -55,7 +55,7 @@ level_searched cells window marks level size is h = λ x y west east south north
     (earlier_cell (window.x0 - cell_size level) x (cell_size level) some (omega arith))
     (earlier_cell x window.x1 (cell_size level) some east)
 
--- what is listed and overlaps the window is marked, where all levels were searched
+-- what is listed and overlaps the window is marked if all levels were searched
 pub all_marked : (cells : Cells) (window : Envelope) (marks : Marks) → ((level : ℕ) → level < 7 → IsLevelSearched cells window marks level) → MarksListed cells window marks
 all_marked cells window marks searched c e listed over =
     let r = reach e window over in

@@ -14,6 +14,6 @@ pub record IsEnvelopeOf (e : Envelope) (box : BoxValue) : Type 0 where
   pub east : IsFromCorner e.x1 box.x1
   pub north : IsFromCorner e.y1 box.y1
 
--- none ends before the other begins, in either direction
+-- neither ends before the other begins, in either direction
 abbrev pub overlaps : Envelope → Envelope → Bool
 overlaps a b = nat_le a.x0 b.x1 && (nat_le b.x0 a.x1 && (nat_le a.y0 b.y1 && nat_le b.y0 a.y1))

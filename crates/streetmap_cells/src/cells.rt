@@ -7,13 +7,13 @@ use crate::marks::Marks;
 use std::alloc::{AllocError, Global};
 use streetmap_grid::GridBox;
 
-/// How many entries a bucket has, on average, if there is no room for more.
+/// The average number of entries in a bucket when the cells are full.
 const ENTRIES_A_BUCKET: usize = 32;
 
 /// The width and height of the smallest cells, in millimetres.
 const SMALLEST_CELL: i64 = 32_768;
 
-/// How many levels there are. The cells of the last one are as large as the grid.
+/// The number of levels. The cells of the last one are as large as the grid.
 const LEVELS: u32 = 7;
 
 /// An extent, and the number of a chunk that has an outline with it.
@@ -42,7 +42,7 @@ impl Cells {
     ghost use Rattle.streetmap_cells.specs.Searches.{IsRowSearched, IsLevelSearched, MarksListed};
     ghost use Rattle.streetmap_cells.specs.Searches.{MarksAll};
 
-    /// No extents, and room for this many.
+    /// No extents, and room for `room` of them.
     pub fn new(alloc: Global, room: usize) -> Result<Self, AllocError>
         ensures { IfOk result (λ cells. cells.room ≡ room) }
     {
@@ -63,8 +63,8 @@ impl Cells {
         }
     }
 
-    /// Whether as many extents were added as there was room for. Then many may be out of date, and
-    /// it is time to rebuild the cells.
+    /// Whether no room is left for another extent. Then many extents may be out of date, and it is
+    /// time to rebuild the cells.
     pub fn is_full(&self) -> bool
         ensures { result ≡ nat_eq self.now.room 0 }
     {

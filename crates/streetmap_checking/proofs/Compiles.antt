@@ -1,4 +1,4 @@
--- What the statements of a check mean, wherever our tables stand.
+-- What the statements of a check mean, wherever our tables are.
 use Rattle.std.proofs.Common.{[], ◌∷◌, codes, refl, arith}
 use Rattle.sqlite_tied.specs.Compute.{everything}
 use Rattle.streetmap_rows.proofs.Meaning.{Selection, IsSelect, SelectMeans, SelectNever, a_text}

@@ -8,8 +8,8 @@ use Rattle.streetmap_ledger.specs.State.{AcceptedBatch}
 use Rattle.streetmap_rows.specs.Rows.{batch_cells}
 use Rattle.streetmap_checking.specs.Good.{AreEntryRows, AreFormatRows, AreFeatureRows, AreOwnerRows, IsAccepted, AreSerials, AreBatchRows, serials_of}
 use Rattle.streetmap_checking.specs.Held.{HoldsFormatRows, known}
-use Rattle.streetmap_checking.specs.Telling.{Known, SeesFeatures, SeesAllFeatures, NoFeatures, NoFeaturesOfAll}
-use Rattle.streetmap_checking.specs.Looking.{known_of}
+use Rattle.streetmap_checking.specs.QueryResults.{Known, SeesFeatures, SeesAllFeatures, NoFeatures, NoFeaturesOfAll}
+use Rattle.streetmap_checking.specs.KnownCollections.{known_of}
 use Rattle.streetmap_checking.specs.declared.collections.Head.{Head}
 use Rattle.streetmap_checking.specs.declared.formats.FormatRows.{FormatRows}
 use Rattle.streetmap_checking.proofs.RowCells.{serial_of_cells}

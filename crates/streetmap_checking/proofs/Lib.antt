@@ -8,7 +8,7 @@ pub mod Owning
 pub mod Placed
 pub mod Taking
 pub mod Simple
-pub mod Looked
+pub mod ReadResults
 pub mod Found
 pub mod Only
 pub mod Shown

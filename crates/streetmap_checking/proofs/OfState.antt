@@ -19,18 +19,18 @@ use Rattle.streetmap_ledger.specs.Batches.{most_batches}
 use Rattle.streetmap_ledger.specs.WellFormed.{IsState}
 use Rattle.streetmap_reading.proofs.ShownOutlines.{collections_at, found_each}
 use Rattle.sqlite.specs.declared.error.Error.{Error}
-use Rattle.streetmap_rows.specs.Failing.{IsOfStore, HasReason}
+use Rattle.streetmap_rows.specs.Failures.{IsOfStore, HasReason}
 use Rattle.streetmap_rows.specs.declared.fault.ReadFault.{ReadFault}
 use Rattle.streetmap_rows.specs.declared.fault.ReadFault.TheVariants.{Store, Unread}
-use Rattle.streetmap_rows.specs.Keeping.{Rests}
+use Rattle.streetmap_rows.specs.KeptStates.{Rests}
 use Rattle.streetmap_rows.specs.Rows.{collection_cells, batch_cells}
 use Rattle.streetmap_rows.specs.Statements.{select_collections}
 use Rattle.streetmap_rows.proofs.OrderedRows.{find_has, mapped_has}
 use Rattle.streetmap_checking.specs.Statements.{select_formats, select_features, select_owners, select_batches}
 use Rattle.streetmap_checking.specs.Good.{CollectionHead, head_cells, IsCollectionHead, feature_view, AreFormatRows, AreCollectionRows, AreFeatureRows, AreOwnerRows, AreBatchRows, serials_of}
-use Rattle.streetmap_checking.specs.Telling.{Known, IsNotShown, TellsWhy, SeesCollections, SeesAllFeatures}
-use Rattle.streetmap_checking.specs.Checking.{ShowsTotals, IsDamaged, by_format, by_collections, by_features, by_owners, by_batches, AreTotals, feature_count}
-use Rattle.streetmap_checking.specs.declared.checking.Totals.{Totals}
+use Rattle.streetmap_checking.specs.QueryResults.{Known, IsNotShown, ShowsWhy, SeesCollections, SeesAllFeatures}
+use Rattle.streetmap_checking.specs.CheckResults.{ShowsTotals, IsDamaged, by_format, by_collections, by_features, by_owners, by_batches, AreTotals, feature_count}
+use Rattle.streetmap_checking.specs.declared.check.Totals.{Totals}
 use Rattle.streetmap_checking.proofs.Only.{only_of, only_so, sees_good, not_none}
 use Rattle.streetmap_checking.proofs.RowCells.{name_of_cells, time_of_cells}
 use Rattle.streetmap_checking.proofs.Shown.{format_row, formats_at, features_at, batches_at, owners_at}
@@ -55,7 +55,7 @@ map_twice : {A B C : Type 0} (f : B → C) (g : A → B) (xs : List A) → map f
 map_twice f g [] = refl
 map_twice f g (x ∷ xs) = ap (λ l. f (g x) ∷ l) (map_twice f g xs)
 
--- as many entries where the rows are the same
+-- as many entries if the rows are the same
 as_many : {A B : Type 0} (f : A → Row) (g : B → Row) (xs : List A) (ys : List B) → map f xs ≡ map g ys → length xs ≡ length ys
 as_many f g xs ys e = sym (map_length f xs) ∙ ap length e ∙ map_length g ys
 
@@ -203,15 +203,15 @@ module _ (old : Seen) (s : State) (rests : Rests old s) where
         batches = b.3 ∙ as_many (λ (x : Text × AcceptedBatch). batch_cells x.0 x.1) (λ (x : Text × AcceptedBatch). batch_cells x.0 x.1) b.2.0.entries (entries s.keys) (sym b.2.0.are ∙ is) ∙ sym (len-entries s.keys);
       }
 
--- ---- why a look told nothing
+-- ---- why a read gave up
 
-pub damaged_told : (old new : Seen) (fault : ReadFault) → fault ≡ Unread → TellsWhy (IsDamaged old) old new fault → IsDamaged old
-damaged_told old new fault is h = (subst (TellsWhy (IsDamaged old) old new) is h).0
+pub damaged_reported : (old new : Seen) (fault : ReadFault) → fault ≡ Unread → ShowsWhy (IsDamaged old) old new fault → IsDamaged old
+damaged_reported old new fault is h = (subst (ShowsWhy (IsDamaged old) old new) is h).0
 
-pub refused_told : (old new : Seen) (fault : ReadFault) (e : Error) → fault ≡ Store e → TellsWhy (IsDamaged old) old new fault → (IsOfStore e → ⊥) → IsDamaged old
-refused_told old new fault e is h other = (subst (TellsWhy (IsDamaged old) old new) is h).0 other
+pub refused_reported : (old new : Seen) (fault : ReadFault) (e : Error) → fault ≡ Store e → ShowsWhy (IsDamaged old) old new fault → (IsOfStore e → ⊥) → IsDamaged old
+refused_reported old new fault e is h other = (subst (ShowsWhy (IsDamaged old) old new) is h).0 other
 
--- the reason of an error that a look told
+-- the reason of an error that a read reported
 pub refused_for : (old new : Seen) (fault : ReadFault) (e : Error) → fault ≡ Store e
-    → TellsWhy (IsDamaged old) old new fault → HasReason old new e
-refused_for old new fault e is h = (subst (TellsWhy (IsDamaged old) old new) is h).2
+    → ShowsWhy (IsDamaged old) old new fault → HasReason old new e
+refused_for old new fault e is h = (subst (ShowsWhy (IsDamaged old) old new) is h).2

@@ -1,4 +1,4 @@
--- What a query that no rule refuses tells of a database, where all that it may show is so.
+-- What a query that no rule refuses shows of a database, if all that it may show is good.
 use Rattle.std.proofs.Common.{◌≡◌, inl, inr, ℕ, List, [], ◌++◌, length, false, None, refl, sym, ap, subst, ◌∙◌, append-nil}
 use Rattle.sqlite.specs.declared.error.Error.{Error}
 use Rattle.sqlite.specs.declared.types.Value.TheVariants.{Null}
@@ -13,15 +13,15 @@ use Rattle.sqlite.specs.Effect.{Database, ReadsFirst, Reads, RefusesQuery, Refus
 use Rattle.sqlite.specs.State.{State as Seen, IsNotRun, FailsToQuery, FailsToShow}
 use Rattle.sqlite.proofs.Callers.{command_of, reads_as, begins_as}
 use Rattle.sqlite_schema.specs.declared.program.Program.{Program}
-use Rattle.streetmap_rows.specs.Failing.{IsOfStore}
+use Rattle.streetmap_rows.specs.Failures.{IsOfStore}
 use Rattle.streetmap_rows.specs.Queries.{program}
 use Rattle.streetmap_rows.proofs.StoreErrors.{failure_is}
 use Rattle.streetmap_rows.proofs.Resolving.{Means, command_is, is_plain, is_whole, unlisted}
 use Rattle.streetmap_reading.specs.Candidates.{IsOneStatement, ShowsOf}
-use Rattle.streetmap_reading.specs.Seeing.{QueryShows}
-use Rattle.streetmap_checking.specs.Telling.{IsNotShown, is_refused, begins_badly, not_good}
+use Rattle.streetmap_reading.specs.ShownQueries.{QueryShows}
+use Rattle.streetmap_checking.specs.QueryResults.{IsNotShown, is_refused, begins_badly, not_good}
 
--- the text is a query of this database that no rule refuses, and what it may show is so
+-- the text is a query of this database that no rule refuses, and what it may show is good
 pub record OnlyShows (sql : List ℕ) (params : Row) (db : Database) (Good : List Row → Type 0) : Type 0 where
   pub plain : IsPlain (understood db.schema sql)
   pub unlisted : reads_listing db.schema sql ≡ false

@@ -1,4 +1,4 @@
--- Features that stand in their collection.
+-- Features in their collection.
 use Rattle.std.proofs.Common.{◌≡◌, Option, refl, sym, subst}
 use Rattle.streetmap_geojson.specs.FeatureValue.{FeatureValue}
 use Rattle.streetmap_batch.specs.Text.{Text}

@@ -16,7 +16,7 @@ use Rattle.streetmap_batch.specs.BatchFacts.{IsTimePropertyIf}
 use Rattle.streetmap_batch.specs.Names.{is_time_property, is_id_byte, is_key_byte, is_key, is_collection_id}
 use Rattle.streetmap_rows.specs.declared.fault.ReadFault.{ReadFault}
 use Rattle.streetmap_rows.specs.declared.fault.ReadFault.TheVariants.{Memory, Store, Unread}
-use Rattle.streetmap_reading.specs.Folding.{Refuses}
+use Rattle.streetmap_reading.specs.FoldEffects.{Refuses}
 
 pub refuses_for : (P Q : Type 0) (fault : ReadFault) → (P → Q) → Refuses P fault → Refuses Q fault
 refuses_for P Q Memory turn h = h

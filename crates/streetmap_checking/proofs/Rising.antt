@@ -9,7 +9,7 @@ use Rattle.sqlite.specs.Order.{Row}
 use Rattle.streetmap_batch.specs.Text.{Text, text_cmp}
 use Rattle.streetmap_reading.proofs.BetweenRows.{map_append}
 use Rattle.streetmap_checking.specs.Good.{AreEntryRows}
-use Rattle.streetmap_checking.specs.Held.{last_key, StandsBehind}
+use Rattle.streetmap_checking.specs.Held.{last_key, ComesAfterLast}
 
 both : (a b : Bool) → T a → T b → T (a && b)
 both true b p q = q
@@ -44,8 +44,8 @@ module _ {V : Type 0} where
       both (is_lt (text_cmp a e.0)) (below_all text_cmp a es) (is_less _ (nat_list_cmp_total.trans a b e.0 less (less_is _ (first (is_lt (text_cmp b e.0)) (below_all text_cmp b es) h))))
       (less_below a b es less (second (is_lt (text_cmp b e.0)) (below_all text_cmp b es) h))
 
-  -- a key behind the last is put at the end
-  pub rising_end : (es : List (Text × V)) (e : Text × V) → T (is_sorted text_cmp es) → StandsBehind (last_key es) e.0 → T (is_sorted text_cmp (es ++ e ∷ []))
+  -- a key after the last is put at the end
+  pub rising_end : (es : List (Text × V)) (e : Text × V) → T (is_sorted text_cmp es) → ComesAfterLast (last_key es) e.0 → T (is_sorted text_cmp (es ++ e ∷ []))
   rising_end [] e up less = tt
   rising_end (d ∷ []) e up less = both (below_all text_cmp d.0 (e ∷ [])) true (both (is_lt (text_cmp d.0 e.0)) true (is_less _ less) tt) tt
   rising_end (d ∷ f ∷ es) e up less =
@@ -54,8 +54,8 @@ module _ {V : Type 0} where
       both (below_all text_cmp d.0 (f ∷ es ++ e ∷ [])) (is_sorted text_cmp (f ∷ es ++ e ∷ []))
       (both (is_lt (text_cmp d.0 f.0)) (below_all text_cmp d.0 (es ++ e ∷ [])) low (less_below d.0 f.0 (es ++ e ∷ []) (less_is _ low) (first (below_all text_cmp f.0 (es ++ e ∷ [])) (is_sorted text_cmp (es ++ e ∷ [])) later))) later
 
-  -- a key stands behind the last before it
-  pub rising_at : (es : List (Text × V)) (e : Text × V) (fs : List (Text × V)) → T (is_sorted text_cmp (es ++ e ∷ fs)) → StandsBehind (last_key es) e.0
+  -- a key comes after the last before it
+  pub rising_at : (es : List (Text × V)) (e : Text × V) (fs : List (Text × V)) → T (is_sorted text_cmp (es ++ e ∷ fs)) → ComesAfterLast (last_key es) e.0
   rising_at [] e fs up = tt
   rising_at (d ∷ []) e fs up = less_is _ (first (is_lt (text_cmp d.0 e.0)) (below_all text_cmp d.0 fs) (first (below_all text_cmp d.0 (e ∷ fs)) (is_sorted text_cmp (e ∷ fs)) up))
   rising_at (d ∷ f ∷ es) e fs up = rising_at (f ∷ es) e fs (second (below_all text_cmp d.0 (f ∷ es ++ e ∷ fs)) (is_sorted text_cmp (f ∷ es ++ e ∷ fs)) up)
@@ -65,30 +65,30 @@ module _ {V : Type 0} where
   last_end (d ∷ []) e = refl
   last_end (d ∷ f ∷ es) e = last_end (f ∷ es) e
 
--- what stands at a place of a list of rows
-pub record StandsAt {A : Type 0} (f : A → Row) (rows : List Row) (row : Row) (later : List Row) (xs : List A) : Type 0 where
+-- what is at a place of a list of rows
+pub record IsAtRow {A : Type 0} (f : A → Row) (rows : List Row) (row : Row) (later : List Row) (xs : List A) : Type 0 where
   pub before : List A
   pub at : A
-  pub behind : List A
-  pub is : xs ≡ before ++ at ∷ behind
+  pub following : List A
+  pub is : xs ≡ before ++ at ∷ following
   pub front : rows ≡ map f before
   pub same : row ≡ f at
 
-pub stands_at : {A : Type 0} (f : A → Row) (rows : List Row) (row : Row) (later : List Row) (xs : List A) → rows ++ row ∷ later ≡ map f xs → StandsAt f rows row later xs
-stands_at f [] row later [] e = absurd cc
-stands_at f [] row later (x ∷ xs) e = record { before = []; at = x; behind = xs; is = refl; front = refl; same = let s : row ≡ f x = cc in s }
-stands_at f (r ∷ rows) row later [] e = absurd cc
-stands_at f (r ∷ rows) row later (x ∷ xs) e =
+pub is_at_row : {A : Type 0} (f : A → Row) (rows : List Row) (row : Row) (later : List Row) (xs : List A) → rows ++ row ∷ later ≡ map f xs → IsAtRow f rows row later xs
+is_at_row f [] row later [] e = absurd cc
+is_at_row f [] row later (x ∷ xs) e = record { before = []; at = x; following = xs; is = refl; front = refl; same = let s : row ≡ f x = cc in s }
+is_at_row f (r ∷ rows) row later [] e = absurd cc
+is_at_row f (r ∷ rows) row later (x ∷ xs) e =
     let tail : rows ++ row ∷ later ≡ map f xs = cc in
-    let it = stands_at f rows row later xs tail in
-    record { before = x ∷ it.before; at = it.at; behind = it.behind; is = ap (λ l. x ∷ l) it.is; front = (let first : r ≡ f x = cc in λ i. first i ∷ it.front i); same = it.same }
+    let it = is_at_row f rows row later xs tail in
+    record { before = x ∷ it.before; at = it.at; following = it.following; is = ap (λ l. x ∷ l) it.is; front = (let first : r ≡ f x = cc in λ i. first i ∷ it.front i); same = it.same }
 
 module _ {V : Type 0} (cells : Text → V → Row) (Fine : Text → V → Type 0) where
   pub no_rows : AreEntryRows cells Fine []
   no_rows = record { entries = []; are = refl; rising = tt; fine = tt }
 
-  -- one row more
-  unfoldable pub grows : (rows : List Row) (row : Row) (are : AreEntryRows cells Fine rows) (key : Text) (value : V) → row ≡ cells key value → Fine key value → StandsBehind (last_key are.entries) key → AreEntryRows cells Fine (rows ++ row ∷ [])
+  -- one more row
+  unfoldable pub grows : (rows : List Row) (row : Row) (are : AreEntryRows cells Fine rows) (key : Text) (value : V) → row ≡ cells key value → Fine key value → ComesAfterLast (last_key are.entries) key → AreEntryRows cells Fine (rows ++ row ∷ [])
   grows rows row are key value is fine less = record {
     entries = are.entries ++ (key, value) ∷ [];
     are = (λ i. are.are i ++ is i ∷ []) ∙ sym (map_append (λ (e : Text × V). cells e.0 e.1) are.entries ((key, value) ∷ []));
@@ -106,22 +106,22 @@ module _ {V : Type 0} (cells : Text → V → Row) (Fine : Text → V → Type 0
     same_last (d ∷ c ∷ es) (f ∷ []) e = absurd cc
     same_last (d ∷ c ∷ es) (f ∷ g ∷ fs) e = same_last (c ∷ es) (g ∷ fs) (let tail : cells c.0 c.1 ∷ map (λ e. cells e.0 e.1) es ≡ cells g.0 g.1 ∷ map (λ e. cells e.0 e.1) fs = cc in tail)
 
-    -- the row behind rows, of more rows
+    -- the row that comes next after rows
     pub record IsNext (last : Option Text) (row : Row) : Type 0 where
       pub key : Text
       pub value : V
       pub is : row ≡ cells key value
       pub fine : Fine key value
-      pub less : StandsBehind last key
+      pub less : ComesAfterLast last key
 
     pub next_of : (rows : List Row) (row : Row) (later : List Row) (are : AreEntryRows cells Fine rows) → AreEntryRows cells Fine ((rows ++ row ∷ []) ++ later) → IsNext (last_key are.entries) row
     next_of rows row later are more =
-        let it = stands_at (λ (e : Text × V). cells e.0 e.1) rows row later more.entries (sym (append_assoc rows (row ∷ []) later) ∙ more.are) in
+        let it = is_at_row (λ (e : Text × V). cells e.0 e.1) rows row later more.entries (sym (append_assoc rows (row ∷ []) later) ∙ more.are) in
         let last = same_last it.before are.entries (sym it.front ∙ are.are) in
         record {
           key = it.at.0;
           value = it.at.1;
           is = it.same;
-          fine = all_at (λ (e : Text × V). Fine e.0 e.1) it.before it.at it.behind (subst (AllByRecursion (λ (e : Text × V). Fine e.0 e.1)) it.is more.fine);
-          less = subst (λ l. StandsBehind l it.at.0) last (rising_at it.before it.at it.behind (subst (λ l. T (is_sorted text_cmp l)) it.is more.rising));
+          fine = all_at (λ (e : Text × V). Fine e.0 e.1) it.before it.at it.following (subst (AllByRecursion (λ (e : Text × V). Fine e.0 e.1)) it.is more.fine);
+          less = subst (λ l. ComesAfterLast l it.at.0) last (rising_at it.before it.at it.following (subst (λ l. T (is_sorted text_cmp l)) it.is more.rising));
         }

@@ -16,21 +16,21 @@ use Rattle.streetmap_geojson.specs.Times.{time_of}
 use Rattle.streetmap_batch.specs.Text.{Text, text_cmp}
 use Rattle.streetmap_ledger.specs.State.{State, Collection, AcceptedBatch}
 use Rattle.streetmap_ledger.specs.WellFormed.{IsState, IsPlaced}
-use Rattle.streetmap_rows.specs.Keeping.{Rests}
+use Rattle.streetmap_rows.specs.KeptStates.{Rests}
 use Rattle.streetmap_rows.specs.Rows.{collection_cells, batch_cells, feature_text}
 use Rattle.streetmap_rows.specs.Statements.{select_collections}
 use Rattle.streetmap_rows.proofs.TextKeys.{one_text}
 use Rattle.streetmap_rows.proofs.OrderedRows.{find_has}
 use Rattle.streetmap_rows.proofs.OneState.{one_text_one_feature, untimed_is}
 use Rattle.streetmap_reading.proofs.ShownOutlines.{collections_at}
-use Rattle.streetmap_checking.specs.Checking.{ShowsState}
+use Rattle.streetmap_checking.specs.CheckResults.{ShowsState}
 use Rattle.streetmap_checking.specs.Good.{feature_view}
-use Rattle.streetmap_reading.specs.Seeing.{QueryShows}
+use Rattle.streetmap_reading.specs.ShownQueries.{QueryShows}
 use Rattle.streetmap_checking.specs.Statements.{select_features, select_batches}
 use Rattle.streetmap_checking.proofs.Only.{only_of, sees_good}
 use Rattle.streetmap_checking.proofs.Shown.{features_at, batches_at}
 
--- lists whose rows are the same, where the rows tell the entries
+-- lists whose rows are the same, if the rows determine the entries
 same_list : {A : Type 0} (f : A → Row) (xs ys : List A)
     → ((x y : A) → Has xs x → Has ys y → f x ≡ f y → x ≡ y) → map f xs ≡ map f ys → xs ≡ ys
 same_list f [] [] one e = refl

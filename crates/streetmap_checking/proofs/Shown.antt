@@ -24,12 +24,12 @@ use Rattle.streetmap_rows.proofs.NamedTables.{IsFound}
 use Rattle.streetmap_rows.proofs.HeldKeys.{cells_of, there}
 use Rattle.streetmap_rows.proofs.TextKeys.{first_is, first_self, column_later, text_is}
 use Rattle.streetmap_rows.proofs.OrderedRows.{Says, AreRowsOf, keeps, ordered_query, shows_entries, mapped_has, has_mapped, passing}
-use Rattle.streetmap_rows.specs.Keeping.{Keeps}
+use Rattle.streetmap_rows.specs.KeptStates.{Keeps}
 use Rattle.streetmap_rows.specs.Rows.{AreOf, feature_at, feature_cells, batch_cells, meta_cells}
 use Rattle.streetmap_rows.specs.Tables.{Roots, features, batches, meta, features_name, batches_name, meta_name}
 use Rattle.streetmap_rows.proofs.TablesInSchema as placing
 use Rattle.streetmap_reading.specs.Candidates.{ShowsOf}
-use Rattle.streetmap_reading.specs.Choosing.{is_chosen}
+use Rattle.streetmap_reading.specs.Choices.{is_chosen}
 use Rattle.streetmap_reading.proofs.TermsChoose.{in_collection, all_chooses}
 use Rattle.streetmap_reading.proofs.ChosenInOrder.{Shows, row_of, shows_chosen}
 use Rattle.streetmap_reading.proofs.PageRowsShown.{shows_by}

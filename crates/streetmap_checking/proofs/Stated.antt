@@ -18,11 +18,11 @@ use Rattle.streetmap_rows.specs.Rows.{collection_cells, batch_cells}
 use Rattle.streetmap_rows.specs.Statements.{select_collections}
 use Rattle.streetmap_rows.proofs.OrderedRows.{has_mapped}
 use Rattle.streetmap_checking.specs.Statements.{select_formats, select_features, select_batches}
-use Rattle.streetmap_reading.specs.Seeing.{QueryShows}
+use Rattle.streetmap_reading.specs.ShownQueries.{QueryShows}
 use Rattle.streetmap_checking.specs.Good.{CollectionHead, head_cells, IsCollectionHead, feature_view, AreOwnerRows, AreSerials, IsAccepted, serials_of}
-use Rattle.streetmap_checking.specs.Telling.{Known, SeesAllFeatures}
-use Rattle.streetmap_checking.specs.Checking.{ShowsTotals, ShowsState, IsOfState, AreTotals, feature_count}
-use Rattle.streetmap_checking.specs.declared.checking.Totals.{Totals}
+use Rattle.streetmap_checking.specs.QueryResults.{Known, SeesAllFeatures}
+use Rattle.streetmap_checking.specs.CheckResults.{ShowsTotals, ShowsState, IsOfState, AreTotals, feature_count}
+use Rattle.streetmap_checking.specs.declared.check.Totals.{Totals}
 use Rattle.streetmap_checking.proofs.Shown.{found_in}
 
 both : (a b : Bool) → T a → T b → T (a && b)

@@ -1,4 +1,4 @@
--- A row that is taken behind others, and one that is not.
+-- A row that is taken after others, and one that is not.
 use Rattle.std.proofs.Common.{◌≡◌, ◌<◌, ℕ, List, [], ◌∷◌, ◌++◌, length, Option, option_map, string_bytes, IsUtf8, IfSome, IsTrue, pos, refl, sym, ap, subst, ◌∙◌, arith}
 use Rattle.std.proofs.lemmas.Str.{IsUtf8-from_is_utf8}
 use Rattle.sqlite.specs.Order.{Row, column}
@@ -13,10 +13,10 @@ use Rattle.streetmap_rows.specs.Stored.{IsStored}
 use Rattle.streetmap_reading.proofs.BetweenRows.{map_append}
 use Rattle.streetmap_rows.specs.declared.fault.ReadFault.{ReadFault}
 use Rattle.streetmap_rows.specs.Rows.{feature_text, batch_cells}
-use Rattle.streetmap_reading.specs.Folding.{Refuses}
+use Rattle.streetmap_reading.specs.FoldEffects.{Refuses}
 use Rattle.streetmap_batch.specs.Names.{is_key}
 use Rattle.streetmap_checking.specs.Good.{AreEntryRows, feature_view, head_cells, IsCollectionHead, HasBatch, IsAccepted, AreBatchRows, serials_of}
-use Rattle.streetmap_checking.specs.Held.{last_key, StandsBehind}
+use Rattle.streetmap_checking.specs.Held.{last_key, ComesAfterLast}
 use Rattle.streetmap_checking.specs.declared.collections.Head.{Head}
 use Rattle.streetmap_checking.proofs.Refusing.{refuses_for, id_text, key_text, property_text}
 use Rattle.streetmap_checking.proofs.Rising.{next_of}
@@ -39,10 +39,10 @@ module _ {V : Type 0} (cells : Text → V → Row) (Fine : Text → V → Type 0
         none : IsNoRow row → AreNone
         none unlike later good = let n = next_of cells Fine one rows row later are good in unlike n.key n.value n.is n.fine
 
-    pub not_behind : (key : Text) (value : V) → row ≡ cells key value → (StandsBehind (last_key are.entries) key → ⊥) → AreNone
-    not_behind key value is other later good =
+    pub not_after : (key : Text) (value : V) → row ≡ cells key value → (ComesAfterLast (last_key are.entries) key → ⊥) → AreNone
+    not_after key value is other later good =
         let n = next_of cells Fine one rows row later are good in
-        other (subst (StandsBehind (last_key are.entries)) (one n.key key n.value value (sym n.is ∙ is)) n.less)
+        other (subst (ComesAfterLast (last_key are.entries)) (one n.key key n.value value (sym n.is ∙ is)) n.less)
 
 -- ---- collections
 
@@ -106,8 +106,8 @@ NoBatches rows row = (later : List Row) → AreBatchRows ((rows ++ row ∷ []) +
 pub no_batches : (rows : List Row) (row : Row) → AreEntryRows batch_cells IsAccepted rows → (fault : ReadFault) → Refuses (NoBatch row) fault → Refuses (NoBatches rows row) fault
 no_batches rows row are fault h = refuses_for (AreNone batch_cells IsAccepted key_of_cells rows row are) (NoBatches rows row) fault (λ none later good. none later good.0) (not_taken batch_cells IsAccepted key_of_cells rows row are fault h)
 
-pub batch_not_behind : (rows : List Row) (row : Row) (are : AreEntryRows batch_cells IsAccepted rows) (key : Text) (k : AcceptedBatch) → row ≡ batch_cells key k → (StandsBehind (last_key are.entries) key → ⊥) → NoBatches rows row
-batch_not_behind rows row are key k is other later good = not_behind batch_cells IsAccepted key_of_cells rows row are key k is other later good.0
+pub batch_not_after : (rows : List Row) (row : Row) (are : AreEntryRows batch_cells IsAccepted rows) (key : Text) (k : AcceptedBatch) → row ≡ batch_cells key k → (ComesAfterLast (last_key are.entries) key → ⊥) → NoBatches rows row
+batch_not_after rows row are key k is other later good = not_after batch_cells IsAccepted key_of_cells rows row are key k is other later good.0
 
 pub serials_more : (es : List (Text × AcceptedBatch)) (old new : List ℕ) (key : Text) (k : AcceptedBatch) (serial : ℕ) → new ≡ old ++ serial ∷ [] → old ≡ serials_of es → serial ≡ k.serial → new ≡ serials_of (es ++ (key, k) ∷ [])
 serials_more es old new key k serial is was same = is ∙ (λ i. was i ++ same i ∷ []) ∙ sym (map_append (λ (e : Text × AcceptedBatch). e.1.serial) es ((key, k) ∷ []))

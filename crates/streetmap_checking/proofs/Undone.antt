@@ -1,8 +1,8 @@
 -- What is as it was.
 use Rattle.std.proofs.Common.{inl, inr, sym, ◌∙◌}
 use Rattle.sqlite.specs.State.{State as Seen, IsUnchanged}
-use Rattle.streetmap_reading.specs.Folding.{IsSameOrUndone}
-use Rattle.streetmap_tables.specs.Adopting.{IsAsItWas}
+use Rattle.streetmap_reading.specs.FoldEffects.{IsSameOrUndone}
+use Rattle.streetmap_tables.specs.Adoption.{IsAsItWas}
 
 -- unchanged is as it was
 pub unchanged_was : (old new : Seen) → IsUnchanged old new → IsAsItWas old new

@@ -1,7 +1,7 @@
 -- Why a check returns no totals: the names and sentences.
 use Rattle.std.specs.Prelude.{ℕ, List, codes}
-use Rattle.streetmap_checking.specs.declared.checking.CheckFault.{CheckFault}
-use Rattle.streetmap_checking.specs.declared.checking.CheckFault.TheVariants as checking
+use Rattle.streetmap_checking.specs.declared.check.CheckFault.{CheckFault}
+use Rattle.streetmap_checking.specs.declared.check.CheckFault.TheVariants as checking
 
 unfoldable pub code_of : CheckFault → List ℕ
 code_of checking.Damaged = codes "damaged"

@@ -12,7 +12,7 @@ use Rattle.streetmap_grid.specs.Values.{BoxValue}
 use Rattle.streetmap_geojson.specs.FeatureValue.{FeatureValue}
 use Rattle.streetmap_batch.specs.Text.{Text, text_cmp}
 use Rattle.streetmap_batch.specs.BatchFacts.{IsTitle, IsTimePropertyIf}
-use Rattle.streetmap_batch.specs.BatchReading.{most_edits}
+use Rattle.streetmap_batch.specs.ParsedBatches.{most_edits}
 use Rattle.streetmap_batch.specs.Names.{is_key, is_collection_id}
 use Rattle.streetmap_ledger.specs.State.{AcceptedBatch}
 use Rattle.streetmap_ledger.specs.Batches.{most_batches}

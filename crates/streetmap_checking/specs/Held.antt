@@ -22,9 +22,9 @@ last_key (e ∷ []) = Some e.0
 last_key (e ∷ f ∷ es) = last_key (f ∷ es)
 
 -- a key comes after the last
-abbrev pub StandsBehind : Option Text → Text → Type 0
-StandsBehind None key = Unit {0}
-StandsBehind (Some last) key = text_cmp last key ≡ Less
+abbrev pub ComesAfterLast : Option Text → Text → Type 0
+ComesAfterLast None key = Unit {0}
+ComesAfterLast (Some last) key = text_cmp last key ≡ Less
 
 -- ---- the format
 

@@ -2,6 +2,6 @@ pub mod Statements
 pub mod Faults
 pub mod Good
 pub mod Held
-pub mod Telling
-pub mod Looking
-pub mod Checking
+pub mod QueryResults
+pub mod KnownCollections
+pub mod CheckResults

@@ -4,10 +4,10 @@ ghost use Rattle.std.specs.Prelude.{MatchOption, MatchResult, string_bytes};
 ghost use Rattle.sqlite.specs.Order.{column};
 ghost use Rattle.sqlite.specs.declared.types.Value.TheVariants.{Int};
 ghost use Rattle.streetmap_batch.specs.Text.{Text};
-ghost use Rattle.streetmap_batch.specs.BatchReading.{most_edits};
+ghost use Rattle.streetmap_batch.specs.ParsedBatches.{most_edits};
 ghost use Rattle.streetmap_ledger.specs.State.{AcceptedBatch};
 ghost use Rattle.streetmap_rows.specs.Rows.{batch_cells};
-ghost use Rattle.streetmap_reading.specs.Folding.{Refuses};
+ghost use Rattle.streetmap_reading.specs.FoldEffects.{Refuses};
 ghost use Rattle.streetmap_checking.specs.Good.{HasNumber, HasBatch, IsAccepted, AreSerials};
 
 use crate::cells::{follows, has_text};

@@ -6,8 +6,8 @@ ghost use Rattle.sqlite.specs.Order.{column};
 ghost use Rattle.sqlite.specs.Values.{or_null};
 ghost use Rattle.sqlite.specs.declared.types.Value.TheVariants.{Int, Text as Words};
 ghost use Rattle.streetmap_batch.specs.Text.{Text};
-ghost use Rattle.streetmap_reading.specs.Folding.{Refuses};
-ghost use Rattle.streetmap_checking.specs.Held.{StandsBehind};
+ghost use Rattle.streetmap_reading.specs.FoldEffects.{Refuses};
+ghost use Rattle.streetmap_checking.specs.Held.{ComesAfterLast};
 
 use sqlite::Row;
 use sqlite::types::ValueRef;
@@ -31,7 +31,7 @@ pub fn has_text(row: &Row, at: usize) -> bool
     matches!(row.get_ref(at), Ok(ValueRef::Text(_)))
 }
 
-/// Whether a cell has this number; or, if there is none, is NULL.
+/// Whether a cell has this number, or NULL for none.
 pub fn is_number(row: &Row, at: usize, number: Option<i64>) -> bool
     ensures { IsTrue result ↔ (at < length row.now)
         × (column row.now at ≡ or_null Int number) }
@@ -45,7 +45,7 @@ pub fn is_number(row: &Row, at: usize, number: Option<i64>) -> bool
 
 /// Whether a key comes after the last in byte order.
 pub fn follows(last: Option<&str>, key: &str) -> bool
-    ensures { IsTrue result ↔ StandsBehind (option_copied last.entry) key.now }
+    ensures { IsTrue result ↔ ComesAfterLast (option_copied last.entry) key.now }
 {
     match last {
         Some(last) => last.as_bytes().cmp(key.as_bytes()).is_lt(),

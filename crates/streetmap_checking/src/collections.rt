@@ -4,10 +4,10 @@ ghost use Rattle.std.specs.Prelude.{string_bytes};
 ghost use Rattle.std.specs.Option.{option_copied};
 ghost use Rattle.streetmap_batch.specs.Text.{Text};
 ghost use Rattle.streetmap_batch.specs.BatchFacts.{IsTimePropertyIf};
-ghost use Rattle.streetmap_reading.specs.Folding.{Refuses};
+ghost use Rattle.streetmap_reading.specs.FoldEffects.{Refuses};
 ghost use Rattle.streetmap_checking.specs.Good.{CollectionHead, head_cells, IsCollectionHead};
 ghost use Rattle.streetmap_checking.specs.Held.{last_key, known};
-ghost use Rattle.streetmap_checking.specs.Looking.{known_of};
+ghost use Rattle.streetmap_checking.specs.KnownCollections.{known_of};
 
 use crate::cells::follows;
 use sqlite::Row;
@@ -30,7 +30,7 @@ pub struct CollectionRows {
     pub heads: Vec<Head>,
 }
 
-/// A copy of a text, if there is one.
+/// A copy of a text, if any.
 fn copy_if(text: &Option<String>) -> Result<Option<String>, AllocError>
     ensures { IfOk result (λ copy. option_map string_bytes copy
         ≡ option_map string_bytes text.now) }

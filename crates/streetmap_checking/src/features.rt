@@ -10,7 +10,7 @@ ghost use Rattle.streetmap_moment.specs.Meeting.{seconds_of};
 ghost use Rattle.streetmap_ledger.specs.WellFormed.{IsPlaced};
 ghost use Rattle.streetmap_rows.specs.Stored.{IsStored};
 ghost use Rattle.streetmap_rows.specs.Rows.{feature_text, extent_in, seconds_in};
-ghost use Rattle.streetmap_reading.specs.Folding.{Refuses};
+ghost use Rattle.streetmap_reading.specs.FoldEffects.{Refuses};
 ghost use Rattle.streetmap_checking.specs.Good.{HasTextCells, HasExtentCells, HasSeconds};
 ghost use Rattle.streetmap_checking.specs.Good.{feature_view};
 
@@ -68,7 +68,7 @@ fn text_of(alloc: Global, feature: &Feature) -> Result<String, AllocError>
     Ok(text)
 }
 
-/// Whether the bounds in a row of eight cells are those of an extent, or NULLs if there is none.
+/// Whether the bounds in a row of eight cells are those of an extent, or NULLs for none.
 fn has_extent(row: &Row, extent: Option<GridBox>) -> bool
     ensures { length row.now ≡ 8
         → (IsTrue result ↔ HasExtentCells (option_map box_value extent) row.now) }
@@ -89,7 +89,7 @@ fn has_extent(row: &Row, extent: Option<GridBox>) -> bool
     }
 }
 
-/// Whether the seconds in a row of eight cells are these, or NULLs if there are none.
+/// Whether the seconds in a row of eight cells are these, or NULLs for none.
 fn has_seconds(row: &Row, time: Option<Interval>) -> bool
     ensures { length row.now ≡ 8 → (IsTrue result ↔ HasSeconds
         (option_map (λ i. seconds_of (interval_value i)) time) row.now) }

@@ -7,16 +7,16 @@
 //!
 //! In the order of reading: `cells` (the values of a row), `formats`, `collections`, `features`,
 //! `owners`, `batches` (the rows of each table, which `streetmap_reading`'s `fold_rows` takes one
-//! after the other), `looks` (one statement after the other), `checking`.
+//! after the other), `queries` (one statement after the other), `check`.
 #![tactic(auto)]
 
 mod batches;
 mod cells;
-mod checking;
+mod check;
 mod collections;
 mod features;
 mod formats;
-mod looks;
 mod owners;
+mod queries;
 
-pub use checking::{CheckFault, Totals, check_tables, shown_state_is_kept};
+pub use check::{CheckFault, Totals, check_tables, shown_state_is_kept};

@@ -1,4 +1,4 @@
 mod Adding
-mod Asked
+mod Requested
 mod Named
 mod Numbers

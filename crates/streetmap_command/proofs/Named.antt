@@ -1,4 +1,4 @@
--- The subcommand that was found, by its name and what is given with it.
+-- The subcommand that was found, by its name and its arguments.
 use Rattle.std.proofs.Common.{◌≡◌, List, Option, None, Some, option_map}
 use Rattle.clap.specs.Words.{Row, Text}
 

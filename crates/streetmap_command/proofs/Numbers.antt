@@ -17,7 +17,7 @@ digits_alone : (text : List ℕ) → list_all is_ascii_digit text ≡ true → a
 digits_alone [] h = refl
 digits_alone (c ∷ cs) h = grind (arith, common_steps, digits_alone cs)
 
--- what is read of digits alone
+-- what is read from digits only
 parsed : {E : Type 0} (text : List ℕ) (r : Result ℕ E) → ParsesUnsigned 32 10 text r → list_all is_ascii_digit text ≡ true
     → OkIff r ((0 < length text) × (digits_value 10 text < 2 ^ 32)) (digits_value 10 text)
 parsed text r h digits = parse_digits own 32 text r h (digits_alone text digits)

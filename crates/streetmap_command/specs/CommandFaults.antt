@@ -1,4 +1,4 @@
--- Why words are no command: the names and sentences.
+-- Why arguments are not a command: the names and sentences.
 use Rattle.std.specs.Prelude.{ℕ, List, codes}
 use Rattle.streetmap_command.specs.declared.command.CommandFault.{CommandFault}
 use Rattle.streetmap_command.specs.declared.command.CommandFault.TheVariants.{Usage, Memory}

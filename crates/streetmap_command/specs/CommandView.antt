@@ -7,8 +7,8 @@ use Rattle.streetmap_command.specs.declared.command.Command.TheVariants.{Pipe, S
 use Rattle.streetmap_command.specs.declared.command.Command.TheVariants.{Import, Export, Check}
 use Rattle.streetmap_command.specs.declared.command.Command.TheVariants.{Load, Batches, Apply}
 use Rattle.streetmap_command.specs.declared.command.Connections.{Connections}
-use Rattle.streetmap_command.specs.declared.words.LoadAsked.{LoadAsked}
-use Rattle.streetmap_command.specs.declared.words.JournalAsked.{JournalAsked}
+use Rattle.streetmap_command.specs.declared.words.LoadArguments.{LoadArguments}
+use Rattle.streetmap_command.specs.declared.words.JournalArguments.{JournalArguments}
 use Rattle.std.specs.Prelude.{option_map}
 use Rattle.streetmap_command.specs.Program.{CommandValue, help_command, version_command}
 use Rattle.streetmap_command.specs.Program.{lines_command}
@@ -18,7 +18,7 @@ use Rattle.streetmap_command.specs.Program.{load_command, batches_command, apply
 use Rattle.streetmap_command.specs.Program.{LoadWords, JournalWords, ConnectionsWords}
 
 -- the options of a load as values
-abbrev pub load_value : LoadAsked → LoadWords
+abbrev pub load_value : LoadArguments → LoadWords
 load_value l = record {
   text = option_map (λ s. s.now) l.text;
   key = l.key.now;
@@ -40,7 +40,7 @@ load_value l = record {
 }
 
 -- a journal as a value
-abbrev pub journal_value : JournalAsked → JournalWords
+abbrev pub journal_value : JournalArguments → JournalWords
 journal_value j = record { path = j.path.now; after = j.after; sync = j.sync }
 
 -- connections as a value

@@ -15,25 +15,25 @@ use Rattle.streetmap_command.specs.Topics.{topic_of, help_called}
 use Rattle.streetmap_command.specs.declared.help.Topic.{Topic}
 use Rattle.streetmap_command.specs.declared.help.Topic.TheVariants as topics
 
--- a value that has to be given, by its place alone
+-- a positional value that is required
 abbrev pub positional : Text → Rule
 positional name = record (new_rule name) { required = true; action = Some Set }
 
 abbrev pub file : Rule
 file = positional (codes "file")
 
--- a value by its place alone, which may be left out
+-- a positional value, which may be omitted
 abbrev pub optional : Text → Rule
 optional name = record (new_rule name) { action = Some Set }
 
--- an option with a value, which may be left out
+-- an option with a value, which may be omitted
 abbrev pub option : Text → Rule
 option name = record (new_rule name) { long = Some name; action = Some Set }
 
 abbrev pub required_option : Text → Rule
 required_option name = record (option name) { required = true }
 
--- an option with no value, which may be left out
+-- an option without a value, which may be omitted
 abbrev pub flag : Text → Rule
 flag name = record (new_rule name) { long = Some name; action = Some SetTrue }
 
@@ -66,8 +66,8 @@ abbrev pub serve : App
 serve = with_rule (with_rule (with_rule serve_clients (option (codes "journal")))
     (option (codes "journal-after"))) (flag (codes "journal-sync"))
 
--- FILE, TEXT, the key, the collection, whether features are replaced, and whether it is told how
--- far the import is
+-- FILE, TEXT, the key, the collection, whether features are replaced, and whether the progress of
+-- the import is reported
 abbrev pub import : App
 import = with_rule (with_rule (with_rule
     (with_rule (with_rule (over_file (codes "import")) (positional (codes "text")))
@@ -81,7 +81,7 @@ export = with_rule (with_rule (over_file (codes "export"))
 abbrev pub check : App
 check = with_rule (over_file (codes "check")) (flag (codes "replay"))
 
--- FILE, and the serial behind which batches are printed
+-- FILE, and the serial after which batches are printed
 abbrev pub batches : App
 batches = with_rule (over_file (codes "batches")) (option (codes "after"))
 
@@ -89,7 +89,7 @@ batches = with_rule (over_file (codes "batches")) (option (codes "after"))
 abbrev pub apply : App
 apply = with_rule (over_file (codes "apply")) (optional (codes "text"))
 
--- a command with these arguments more
+-- a command with these further arguments
 abbrev pub with_rules : App → List Rule → App
 with_rules a [] = a
 with_rules a (r ∷ rs) = with_rules (with_rule a r) rs
@@ -108,13 +108,13 @@ load_numbers = with_rules load_into
     (option (codes "scale") ∷ option (codes "shift") ∷ flag (codes "round")
     ∷ option (codes "fractions") ∷ [])
 
--- how features are put in, and what is done in place of that
+-- how features are put in, and what is done instead
 abbrev pub load : App
 load = with_rules load_numbers
     (flag (codes "replace") ∷ flag (codes "skip") ∷ flag (codes "check") ∷ flag (codes "print")
     ∷ flag (codes "progress") ∷ [])
 
--- a command that has a version, so that `--version` and `-V` ask for it
+-- a command that has a version, so that `--version` and `-V` request it
 abbrev pub versioned : App → App
 versioned a = record a { top = record a.top { has_version = true } }
 
@@ -142,7 +142,7 @@ help_app topics.Load = load
 help_app topics.Batches = batches
 help_app topics.Apply = apply
 
--- the load of a text of features, as it is asked for
+-- the load of a text of features, as it is requested
 pub record LoadWords : Type 0 where
   pub text : Option Text
   pub key : Text
@@ -162,7 +162,7 @@ pub record LoadWords : Type 0 where
   pub progress : Bool
   pub explains : Bool
 
--- a journal, as it is asked for: its file, the serial behind which it begins where it has no line,
+-- a journal, as it is requested: its file, the serial after which it begins if it has no line,
 -- and whether its lines are synchronised before answers
 pub record JournalWords : Type 0 where
   pub path : Text
@@ -178,7 +178,7 @@ pub record ConnectionsWords : Type 0 where
   pub log : Bool
   pub warm : Bool
 
--- what a command line asks for
+-- what a command line requests
 pub data CommandValue : Type 0 where
   help_command : (topic : Topic) → CommandValue
   version_command : CommandValue
@@ -194,21 +194,21 @@ pub data CommandValue : Type 0 where
   batches_command : (file : Text) (after : ℕ) → CommandValue
   apply_command : (file : Text) (text : Option Text) → CommandValue
 
--- decimal digits that write a number from 1 to `most`
+-- the number from 1 to `most` with these decimal digits
 abbrev pub number_up_to : ℕ → Text → Option ℕ
 number_up_to most text =
     if nat_lt 0 (length text) && all_ascii_digits text && nat_lt 0 (digits_value 10 text)
     && nat_le (digits_value 10 text) most
     then Some (digits_value 10 text) else None
 
--- the base of links, where none is given
+-- the base of links, if none is given
 abbrev pub plain_base : Text
 plain_base = codes "http://localhost/"
 
 abbrev pub base_at : ℕ → Text
 base_at port = codes "http://localhost:" ++ decimal port ++ codes "/"
 
--- a text is named, or it is standard input: so it is if the name is `-`, and if there is none
+-- the text that is named; none for standard input, which is read if the name is `-` or not given
 abbrev pub text_given : Option Text → Option Text
 text_given None = None
 text_given (Some text) = if bytes_eq text (codes "-") then None else Some text
@@ -217,12 +217,12 @@ text_given (Some text) = if bytes_eq text (codes "-") then None else Some text
 abbrev pub port_given : Option Text → Option ℕ
 port_given given = option_and_then (number_up_to 65535) given
 
--- 1 to 2^32 - 1 connections, or any number of them where none is given
+-- 1 to 2^32 - 1 connections, or any number of them if none is given
 abbrev pub count_given : Option Text → Option (Option ℕ)
 count_given None = Some None
 count_given (Some text) = option_map Some (number_up_to 4294967295 text)
 
--- 1 to 1,024 clients at once; where none is given, one after the other if a count is, else 64 at
+-- 1 to 1,024 clients at once; if none is given, one after the other if a count is, otherwise 64 at
 -- once
 abbrev pub clients_given : (count : Option ℕ) → Option Text → Option ℕ
 clients_given None None = Some 64
@@ -237,17 +237,17 @@ pipe_by rows = option_map (λ f.
     pipe_command f (unwrap_or (first_of (codes "base") rows) plain_base))
     (first_of (codes "file") rows)
 
--- a flag is set: `clap` gives it the value `true` where it stands among the words, else `false`
+-- a flag is set: `clap` gives it the value `true` if it is among the arguments, otherwise `false`
 abbrev pub is_set : Option Text → Bool
 is_set None = false
 is_set (Some value) = bytes_eq value (codes "true")
 
--- behind a serial up to 2^32 - 1, or behind none
+-- the serial after which something begins, up to 2^32 - 1; 0 if none is given
 abbrev pub after_given : Option Text → Option ℕ
 after_given None = Some 0
 after_given (Some text) = if bytes_eq text (codes "0") then Some 0 else number_up_to 4294967295 text
 
--- a journal, or none: its other options go with it
+-- a journal, or none: its other options require it
 abbrev pub journal_given : (path after : Option Text) (sync : Bool)
     → Option (Option JournalWords)
 journal_given (Some path) after sync =
@@ -260,7 +260,7 @@ abbrev pub journal_by : List Row → Option (Option JournalWords)
 journal_by rows = journal_given (first_of (codes "journal") rows)
     (first_of (codes "journal-after") rows) (is_set (first_of (codes "journal-sync") rows))
 
--- the connections, of what is given for their port, count, clients and flags
+-- the connections, from the port, count, clients and flags that are given
 abbrev pub connections_given : (port count clients log warm : Option Text)
     → Option ConnectionsWords
 connections_given port count clients log warm =
@@ -273,7 +273,7 @@ connections_by rows = connections_given (first_of (codes "port") rows)
     (first_of (codes "count") rows) (first_of (codes "clients") rows)
     (first_of (codes "log") rows) (first_of (codes "warm") rows)
 
--- what serves, of what is given for its file, connections, journal and base
+-- the command `serve`, from the file, connections, journal and base that are given
 abbrev pub serve_given : (file : Option Text) (connections : Option ConnectionsWords)
     (journal : Option (Option JournalWords)) (base : Option Text) → Option CommandValue
 serve_given file connections journal base =
@@ -284,7 +284,7 @@ abbrev pub serve_by : List Row → Option CommandValue
 serve_by rows = serve_given (first_of (codes "file") rows) (connections_by rows)
     (journal_by rows) (first_of (codes "base") rows)
 
--- what imports, of what is given for its file, text, key, collection and flags
+-- the command `import`, from the file, text, key, collection and flags that are given
 abbrev pub import_given : (file text key collection replace progress : Option Text)
     → Option CommandValue
 import_given file text key collection replace progress =
@@ -297,7 +297,7 @@ import_by rows = import_given (first_of (codes "file") rows) (first_of (codes "t
     (first_of (codes "key") rows) (first_of (codes "collection") rows)
     (first_of (codes "replace") rows) (first_of (codes "progress") rows)
 
--- what exports, of what is given for its file, collection and flag
+-- the command `export`, from the file, collection and flag that are given
 abbrev pub export_given : (file collection progress : Option Text) → Option CommandValue
 export_given file collection progress = option_and_then (λ f.
     option_map (λ c. export_command f c (is_set progress)) collection) file
@@ -310,7 +310,7 @@ abbrev pub check_by : List Row → Option CommandValue
 check_by rows = option_map (λ f. check_command f (is_set (first_of (codes "replay") rows)))
     (first_of (codes "file") rows)
 
--- 1 to 10,000 edits a batch, or 1,000 where no number is given
+-- 1 to 10,000 edits a batch, or 1,000 if no number is given
 abbrev pub each_given : Option Text → Option ℕ
 each_given None = Some 1000
 each_given (Some text) = number_up_to 10000 text
@@ -320,8 +320,8 @@ abbrev pub fractions_given : Option Text → Option Bool
 fractions_given None = Some false
 fractions_given (Some text) = if bytes_eq text (codes "text") then Some true else None
 
--- the load that is given beside the key, the collection, the edits a batch and what becomes of
--- fractions
+-- the load that is given, with this key, this collection, this number of edits a batch, and whether
+-- fractions are kept as texts
 abbrev pub load_words : List Row → Text → Text → ℕ → Bool → LoadWords
 load_words rows key collection each keeps = record {
   text = text_given (first_of (codes "text") rows);
@@ -347,7 +347,7 @@ abbrev pub is_given : Option Text → Bool
 is_given None = false
 is_given (Some text) = true
 
--- a title and a time go with an opening, and what is only checked is not printed
+-- a title and a time come only with an opening, and `check` not with `print`
 abbrev pub agrees : LoadWords → Bool
 agrees w = (w.opens || (not (is_given w.title) && not (is_given w.time)))
     && not (w.check && w.print)
@@ -374,7 +374,7 @@ abbrev pub apply_by : List Row → Option CommandValue
 apply_by rows = option_map (λ f. apply_command f (text_given (first_of (codes "text") rows)))
     (first_of (codes "file") rows)
 
--- by the subcommand's name and what is given with it
+-- the command, from the subcommand's name and its arguments
 abbrev pub command_named : Text → List Row → Option CommandValue
 command_named name rows =
     if bytes_eq name (codes "lines") then Some lines_command
@@ -391,50 +391,50 @@ command_named name rows =
 abbrev pub command_by : Option (Text × List Row) → Option CommandValue
 command_by found = option_and_then (λ p. command_named p.0 p.1) found
 
--- the command that a fault of `clap` stands for: a request for the version or for help
+-- the command that a fault of `clap` represents: a request for the version or for help
 abbrev pub request_of : ErrorKind → List Text → Option CommandValue
 request_of kinds.DisplayVersion words = Some version_command
 request_of kinds.DisplayHelp words = Some (help_command (topic_of words))
 request_of _ words = None
 
--- `clap` finds no fault in the words, and this is the command that they ask for; or this is the
--- request that one of the faults that it finds stands for
+-- `clap` finds no fault in the arguments, and this is the command that they request; or this is the
+-- request that one of the faults that it finds represents
 abbrev pub FindsCommand : Kinds → List Text → CommandValue → Type 0
 FindsCommand [] words command = Some command ≡ command_by (subcommand_of program words)
 FindsCommand (k ∷ ks) words command =
     (x : ErrorKind) × (IsAmong x (k ∷ ks) × (Some command ≡ request_of x words))
 
--- the words ask for help with no option, and this is what is asked for; or `clap` reads them
+-- the arguments request help without an option, and this is the request; or `clap` reads them
 abbrev pub FindsHelp : Option (Option Topic) → List Text → CommandValue → Type 0
 FindsHelp (Some topic) words command = Some command ≡ option_map help_command topic
 FindsHelp None words command = FindsCommand (fault_of program words) words command
 
--- this is the command of these words, of which the first is the program's name
+-- this is the command of these arguments, of which the first is the program's name
 abbrev pub IsCommandOf : List Text → CommandValue → Type 0
 IsCommandOf words command = FindsHelp (help_called words) words command
 
--- what `clap` finds that the words ask for, by the faults that it finds: nothing where there is one
--- that is no request, or where there are several
-abbrev pub asked_by_faults : Kinds → List Text → Option CommandValue
-asked_by_faults [] words = command_by (subcommand_of program words)
-asked_by_faults (k ∷ []) words = request_of k words
-asked_by_faults (k ∷ l ∷ ks) words = None
+-- what `clap` finds that the arguments request, by the faults that it finds: nothing if it finds
+-- one that is not a request, or several
+abbrev pub requested_by_faults : Kinds → List Text → Option CommandValue
+requested_by_faults [] words = command_by (subcommand_of program words)
+requested_by_faults (k ∷ []) words = request_of k words
+requested_by_faults (k ∷ l ∷ ks) words = None
 
-abbrev pub asked_or_help : Option (Option Topic) → List Text → Option CommandValue
-asked_or_help (Some topic) words = option_map help_command topic
-asked_or_help None words = asked_by_faults (fault_of program words) words
+abbrev pub requested_or_help : Option (Option Topic) → List Text → Option CommandValue
+requested_or_help (Some topic) words = option_map help_command topic
+requested_or_help None words = requested_by_faults (fault_of program words) words
 
--- what the words ask for, of which the first is the program's name: nothing where `clap` does not
--- take them, or where they name no command
-abbrev pub asked_by : List Text → Option CommandValue
-asked_by words = asked_or_help (help_called words) words
+-- what the arguments request, of which the first is the program's name: nothing if `clap` does not
+-- accept them, or if they name no command
+abbrev pub requested_by : List Text → Option CommandValue
+requested_by words = requested_or_help (help_called words) words
 
--- the words have the option `--explain`
+-- the arguments include the option `--explain`
 abbrev pub is_explained : List Text → Bool
 is_explained words = list_any (λ word. bytes_eq word (codes "--explain")) words
 
--- with these words after the program's name, and `--help` or `-h` after them, help is asked for
-abbrev pub AsksForHelp : List Text → Topic → Type 0
-AsksForHelp words topic =
-    (asked_by (codes "streetmap" ∷ (words ++ codes "--help" ∷ [])) ≡ Some (help_command topic))
-    × (asked_by (codes "streetmap" ∷ (words ++ codes "-h" ∷ [])) ≡ Some (help_command topic))
+-- these arguments after the program's name, and `--help` or `-h` after them, request help
+abbrev pub RequestsHelp : List Text → Topic → Type 0
+RequestsHelp words topic =
+    (requested_by (codes "streetmap" ∷ (words ++ codes "--help" ∷ [])) ≡ Some (help_command topic))
+    × (requested_by (codes "streetmap" ∷ (words ++ codes "-h" ∷ [])) ≡ Some (help_command topic))

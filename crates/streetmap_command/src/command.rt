@@ -9,35 +9,37 @@ ghost use Rattle.streetmap_command.specs.Program.{program, command_by, create_by
 ghost use Rattle.streetmap_command.specs.Program.{serve_by, connections_by};
 ghost use Rattle.streetmap_command.specs.Program.{import_by, export_by, check_by, number_up_to};
 ghost use Rattle.streetmap_command.specs.Program.{port_given, count_given, clients_given, is_set};
-ghost use Rattle.streetmap_command.specs.Program.{asked_by, asked_by_faults, request_of};
-ghost use Rattle.streetmap_command.specs.Program.{IsCommandOf, FindsCommand, AsksForHelp};
+ghost use Rattle.streetmap_command.specs.Program.{requested_by, requested_by_faults, request_of};
+ghost use Rattle.streetmap_command.specs.Program.{IsCommandOf, FindsCommand, RequestsHelp};
 ghost use Rattle.streetmap_command.specs.Program.{version_command};
 ghost use Rattle.streetmap_command.specs.declared.help.Topic.TheVariants as topics;
 ghost use Rattle.streetmap_command.specs.CommandView.{command_value, connections_value};
 
 use crate::help::{Topic, help_called, topic_of};
 use crate::parser::make_parser;
-use crate::words::{JournalAsked, LoadAsked, read_apply, read_batches, read_journal, read_load};
+use crate::words::{
+    JournalArguments, LoadArguments, read_apply, read_batches, read_journal, read_load,
+};
 use clap::error::ErrorKind;
 use clap::{ArgMatches, Error};
 use std::alloc::{AllocError, Global};
 
-/// How many clients are served at once where neither their number nor a count is given.
+/// How many clients are served at once if neither their number nor a count is given.
 const AT_ONCE: u32 = 64;
 
 /// The connections that are served.
 #[derive(Clone, Copy, Drop)]
 pub struct Connections {
-    /// The port of this host that they come to.
+    /// The port of this host that clients connect to.
     pub port: u16,
-    /// How many are served in all: any number where none is given.
+    /// How many are served in all; any number if none is given.
     pub count: Option<u32>,
-    /// How many are served at once, 1 to 1,024: 64 where no number is given, and one after the
-    /// other where a count alone is.
+    /// How many are served at once, 1 to 1,024. If no number is given it is 1 if a count is given,
+    /// and 64 otherwise.
     pub clients: u32,
-    /// Whether each answer has a line on standard error.
+    /// Whether a line on standard error is written for each answer.
     pub log: bool,
-    /// Whether the index of each collection is learnt before clients are.
+    /// Whether the index of each collection is learnt before clients are served.
     pub warm: bool,
 }
 
@@ -50,9 +52,9 @@ pub struct Import<'a> {
     pub key: &'a str,
     /// The collection that they are put into.
     pub collection: &'a str,
-    /// Whether they replace those with their ids.
+    /// Whether they replace the features with the same ids.
     pub replace: bool,
-    /// Whether lines on standard error say how far the import is.
+    /// Whether lines on standard error report how far the import is.
     pub progress: bool,
 }
 
@@ -81,31 +83,31 @@ pub enum Command<'a> {
         file: &'a str,
         connections: Connections,
         base: String,
-        journal: Option<JournalAsked<'a>>,
+        journal: Option<JournalArguments<'a>>,
     },
     /// `streetmap import FILE TEXT`: put the features of a text into a collection by one batch.
     Import {
         file: &'a str,
         import: Import<'a>,
     },
-    /// `streetmap export FILE`: write a collection on standard output; with `progress` lines on
-    /// standard error say how far it is.
+    /// `streetmap export FILE`: write a collection on standard output; with `progress`, lines on
+    /// standard error report how far it is.
     Export {
         file: &'a str,
         collection: &'a str,
         progress: bool,
     },
-    /// `streetmap check FILE`: say whether the rows of a file are those of a state, and how many
-    /// there are; with `replay` also whether its kept batches give that state.
+    /// `streetmap check FILE`: report whether the rows of a file are those of a state, and count
+    /// them; with `replay` also report whether its kept batches give that state.
     Check {
         file: &'a str,
         replay: bool,
     },
-    /// `streetmap load FILE TEXT`: put the features of a text, a feature a line, into a collection
+    /// `streetmap load FILE TEXT`: put the features of a text, one per line, into a collection
     /// by batches.
     Load {
         file: &'a str,
-        load: LoadAsked<'a>,
+        load: LoadArguments<'a>,
     },
     /// `streetmap batches FILE`: print the kept batches whose serial is above `after`.
     Batches {
@@ -119,12 +121,12 @@ pub enum Command<'a> {
     },
 }
 
-/// Why words are no command.
+/// Why arguments are not a command.
 #[derive(Clone, Copy, PartialEq, Eq)]
 pub enum CommandFault {
-    /// `usage`: the words are none that the program takes.
+    /// `usage`: the program does not accept these arguments.
     Usage,
-    /// `memory`: memory was refused.
+    /// `memory`: an allocation failed.
     Memory,
 }
 
@@ -164,14 +166,14 @@ impl From<AllocError> for CommandFault {
     }
 }
 
-/// Whether a text is digits alone.
+/// Whether a text consists of digits only.
 fn is_digits(text: &str) -> bool
     ensures { result ≡ list_all is_ascii_digit text.now }
 {
     text.bytes().all(|byte| byte.is_ascii_digit())
 }
 
-/// The number from 1 to `most` that decimal digits write.
+/// The number from 1 to `most` with these decimal digits.
 pub(crate) fn read_number(text: &str, most: u32) -> Option<u32>
     ensures value { result ≡ number_up_to most text.now }
     ensures bound { IfSome result (λ n. n ≤ most) }
@@ -228,7 +230,7 @@ fn read_count(given: Option<&str>) -> Option<Option<u32>>
     }
 }
 
-/// How many clients are served at once, where so many connections are to be served in all.
+/// How many clients are served at once, if `count` connections are to be served in all.
 fn read_clients(given: Option<&str>, count: Option<u32>) -> Option<u32>
     ensures { result ≡ clients_given count (option_map (λ s. s.now) given.entry) }
 {
@@ -239,7 +241,7 @@ fn read_clients(given: Option<&str>, count: Option<u32>) -> Option<u32>
     }
 }
 
-/// The connections that are asked for, of what is given with the command.
+/// The requested connections, from the arguments of the command.
 pub(crate) fn read_connections(found: &ArgMatches<'_>) -> Option<Connections>
     ensures { option_map connections_value result
         ≡ connections_by (rows_of (found_of found.now)) }
@@ -256,7 +258,7 @@ pub(crate) fn read_connections(found: &ArgMatches<'_>) -> Option<Connections>
     })
 }
 
-/// The command `serve`, of what is given with it.
+/// The command `serve`, from its arguments.
 fn read_serve<'a>(alloc: Global, found: &ArgMatches<'a>) -> Result<Command<'a>, CommandFault>
     ensures found { IfOk result (λ c. Some (command_value c)
         ≡ serve_by (rows_of (found_of found.now))) }
@@ -277,7 +279,7 @@ fn read_serve<'a>(alloc: Global, found: &ArgMatches<'a>) -> Result<Command<'a>, 
     })
 }
 
-/// The command `create`, of what is given with it.
+/// The command `create`, from its arguments.
 fn read_create<'a>(found: &ArgMatches<'a>) -> Result<Command<'a>, CommandFault>
     ensures found { IfOk result (λ c. Some (command_value c)
         ≡ create_by (rows_of (found_of found.now))) }
@@ -288,7 +290,7 @@ fn read_create<'a>(found: &ArgMatches<'a>) -> Result<Command<'a>, CommandFault>
     Ok(Command::Create { file })
 }
 
-/// The command `pipe`, of what is given with it.
+/// The command `pipe`, from its arguments.
 fn read_pipe<'a>(alloc: Global, found: &ArgMatches<'a>) -> Result<Command<'a>, CommandFault>
     ensures found { IfOk result (λ c. Some (command_value c)
         ≡ pipe_by (rows_of (found_of found.now))) }
@@ -300,7 +302,7 @@ fn read_pipe<'a>(alloc: Global, found: &ArgMatches<'a>) -> Result<Command<'a>, C
     Ok(Command::Pipe { file, base })
 }
 
-/// The command `import`, of what is given with it.
+/// The command `import`, from its arguments.
 fn read_import<'a>(found: &ArgMatches<'a>) -> Result<Command<'a>, CommandFault>
     ensures found { IfOk result (λ c. Some (command_value c)
         ≡ import_by (rows_of (found_of found.now))) }
@@ -321,7 +323,7 @@ fn read_import<'a>(found: &ArgMatches<'a>) -> Result<Command<'a>, CommandFault>
     Ok(Command::Import { file, import })
 }
 
-/// The command `export`, of what is given with it.
+/// The command `export`, from its arguments.
 fn read_export<'a>(found: &ArgMatches<'a>) -> Result<Command<'a>, CommandFault>
     ensures found { IfOk result (λ c. Some (command_value c)
         ≡ export_by (rows_of (found_of found.now))) }
@@ -338,7 +340,7 @@ fn read_export<'a>(found: &ArgMatches<'a>) -> Result<Command<'a>, CommandFault>
     })
 }
 
-/// The command `check`, of what is given with it.
+/// The command `check`, from its arguments.
 fn read_check<'a>(found: &ArgMatches<'a>) -> Result<Command<'a>, CommandFault>
     ensures found { IfOk result (λ c. Some (command_value c)
         ≡ check_by (rows_of (found_of found.now))) }
@@ -350,7 +352,7 @@ fn read_check<'a>(found: &ArgMatches<'a>) -> Result<Command<'a>, CommandFault>
     Ok(Command::Check { file, replay })
 }
 
-/// The command that was found, by its name and what is given with it.
+/// The command that was found, from its name and its arguments.
 fn command_of<'a>(alloc: Global, matches: &ArgMatches<'a>) -> Result<Command<'a>, CommandFault>
     ensures found { IfOk result (λ c. Some (command_value c)
         ≡ command_by (subcommand_rows_of matches.now)) }
@@ -375,7 +377,7 @@ fn command_of<'a>(alloc: Global, matches: &ArgMatches<'a>) -> Result<Command<'a>
     }
 }
 
-/// What is asked for where `clap` gives no matches: help, the version, or nothing.
+/// What is requested if `clap` gives no matches: help, the version, or nothing.
 fn without_matches<'a>(error: &Error, words: &[String]) -> Result<Command<'a>, CommandFault>
     ensures memory { kind_of error.now ≡ ErrorKind.OutOfMemory →
         result ≡ Err CommandFault.Memory }
@@ -392,12 +394,12 @@ fn without_matches<'a>(error: &Error, words: &[String]) -> Result<Command<'a>, C
     }
 }
 
-/// The command that the words ask for, as `clap` reads them.
+/// The command that the arguments request, as `clap` reads them.
 fn read_by_parser<'a>(alloc: Global, words: &'a [String]) -> Result<Command<'a>, CommandFault>
     ensures found { IfOk result (λ c. FindsCommand
         (fault_of_words program (map string_bytes words.entry.now))
         (map string_bytes words.entry.now) (command_value c)) }
-    ensures refused { IfErr result (λ e. IsSome (asked_by_faults
+    ensures refused { IfErr result (λ e. IsSome (requested_by_faults
         (fault_of_words program (map string_bytes words.entry.now))
         (map string_bytes words.entry.now)) → e ≡ CommandFault.Memory) }
 {
@@ -411,19 +413,19 @@ fn read_by_parser<'a>(alloc: Global, words: &'a [String]) -> Result<Command<'a>,
     }
 }
 
-/// The command that the words ask for, of which the first is the program's name.
+/// The command that the arguments request. The first argument is the program's name.
 ///
 /// # Errors
 ///
-/// `Usage` where `clap` does not take the words, a port or a count is out of its range, or `help`
-/// is asked for what is no command, and `Memory` where memory was refused.
+/// `Usage` if `clap` does not accept the arguments, if a port or a count is out of its range, or if
+/// help is requested on something that is not a command. `Memory` if an allocation fails.
 pub fn read_command<'a>(alloc: Global, words: &'a [String]) -> Result<Command<'a>, CommandFault>
-    // What is read is what the words ask for: help with no option, or what `clap` reads.
+    // What is read is what the arguments request: help without an option, or what `clap` reads.
     ensures found { IfOk result (λ c.
         IsCommandOf (map string_bytes words.entry.now) (command_value c)) }
-    // Words that ask for a command, for help or for the version are refused for memory alone.
-    ensures asked { IfErr result (λ e.
-        IsSome (asked_by (map string_bytes words.entry.now)) → e ≡ CommandFault.Memory) }
+    // Arguments that request a command, help or the version are refused only for lack of memory.
+    ensures requested { IfErr result (λ e.
+        IsSome (requested_by (map string_bytes words.entry.now)) → e ≡ CommandFault.Memory) }
 {
     let Some(called) = help_called(words) else {
         return read_by_parser(alloc, words);
@@ -434,22 +436,22 @@ pub fn read_command<'a>(alloc: Global, words: &'a [String]) -> Result<Command<'a
     }
 }
 
-/// The words `streetmap --version` ask for the version.
-pub fn version_is_asked()
-    ensures { asked_by (codes "streetmap" ∷ codes "--version" ∷ []) ≡ Some version_command }
+/// The arguments `streetmap --version` request the version.
+pub fn version_is_requested()
+    ensures { requested_by (codes "streetmap" ∷ codes "--version" ∷ []) ≡ Some version_command }
 {}
 
-/// `streetmap --help` and `-h` ask for help on the program, and after a command for help on it.
-pub fn help_is_asked()
-    ensures program { AsksForHelp [] topics.Program }
-    ensures lines { AsksForHelp (codes "lines" ∷ []) topics.Lines }
-    ensures create { AsksForHelp (codes "create" ∷ []) topics.Create }
-    ensures pipe { AsksForHelp (codes "pipe" ∷ []) topics.Pipe }
-    ensures serve { AsksForHelp (codes "serve" ∷ []) topics.Serve }
-    ensures import { AsksForHelp (codes "import" ∷ []) topics.Import }
-    ensures export { AsksForHelp (codes "export" ∷ []) topics.Export }
-    ensures check { AsksForHelp (codes "check" ∷ []) topics.Check }
-    ensures load { AsksForHelp (codes "load" ∷ []) topics.Load }
-    ensures batches { AsksForHelp (codes "batches" ∷ []) topics.Batches }
-    ensures apply { AsksForHelp (codes "apply" ∷ []) topics.Apply }
+/// `streetmap --help` and `-h` request help on the program, and after a command help on it.
+pub fn help_is_requested()
+    ensures program { RequestsHelp [] topics.Program }
+    ensures lines { RequestsHelp (codes "lines" ∷ []) topics.Lines }
+    ensures create { RequestsHelp (codes "create" ∷ []) topics.Create }
+    ensures pipe { RequestsHelp (codes "pipe" ∷ []) topics.Pipe }
+    ensures serve { RequestsHelp (codes "serve" ∷ []) topics.Serve }
+    ensures import { RequestsHelp (codes "import" ∷ []) topics.Import }
+    ensures export { RequestsHelp (codes "export" ∷ []) topics.Export }
+    ensures check { RequestsHelp (codes "check" ∷ []) topics.Check }
+    ensures load { RequestsHelp (codes "load" ∷ []) topics.Load }
+    ensures batches { RequestsHelp (codes "batches" ∷ []) topics.Batches }
+    ensures apply { RequestsHelp (codes "apply" ∷ []) topics.Apply }
 {}

@@ -1,4 +1,4 @@
-//! What is wrong with words that are no command, as people are told it.
+//! What is wrong with arguments that are not a command, described for people.
 ghost use Rattle.std.specs.Prelude.{◌≡◌, map, string_bytes};
 ghost use Rattle.std.specs.List.{list_any};
 ghost use Rattle.std.specs.Str.{bytes_eq};
@@ -12,21 +12,21 @@ use crate::words::{read_each, read_fractions, read_journal};
 use clap::{ArgMatches, Error};
 use std::alloc::{AllocError, Global};
 
-/// Whether a word is among the words.
+/// Whether the arguments include the given one.
 fn has_word(words: &[String], word: &str) -> bool
     ensures { result ≡ list_any (λ w. bytes_eq (string_bytes w) word.now) words.now }
 {
     words.iter().any(|other| other.as_str() == word)
 }
 
-/// Whether words have the option `--explain`.
+/// Whether the arguments include the option `--explain`.
 pub fn is_explained(words: &[String]) -> bool
     ensures { result ≡ is_explained (map string_bytes words.now) }
 {
     has_word(words, "--explain")
 }
 
-/// A sentence on words that ask for nothing: what is wrong with them, and which command prints help.
+/// A sentence on arguments that are not a command: what is wrong, and which command prints help.
 ///
 /// # Errors
 ///
@@ -43,7 +43,7 @@ pub fn usage_sentence(alloc: Global, words: &[String]) -> Result<String, AllocEr
     Ok(sentence)
 }
 
-/// What is wrong with words that ask for nothing.
+/// What is wrong with arguments that are not a command.
 fn mistake_in(alloc: Global, words: &[String]) -> Result<String, AllocError> {
     if has_split_shift(words) {
         return String::from_str(alloc, texts::SPLIT_SHIFT);
@@ -58,7 +58,7 @@ fn mistake_in(alloc: Global, words: &[String]) -> Result<String, AllocError> {
     }
 }
 
-/// Whether a shift begins with a minus, and is a word of its own: `clap` reads it as an option.
+/// Whether a shift begins with a minus and is a separate argument: `clap` reads it as an option.
 fn has_split_shift(words: &[String]) -> bool {
     words.windows(2).any(|pair| match pair {
         [option, value] => option.as_str() == "--shift" && value.as_str().starts_with("-"),
@@ -66,7 +66,7 @@ fn has_split_shift(words: &[String]) -> bool {
     })
 }
 
-/// What `clap` says first of its error, on one line.
+/// The first paragraph of an error of `clap`, on one line.
 fn first_sentence(alloc: Global, error: &Error) -> Result<String, AllocError> {
     let text = format!(in alloc; "{error}")?;
     let text = text.as_str();
@@ -85,7 +85,7 @@ fn first_sentence(alloc: Global, error: &Error) -> Result<String, AllocError> {
     Ok(sentence)
 }
 
-/// Which value is wrong of words that `clap` takes.
+/// Which value is wrong in arguments that `clap` accepts.
 fn wrong_value(matches: &ArgMatches<'_>) -> &'static str {
     match matches.subcommand() {
         Some(("serve", found)) => wrong_in_serve(found),

@@ -38,7 +38,7 @@ pub enum Topic {
     Apply,
 }
 
-/// The command that a word names.
+/// The command that an argument names.
 pub(crate) fn topic_named(word: &str) -> Option<Topic>
     ensures { result ≡ topic_named word.now }
 {
@@ -57,7 +57,7 @@ pub(crate) fn topic_named(word: &str) -> Option<Topic>
     }
 }
 
-/// What the words after `help` name: the program, or one command.
+/// What the arguments after `help` name: the program, or one command.
 fn topic_after(words: &[String]) -> Option<Topic>
     ensures { result ≡ topic_after (map string_bytes words.now) }
 {
@@ -68,8 +68,8 @@ fn topic_after(words: &[String]) -> Option<Topic>
     }
 }
 
-/// The help that words ask for with no option, if they do: there is none after the program's name,
-/// or the first is `help`, which at most the name of one command may follow.
+/// The help that arguments request without an option, if they do: either the program's name is the
+/// only argument, or `help` follows it, and then at most the name of one command.
 pub(crate) fn help_called(words: &[String]) -> Option<Option<Topic>>
     ensures { result ≡ help_called (map string_bytes words.now) }
 {
@@ -85,8 +85,8 @@ pub(crate) fn help_called(words: &[String]) -> Option<Option<Topic>>
     }
 }
 
-/// What help is on where an option asks for it: the command that the first word after the program's
-/// name is, else the program.
+/// The topic of the help that an option requests: the command that the first argument after the
+/// program's name names, or else the program.
 pub(crate) fn topic_of(words: &[String]) -> Topic
     ensures { result ≡ topic_of (map string_bytes words.now) }
 {
@@ -99,7 +99,7 @@ pub(crate) fn topic_of(words: &[String]) -> Topic
     }
 }
 
-/// The command by the name that its usage has, unless memory ran out.
+/// The command with the name that its usage shows, unless memory ran out.
 fn with_usage_name<'a>(
     command: Result<Command<'a>, AllocError>,
     name: &str,

@@ -1,9 +1,9 @@
-//! The command line of the program: what its words ask for.
+//! The command line of the program: what its arguments request.
 //!
 //! Modules, in the order of reading: `parser` (the command line as `clap` reads it), `texts` (what
-//! help says), `help` (which help is asked for, and its text), `command` (what was found, as a
+//! help says), `help` (which help is requested, and its text), `command` (what was found, as a
 //! command), `words` (the commands that move features and batches), `explain` (what is wrong with
-//! words that are no command).
+//! arguments that are not a command).
 #![tactic(auto)]
 
 mod command;
@@ -14,9 +14,10 @@ mod texts;
 mod words;
 
 pub use command::{
-    Command, CommandFault, Connections, Import, help_is_asked, read_command, version_is_asked,
+    Command, CommandFault, Connections, Import, help_is_requested, read_command,
+    version_is_requested,
 };
 pub use explain::{is_explained, usage_sentence};
 pub use help::{Topic, help_text};
 pub use parser::VERSION;
-pub use words::{JournalAsked, LoadAsked};
+pub use words::{JournalArguments, LoadArguments};

@@ -17,10 +17,10 @@ use std::alloc::{AllocError, Global};
 /// The version of the program.
 pub const VERSION: &str = "0.1.0";
 
-/// The place in help of an option that is listed behind all others.
+/// The place in help of an option that is listed last.
 const LAST: usize = 100;
 
-/// A value by its place alone, which may be left out.
+/// A positional value, which may be omitted.
 fn optional_arg<'a>(alloc: Global, name: &'a str, help: &'a str) -> Arg<'a>
     ensures rule { rule_of result ≡ optional name.entry.now }
     ensures local { result.global ≡ false }
@@ -28,7 +28,7 @@ fn optional_arg<'a>(alloc: Global, name: &'a str, help: &'a str) -> Arg<'a>
     Arg::new(alloc, name).action(ArgAction::Set).help(help)
 }
 
-/// A value that has to be given, by its place alone.
+/// A positional value that is required.
 fn positional_arg<'a>(alloc: Global, name: &'a str, help: &'a str) -> Arg<'a>
     ensures rule { rule_of result ≡ positional name.entry.now }
     ensures local { result.global ≡ false }
@@ -44,7 +44,7 @@ fn option_arg<'a>(alloc: Global, name: &'a str, help: &'a str) -> Arg<'a>
     optional_arg(alloc, name, help).long(name)
 }
 
-/// An option with a value that has to be given.
+/// An option with a value that is required.
 fn required_arg<'a>(alloc: Global, name: &'a str, help: &'a str) -> Arg<'a>
     ensures rule { rule_of result ≡ required_option name.entry.now }
     ensures local { result.global ≡ false }
@@ -52,7 +52,7 @@ fn required_arg<'a>(alloc: Global, name: &'a str, help: &'a str) -> Arg<'a>
     option_arg(alloc, name, help).required(true)
 }
 
-/// An option with no value.
+/// An option without a value.
 fn flag_arg<'a>(alloc: Global, name: &'a str, help: &'a str) -> Arg<'a>
     ensures rule { rule_of result ≡ flag name.entry.now }
     ensures local { result.global ≡ false }
@@ -90,7 +90,7 @@ fn with_subcommand<'a>(
     command?.subcommand(subcommand?)
 }
 
-/// A command with no argument yet, and the sentence on it in help.
+/// A command without arguments, and the sentence on it in help.
 fn new_command<'a>(alloc: Global, name: &'a str, about: &'a str) -> Command<'a>
     ensures app { app_of result ≡ new_app name.entry.now }
     ensures local { (fields_of result).has_globals ≡ false }
@@ -106,7 +106,7 @@ fn explain_arg<'a>(alloc: Global) -> Arg<'a>
     flag_arg(alloc, "explain", texts::EXPLAIN).display_order(LAST)
 }
 
-/// A command with the option `--explain`, as each has it.
+/// A command with the option `--explain`, which every command has.
 fn explained_command<'a>(
     alloc: Global,
     name: &'a str,
@@ -265,7 +265,7 @@ pub(crate) fn make_load<'a>(alloc: Global) -> Result<Command<'a>, AllocError>
     with_argument(command, flag_arg(alloc, "progress", texts::PROGRESS))
 }
 
-/// The program, with its version and no command yet.
+/// The program, with its version and without commands.
 fn make_program<'a>(alloc: Global) -> Command<'a>
     ensures app { app_of result ≡ versioned (new_app (codes "streetmap")) }
     ensures local { (fields_of result).has_globals ≡ false }

@@ -1,5 +1,5 @@
-//! What help says of the program, its commands, and their arguments, and what is said of words that
-//! are none.
+//! What help says of the program, its commands and their arguments, and what is said of arguments
+//! that are not a command.
 
 pub(crate) const PROGRAM: &str =
     "A server for features of streets, changed by batches that apply whole or not at all";

@@ -4,18 +4,19 @@ ghost use Rattle.clap.specs.Words.{rows_of, found_of, first_of};
 ghost use Rattle.streetmap_command.specs.CommandView.{command_value, load_value, journal_value};
 ghost use Rattle.streetmap_command.specs.Program.{load_by, batches_by, apply_by, agrees};
 ghost use Rattle.streetmap_command.specs.Program.{options_given, journal_by};
-ghost use Rattle.streetmap_command.specs.Program.{each_given, after_given, fractions_given, text_given};
+ghost use Rattle.streetmap_command.specs.Program.{each_given, after_given, fractions_given};
+ghost use Rattle.streetmap_command.specs.Program.{text_given};
 
 use crate::command::{Command, CommandFault, has_flag, read_number, value_of};
 use clap::ArgMatches;
 
-/// The edits of a batch of a load, where no number is given.
+/// The edits of a batch of a load, if no number is given.
 const EACH: u32 = 1000;
 
-/// The load of a text of features, a feature a line.
+/// The load of a text of features, one per line.
 #[derive(Clone, Copy, Drop)]
-pub struct LoadAsked<'a> {
-    /// The path of the text: standard input where there is none.
+pub struct LoadArguments<'a> {
+    /// The path of the text; none for standard input.
     pub text: Option<&'a str>,
     /// The key K of the batches K.1, K.2, ..
     pub key: &'a str,
@@ -29,7 +30,7 @@ pub struct LoadAsked<'a> {
     pub title: Option<&'a str>,
     /// The time property of the collection that is opened.
     pub time: Option<&'a str>,
-    /// How many millimetres a unit of the map is: a decimal text, or 1 where there is none.
+    /// How many millimetres a unit of the map is: a decimal text, or 1 if none is given.
     pub scale: Option<&'a str>,
     /// Which position of the map is the grid's 0,0: two decimal texts with a comma between.
     pub shift: Option<&'a str>,
@@ -37,15 +38,15 @@ pub struct LoadAsked<'a> {
     pub rounds: bool,
     /// Whether numbers within properties that are not whole are kept as texts.
     pub keeps_fractions: bool,
-    /// Whether features replace those with their ids.
+    /// Whether features replace those with the same ids.
     pub replace: bool,
-    /// Whether features at fault are passed over.
+    /// Whether features at fault are skipped.
     pub skip: bool,
     /// Whether features are only read, and nothing is written.
     pub check: bool,
-    /// Whether batches are printed in place of being applied.
+    /// Whether batches are printed instead of being applied.
     pub print: bool,
-    /// Whether lines on standard error say how far the load is.
+    /// Whether lines on standard error report how far the load is.
     pub progress: bool,
     /// Whether a sentence on standard error says what is wrong.
     pub explains: bool,
@@ -53,10 +54,10 @@ pub struct LoadAsked<'a> {
 
 /// The journal of what is served.
 #[derive(Clone, Copy, Drop)]
-pub struct JournalAsked<'a> {
+pub struct JournalArguments<'a> {
     /// The path of its file.
     pub path: &'a str,
-    /// The serial behind which it begins, where it has no line yet.
+    /// The serial after which it begins, if it has no line yet.
     pub after: u32,
     /// Whether its lines are synchronised before answers.
     pub sync: bool,
@@ -84,7 +85,7 @@ pub(crate) fn read_fractions(given: Option<&str>) -> Option<bool>
     }
 }
 
-/// The serial behind which batches are printed.
+/// The serial after which batches are printed.
 fn read_after(given: Option<&str>) -> Option<u32>
     ensures { result ≡ after_given (option_map (λ s. s.now) given.entry) }
 {
@@ -95,15 +96,15 @@ fn read_after(given: Option<&str>) -> Option<u32>
     }
 }
 
-/// The journal that is given, or none: its other options go with it.
-pub(crate) fn read_journal<'a>(found: &ArgMatches<'a>) -> Option<Option<JournalAsked<'a>>>
+/// The journal that is given, or none: its other options require it.
+pub(crate) fn read_journal<'a>(found: &ArgMatches<'a>) -> Option<Option<JournalArguments<'a>>>
     ensures { option_map (option_map journal_value) result
         ≡ journal_by (rows_of (found_of found.now)) }
 {
     let after = value_of(found, "journal-after");
     let sync = has_flag(found, "journal-sync");
     match value_of(found, "journal") {
-        Some(path) => Some(Some(JournalAsked {
+        Some(path) => Some(Some(JournalArguments {
             path,
             after: read_after(after)?,
             sync,
@@ -113,19 +114,19 @@ pub(crate) fn read_journal<'a>(found: &ArgMatches<'a>) -> Option<Option<JournalA
     }
 }
 
-/// Whether a title and a time go with an opening, and what is only checked is not printed.
-fn is_agreed(load: &LoadAsked<'_>) -> bool
+/// Whether a title and a time come only with an opening, and `check` not with `print`.
+fn is_agreed(load: &LoadArguments<'_>) -> bool
     ensures { result ≡ agrees (load_value load.now) }
 {
     let is_plain = load.title.is_none() && load.time.is_none();
     (load.opens || is_plain) && !(load.check && load.print)
 }
 
-/// The options of a load, of what is given with it.
-fn read_options<'a>(found: &ArgMatches<'a>) -> Option<LoadAsked<'a>>
+/// The options of a load, from its arguments.
+fn read_options<'a>(found: &ArgMatches<'a>) -> Option<LoadArguments<'a>>
     ensures { option_map load_value result ≡ options_given (rows_of (found_of found.now)) }
 {
-    Some(LoadAsked {
+    Some(LoadArguments {
         text: read_text(found),
         key: value_of(found, "key")?,
         collection: value_of(found, "collection")?,
@@ -146,7 +147,7 @@ fn read_options<'a>(found: &ArgMatches<'a>) -> Option<LoadAsked<'a>>
     })
 }
 
-/// The command `load`, of what is given with it.
+/// The command `load`, from its arguments.
 pub(crate) fn read_load<'a>(found: &ArgMatches<'a>) -> Result<Command<'a>, CommandFault>
     ensures found { IfOk result (λ c. Some (command_value c)
         ≡ load_by (rows_of (found_of found.now))) }
@@ -162,7 +163,7 @@ pub(crate) fn read_load<'a>(found: &ArgMatches<'a>) -> Result<Command<'a>, Comma
     }
 }
 
-/// The text that is named: none where it is standard input.
+/// The text that is named; none for standard input.
 fn read_text<'a>(found: &ArgMatches<'a>) -> Option<&'a str>
     ensures { option_map (λ s. s.now) result
         ≡ text_given (first_of (codes "text") (rows_of (found_of found.now))) }
@@ -173,7 +174,7 @@ fn read_text<'a>(found: &ArgMatches<'a>) -> Option<&'a str>
     }
 }
 
-/// The command `batches`, of what is given with it.
+/// The command `batches`, from its arguments.
 pub(crate) fn read_batches<'a>(found: &ArgMatches<'a>) -> Result<Command<'a>, CommandFault>
     ensures found { IfOk result (λ c. Some (command_value c)
         ≡ batches_by (rows_of (found_of found.now))) }
@@ -185,7 +186,7 @@ pub(crate) fn read_batches<'a>(found: &ArgMatches<'a>) -> Result<Command<'a>, Co
     Ok(Command::Batches { file, after })
 }
 
-/// The command `apply`, of what is given with it.
+/// The command `apply`, from its arguments.
 pub(crate) fn read_apply<'a>(found: &ArgMatches<'a>) -> Result<Command<'a>, CommandFault>
     ensures found { IfOk result (λ c. Some (command_value c)
         ≡ apply_by (rows_of (found_of found.now))) }

@@ -12,8 +12,8 @@ pub record Differs {A B : Type 0} (f : A → List B) (xs ys : List A) (x y : A) 
   pub before : flat_map f xs ≡ front ++ (f x ++ back)
   pub after : flat_map f ys ≡ front ++ (f y ++ back)
 
-behind : {A B : Type 0} (f : A → List B) (a : A) (xs ys : List A) (x y : A) → Differs f xs ys x y → Differs f (a ∷ xs) (a ∷ ys) x y
-behind {B = B} f a xs ys x y d = record {
+following : {A B : Type 0} (f : A → List B) (a : A) (xs ys : List A) (x y : A) → Differs f xs ys x y → Differs f (a ∷ xs) (a ∷ ys) x y
+following {B = B} f a xs ys x y d = record {
   front = f a ++ d.front;
   back = d.back;
   before = ap (λ (l : List B). f a ++ l) d.before ∙ sym (append_assoc (f a) d.front (f x ++ d.back));
@@ -28,4 +28,4 @@ set_differs {A = A} f (a ∷ xs) zero x y lt is = record {
   before = ap (λ (z : A). f z ++ flat_map f xs) (sym is);
   after = refl;
 }
-set_differs f (a ∷ xs) (suc i) x y lt is = behind f a xs (set xs i y) x y (set_differs f xs i x y (omega arith) is)
+set_differs f (a ∷ xs) (suc i) x y lt is = following f a xs (set xs i y) x y (set_differs f xs i x y (omega arith) is)

@@ -1,4 +1,4 @@
--- Bytes that hold no request, until one more came.
+-- Bytes that hold no request until one more arrives.
 use Rattle.std.proofs.Common.{ℕ, ◌+◌, ◌<◌, ◌≤◌, List, [], ◌∷◌, ◌++◌, length, sym, subst, arith, length-append}
 use Rattle.std.proofs.lemmas.List.{append-nil}
 use Rattle.streetmap_connections.specs.Cuts.{HasNone, HasNoneBefore}

@@ -7,13 +7,13 @@ use Rattle.std.proofs.lemmas.Option.{get_or_from_slice_get, slice_get-get_or}
 use Rattle.streetmap_connections.specs.declared.slot.Slot.{Slot}
 use Rattle.streetmap_connections.specs.Slots.{IdlesFor, IsLongestIdleAt, NoneIdlesBeyond}
 
--- what was put at a place is found there
+-- an item that was put at a place is found there
 pub found_put : {A : Type 0} (xs : List A) (i : ℕ) (x : A) → i < length xs → slice_get (set xs i x) i ≡ Some x
 found_put xs i x within =
     slice_get-get_or (set xs i x) i x (subst (λ n. i < n) (sym (length-set xs i x)) within)
     ∙ ap (λ y. Some y) (get_or-set_same xs i x x within)
 
--- what a function of the one at a place is put there for it
+-- a changed item that was put at a place is found there
 pub found_changed : {A : Type 0} (f : A → A) (xs : List A) (i : ℕ) (was is : A) → i < length xs → was ≡ get_or xs i was → is ≡ f was → (x : A) → slice_get xs i ≡ Some x → slice_get (set xs i is) i ≡ Some (f x)
 found_changed f xs i was is within at made x found =
     found_put xs i is within

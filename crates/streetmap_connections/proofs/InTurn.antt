@@ -15,19 +15,19 @@ use Rattle.streetmap_connections.specs.Slots.{clients_in, exchanges_in}
 use Rattle.streetmap_connections.proofs.Changed.{Differs, set_differs}
 use Rattle.streetmap_connections.proofs.Interleavings.{goes_on, goes_on_then, only_one, same_goes_on, starts}
 
--- one more, that gives nothing yet
+-- one more item that gives nothing yet
 by_nothing : {A B : Type 0} (f : A → List B) (xs : List A) (x : A) → f x ≡ [] → flat_map f (xs ++ x ∷ []) ≡ flat_map f xs
 by_nothing {B = B} f xs x nothing =
     flat_map-append f xs (x ∷ []) ∙ (ap (λ (l : List B). flat_map f xs ++ (l ++ [])) nothing ∙ append-nil (flat_map f xs))
 
--- the last gives more
+-- the last item gives more
 pub last_gives : {A B : Type 0} (f : A → List B) (xs : List A) (x y : A) (made : List B) → f y ≡ f x ++ made
     → flat_map f (xs ++ y ∷ []) ≡ flat_map f (xs ++ x ∷ []) ++ made
 last_gives {B = B} f [] x y made grown = append-nil (f y) ∙ (grown ∙ ap (λ (l : List B). l ++ made) (sym (append-nil (f x))))
 last_gives {B = B} f (z ∷ xs) x y made grown =
     ap (λ (l : List B). f z ++ l) (last_gives f xs x y made grown) ∙ sym (append_assoc (f z) (flat_map f (xs ++ x ∷ [])) made)
 
--- lists that are the same, one behind the other
+-- if the lists are the same, they are the same joined
 same_joined : {A B : Type 0} (f : A → List B) (xs ys : List A) → map f ys ≡ map f xs → flat_map f ys ≡ flat_map f xs
 same_joined {B = B} f xs ys same =
     sym (flat_map-map (λ (l : List B). l) f ys)
@@ -52,7 +52,7 @@ abbrev list_of : {S : Type 0} → Slot S → List (List Exchange)
 list_of s = exchanges_in s ∷ []
 
 module _ {S : Type 0} where
-  -- ---- the list of each slot goes on
+  -- ---- the list of each slot continues
 
   stays : (s : Slot S) → Continues s s
   stays s = ([], sym (append-nil (exchanges_in s)))
@@ -89,7 +89,7 @@ module _ {S : Type 0} where
   all_but_one_stay (s ∷ slots) zero x y is goes = (subst (λ (z : Slot S). Continues z y) is goes, all_stay slots)
   all_but_one_stay (s ∷ slots) (suc i) x y is goes = (stays s, all_but_one_stay slots i x y is goes)
 
-  -- ---- one slot, at which nobody was
+  -- ---- one slot, which was empty before
 
   alone_at : (b a : Slot S) (made : List Exchange) → GoesOnAs (exchanges_in b ∷ []) made (exchanges_in a ∷ []) → clients_in b ++ [] ≡ []
       → made ≡ flat_map exchanges_of (clients_in a ++ [])
@@ -151,7 +151,7 @@ module _ {S : Type 0} (slots : List (Slot S)) (i : ℕ) (x y : Slot S) (lt : i <
   pub same_in_turn : map exchanges_of (clients_in y) ≡ map exchanges_of (clients_in x) → map exchanges_in (set slots i y) ≡ map exchanges_in slots
   same_in_turn same = kept_in_slots (same_joined exchanges_of (clients_in x) (clients_in y) same)
 
-  -- the list of one slot goes on
+  -- the list of one slot continues
   pub grows_in_slots : (made : List Exchange) → exchanges_in y ≡ exchanges_in x ++ made → IsInTurn slots made (set slots i y)
   grows_in_slots made grown =
       let now : map exchanges_in (set slots i y) ≡ spot.front ++ ((exchanges_in x ++ made) ∷ spot.back)

@@ -1,4 +1,4 @@
--- How interleavings go on.
+-- How interleavings continue.
 use Rattle.std.proofs.Common.{◌≡◌, List, [], ◌∷◌, ◌++◌, refl, sym, subst, ap, append_assoc}
 use Rattle.std.proofs.lemmas.List.{append-nil}
 use Rattle.streetmap_connections.specs.Interleaving.{GoesOnAs, IsInterleaving, Merges}
@@ -28,12 +28,12 @@ split_first : {A : Type 0} {xs : List A} {xss : List (List A)} {all : List A} �
     → (rest : List A) × Merges xs rest all × IsInterleaving xss rest
 split_first (more {rest = rest} m i) = (rest, m, i)
 
--- one more list, of nothing yet
+-- one more list, empty so far
 pub begins : {A : Type 0} (front back : List (List A)) (all : List A) → IsInterleaving (front ++ back) all → IsInterleaving (front ++ ([] ∷ back)) all
 begins [] back all i = more (right_only all) i
 begins (xs ∷ front) back all i = let s = split_first i in more s.1 (begins front back s.0 s.2)
 
--- one of the lists goes on
+-- one of the lists continues
 pub goes_on : {A : Type 0} (front back : List (List A)) (own made all : List A) → IsInterleaving (front ++ (own ∷ back)) all
     → IsInterleaving (front ++ ((own ++ made) ∷ back)) (all ++ made)
 goes_on [] back own made all i = let s = split_first i in more (left_more made s.1) s.2
@@ -45,7 +45,7 @@ same_goes_on {A = A} before after e all i = subst (λ (xs : List A). IsInterleav
 pub goes_on_then : {A : Type 0} (a b c : List (List A)) (xs ys : List A) → GoesOnAs a xs b → GoesOnAs b ys c → GoesOnAs a (xs ++ ys) c
 goes_on_then {A = A} a b c xs ys x y all i = subst (λ (l : List A). IsInterleaving c l) (append_assoc all xs ys) (y (all ++ xs) (x all i))
 
--- one list, of nothing yet
+-- one list, empty so far
 pub starts : {A : Type 0} (xs : List A) → xs ≡ [] → IsInterleaving (xs ∷ []) []
 starts {A = A} xs nothing = subst (λ (l : List A). IsInterleaving (l ∷ []) []) (sym nothing) (more none no_lists)
 

@@ -13,12 +13,12 @@ rests_is_not_ends e = search rules
 pub goes_is_not_ends : ¬ (Goes ≡ Ends)
 goes_is_not_ends e = search rules
 
--- the slot is free, and the client ended there
+-- the slot is free, and the client has ended as its last one
 abbrev pub HasEnded : {S : Type 0} → List (Client S) → Slot S → Client S → Type 0
 HasEnded past new c = (new.client ≡ None) × (past_of new ≡ past ++ c ∷ [])
 
 module _ {S : Type 0} (Late : Client S → Type 0) {F : Type 0} (past : List (Client S)) where
-  -- where a late client would have brought what is false
+  -- if a late client would imply a falsehood, the client is not late
   pub not_late : (o : Option (Client S)) (new : Slot S) → ¬ F → All (λ c. Late c → F) (present o) → All (λ c. Late c → HasEnded past new c) (present o)
   not_late None new none said = All-nil (λ c. Late c → HasEnded past new c)
   not_late (Some c) new none said = All-cons (λ d. Late d → HasEnded past new d) c [] (λ late. absurd (none (All-head (λ d. Late d → F) c [] said late))) (All-nil (λ d. Late d → HasEnded past new d))
@@ -32,7 +32,7 @@ none_is_no_some : ¬ (false ≡ true)
 none_is_no_some e = search rules
 
 module _ {S : Type 0} (Late Left : Client S → Type 0) where
-  -- where nobody was, nobody was not late
+  -- if the slot had no client, none was late
   pub none_there : (was : Option (Client S)) → was ≡ None → All Late (present was)
   none_there was none = subst (λ (o : Option (Client S)). All Late (present o)) (sym none) (All-nil Late)
 

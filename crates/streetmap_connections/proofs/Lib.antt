@@ -12,6 +12,6 @@ pub mod PatienceRows
 pub mod ServingLemmas
 pub mod Refusals
 pub mod Sending
-pub mod Timing
+pub mod Timers
 pub mod Turned
 pub mod Timelines

@@ -6,7 +6,7 @@ use Rattle.std.specs.Bool.{OnTrue, OnFalse}
 use Rattle.std.specs.Io.KnownBytes.{Appends, Consumes, Keeps}
 use Rattle.http_server.proofs.KnownLemmas.{Appends-then, Consumes-then}
 use Rattle.streetmap_connections.specs.History.{Exchange, History, Refusal, MayFollow, after_receive, after_answer, after_refusal, after_send}
-use Rattle.streetmap_connections.specs.Refusing.{AddsRefusals, AreRefused, Refusing}
+use Rattle.streetmap_connections.specs.RefusedRequests.{AddsRefusals, AreRefused, Refusing}
 use Rattle.streetmap_connections.specs.Leads.{Answering, Calls, Leads}
 use Rattle.streetmap_connections.specs.Moves.{Moves, Place}
 use Rattle.streetmap_connections.specs.Timeline.Step.{reads, writes}
@@ -177,7 +177,7 @@ pub unanswered_by_send : {E : Type 0} (r : Result ℕ E) (old new : History) (A 
 unanswered_by_send (Ok n) old new A K ok err = ap (λ (h : History). h.exchanges) ok.0
 unanswered_by_send (Err e) old new A K ok err = ap (λ (h : History). h.exchanges) err.0
 
--- the service was asked once
+-- the service was called once
 pub moves_by_answer : (most : ℕ) (is_request : List ℕ → Type 0) (r : Bool) (old new : History) (left held : Option (List ℕ)) (finishes : Bool) (A : Exchange → Type 0) (K : Type 0)
     → OnTrue r ((e : Exchange) × MayFollow is_request old e × A e × (new ≡ after_answer old e)) → OnFalse r ((new ≡ old) × K)
     → Moves most (record { history = old; left = left; held = held; finishes = finishes }) (record { history = new; left = left; held = held; finishes = finishes })
@@ -218,7 +218,7 @@ is_not_false : (b : Bool) → b ≡ true → ¬ (b ≡ false)
 is_not_false true e f = search rules
 is_not_false false e f = search rules
 
--- the client begins to drop what is still read
+-- the client starts to drop what is still read
 pub moves_by_finish : (most : ℕ) (h : History) (left left' held held' : Option (List ℕ)) (before after : Bool) → after ≡ true → held' ≡ held
     → Moves most (record { history = h; left = left; held = held; finishes = before }) (record { history = h; left = left'; held = held'; finishes = after })
 moves_by_finish most h left left' held held' before after finishes kept = record {
@@ -252,7 +252,7 @@ moves_by_refusal most old new text left held finishes is = record {
   steps = one_step old new [] (refuses_one text refl is);
 }
 
--- refusals that were added
+-- no refusal was added
 pub none_refused : (refuses : Refusing) (before after : List Refusal) → after ≡ before → AddsRefusals refuses before after
 none_refused refuses before after same = ([], same ∙ sym (append-nil before), All-nil (λ (r : Refusal). refuses r.bytes r.text))
 

@@ -7,7 +7,7 @@ use Rattle.std.proofs.lemmas.Grind.{flat_map-append}
 use Rattle.streetmap_connections.specs.declared.client.Client.{Client}
 use Rattle.streetmap_connections.specs.Clients.{refusals_of}
 use Rattle.streetmap_connections.specs.History.{Refusal}
-use Rattle.streetmap_connections.specs.Refusing.{AddsRefusals, AreRefused, Refusing}
+use Rattle.streetmap_connections.specs.RefusedRequests.{AddsRefusals, AreRefused, Refusing}
 use Rattle.streetmap_connections.proofs.Changed.{set_differs}
 use Rattle.streetmap_connections.proofs.MoveLemmas.{all_refused}
 

@@ -11,8 +11,8 @@ use Rattle.streetmap_connections.specs.Clients.{exchanges_of, refusals_of, place
 use Rattle.streetmap_connections.specs.History.{Exchange, History, Refusal, new_history}
 use Rattle.streetmap_connections.specs.Interleaving.{GoesOnAs, IsInterleaving}
 use Rattle.streetmap_connections.specs.Leads.{Answering, Leads}
-use Rattle.streetmap_connections.specs.Serving.{EachMoves, Serves, TakesTurn}
-use Rattle.streetmap_connections.specs.Refusing.{AddsRefusals, AreRefused, Refusing}
+use Rattle.streetmap_connections.specs.Services.{EachMoves, Serves, TakesTurn}
+use Rattle.streetmap_connections.specs.RefusedRequests.{AddsRefusals, AreRefused, Refusing}
 use Rattle.streetmap_connections.specs.Slots.{client_history, clients_in, exchanges_in, histories_in, refusals_in}
 use Rattle.streetmap_connections.specs.Timeline.{Steps, Timeline}
 use Rattle.streetmap_connections.proofs.Changed.{Differs, set_differs}
@@ -23,7 +23,7 @@ use Rattle.streetmap_connections.proofs.Refusals.{refused_in_places}
 use Rattle.streetmap_connections.proofs.Timelines.{comes_among, steps_among, steps_made}
 use Rattle.streetmap_connections.proofs.Timelines.{timeline_goes_on, timeline_stays, timeline_then}
 
--- what a turn adds: exchanges by which the list of the last client goes on
+-- what a turn adds: exchanges that continue the list of the last client
 record Adds {V S : Type 0} (answers : Answering V) (old new : V) (before after : List (Client S)) : Type 0 where
   made : List Exchange
   leads : Leads answers old made new
@@ -41,7 +41,7 @@ module _ {S : Type 0} where
   pub lists_of : List (Client S) → List (List Exchange)
   lists_of cs = map exchanges_of cs
 
-  -- the lists of clients, one of whom stands behind others in its slot
+  -- the lists of clients, one of whom comes after others in its slot
   lists_with : (front others back : List (Client S)) (c : Client S)
       → map exchanges_of (front ++ ((others ++ c ∷ []) ++ back)) ≡ (map exchanges_of front ++ map exchanges_of others) ++ (exchanges_of c ∷ map exchanges_of back)
   lists_with front others back c = simp (map-append, append_assoc) refl
@@ -88,36 +88,36 @@ module _ {S : Type 0} where
       ∙ ap (λ (h : History). before ++ (h ∷ later)) new)) (comes_among before later))
 
   -- the lists of exchanges are those of the histories
-  exchanges_told : (cs : List (Client S))
+  exchanges_reported : (cs : List (Client S))
       → map (λ (h : History). h.exchanges) (map client_history cs) ≡ map exchanges_of cs
-  exchanges_told cs = map-map (λ (h : History). h.exchanges) client_history cs
+  exchanges_reported cs = map-map (λ (h : History). h.exchanges) client_history cs
 
   pub goes_on_by_timeline : (xs ys : List (Client S)) (made : List Exchange)
       → Timeline (map client_history xs) made (map client_history ys)
       → GoesOnAs (map exchanges_of xs) made (map exchanges_of ys)
   goes_on_by_timeline xs ys made timeline =
       subst (λ (ls : List (List Exchange)). GoesOnAs ls made (map exchanges_of ys))
-      (exchanges_told xs)
+      (exchanges_reported xs)
       (subst (λ (ls : List (List Exchange)). GoesOnAs (map (λ (h : History). h.exchanges)
-      (map client_history xs)) made ls) (exchanges_told ys) (timeline_goes_on timeline))
+      (map client_history xs)) made ls) (exchanges_reported ys) (timeline_goes_on timeline))
 
   -- and if the histories are the same, the lists are
   pub same_exchanges : (xs ys : List (Client S)) → map client_history ys ≡ map client_history xs
       → map exchanges_of ys ≡ map exchanges_of xs
   same_exchanges xs ys same =
-      sym (exchanges_told ys)
+      sym (exchanges_reported ys)
       ∙ (ap (λ (hs : List History). map (λ (h : History). h.exchanges) hs) same
-      ∙ exchanges_told xs)
+      ∙ exchanges_reported xs)
 
   grow_at : (front others back : List (Client S)) (c c' : Client S) (made : List Exchange) → exchanges_of c' ≡ exchanges_of c ++ made
       → GoesOnAs (map exchanges_of (front ++ ((others ++ c ∷ []) ++ back))) made (map exchanges_of (front ++ ((others ++ c' ∷ []) ++ back)))
   grow_at front others back c c' made e all i =
       let before = map exchanges_of front ++ map exchanges_of others in
-      let behind_it = map exchanges_of back in
+      let after_it = map exchanges_of back in
       let was = subst (λ (ls : List (List Exchange)). IsInterleaving ls all) (lists_with front others back c) i in
       subst (λ (ls : List (List Exchange)). IsInterleaving ls (all ++ made))
-      (sym (lists_with front others back c' ∙ ap (λ (l : List Exchange). before ++ (l ∷ behind_it)) e))
-      (goes_on before behind_it (exchanges_of c) made all was)
+      (sym (lists_with front others back c' ∙ ap (λ (l : List Exchange). before ++ (l ∷ after_it)) e))
+      (goes_on before after_it (exchanges_of c) made all was)
 
   module _ {V : Type 0} (answers : Answering V) (refuses : Refusing) where
     pub serves_none : (s : V) (slots : List (Slot S)) → Serves answers refuses s s slots slots
@@ -135,7 +135,7 @@ module _ {S : Type 0} where
       refused = λ were. y.refused (x.refused were);
     }
 
-    -- the clients alone changed
+    -- only the clients changed
     pub serves_by : (s : V) (xs ys : List (Slot S)) → Timeline (histories_in xs) [] (histories_in ys)
         → map exchanges_in ys ≡ map exchanges_in xs → flat_map refusals_in ys ≡ flat_map refusals_in xs → Serves answers refuses s s xs ys
     serves_by s xs ys timeline kept unrefused = record {

@@ -1,4 +1,4 @@
--- How timelines go on, and what was answered in them.
+-- How timelines continue, and what was answered in them.
 use Rattle.std.proofs.Common.{◌≡◌, List, [], ◌∷◌, ◌++◌, map, refl, sym, subst, ap, ◌∙◌, append_assoc}
 use Rattle.std.proofs.lemmas.List.{append-nil, map-append, append_cancel_left}
 use Rattle.streetmap_connections.specs.History.{Exchange, History, new_history}
@@ -55,7 +55,7 @@ steps_answer {h} (first_step {made = made} {rest = rest} step others is) =
     ∙ (append_assoc h.exchanges made rest
     ∙ ap (λ (l : List Exchange). h.exchanges ++ l) (sym is)))
 
--- what was answered in steps is what the connection's list goes on by
+-- what was answered in steps is what the connection's list gained
 pub steps_made : {h k : History} {made more : List Exchange} → Steps h made k
     → k.exchanges ≡ h.exchanges ++ more → Steps h more k
 steps_made {h} {k} {made} {more} steps goes =
@@ -84,7 +84,7 @@ steps_among front back (no_step nothing same) =
 steps_among {h} front back (first_step {next = next} step others is) =
     first (moves front back h next refl step refl) (steps_among front back others) is
 
--- one more comes
+-- one more connection comes
 pub comes_among : (front back : List History)
     → Timeline (front ++ back) [] (front ++ new_history ∷ back)
 comes_among front back = first (comes front back refl refl refl) (none refl refl) refl
@@ -118,7 +118,7 @@ happens_goes_on {a} {b} {made} (comes front back nothing before after) all woven
     (ap (λ (hs : List History). map answered_in hs) before ∙ map-append answered_in front back)
     woven))))
 
--- a timeline goes on from any interleaving of the connections' lists before as one of those after
+-- a timeline continues any interleaving of the connections' lists before as one of those after
 pub timeline_goes_on : {a b : List History} {made : List Exchange} → Timeline a made b
     → GoesOnAs (map answered_in a) made (map answered_in b)
 timeline_goes_on {a} {b} (none nothing same) =

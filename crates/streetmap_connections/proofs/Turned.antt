@@ -1,9 +1,9 @@
--- Lists whose elements are changed one after the other.
+-- Lists whose elements are changed one after another.
 use Rattle.std.proofs.Common.{◌≡◌, ℕ, zero, suc, ◌<◌, ◌≤◌, List, [], ◌∷◌, length, get_or, set, refl, sym, subst, ◌∙◌, arith}
 use Rattle.std.specs.List.{AllZip}
 
 module _ {A : Type 0} (R : A → A → Type 0) where
-  -- so many of the elements were changed as R says, and the others not at all
+  -- the first i elements were changed as R says, and the others not at all
   abbrev pub Turned : ℕ → List A → List A → Type 0
   Turned i [] [] = Unit {0}
   Turned i [] (y ∷ ys) = ⊥

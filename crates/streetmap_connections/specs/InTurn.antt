@@ -18,7 +18,7 @@ pub record IsInTurn {S : Type 0} (before : List (Slot S)) (made : List Exchange)
     (after : List (Slot S)) : Type 0 where
   pub each : AllZip Continues before after
   pub interleaved : GoesOnAs (map exchanges_in before) made (map exchanges_in after)
-  -- if there is one slot, and nobody was let in before: the clients' own lists, one after the
+  -- for one slot, if nobody was let in before: the clients' own lists, one after the
   -- other, in the order in which they were let in
   pub alone : length before ≡ 1 → flat_map clients_in before ≡ []
       → made ≡ flat_map exchanges_of (flat_map clients_in after)

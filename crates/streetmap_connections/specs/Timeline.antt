@@ -1,7 +1,8 @@
 -- What one thread did for its connections, in the order in which it did it.
 use Rattle.std.specs.Prelude.{◌≡◌, ℕ, List, [], ◌∷◌, ◌++◌}
 use Rattle.streetmap_connections.specs.History.{Exchange, History, new_history}
-use Rattle.streetmap_connections.specs.History.{after_receive, after_answer, after_refusal, after_send}
+use Rattle.streetmap_connections.specs.History.{after_receive, after_answer, after_refusal}
+use Rattle.streetmap_connections.specs.History.{after_send}
 
 -- a connection takes a step: it reads once, answers a request, refuses one, or writes once
 pub data Step (old : History) (answered : List Exchange) (new : History) : Type 0 where

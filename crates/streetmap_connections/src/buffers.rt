@@ -32,7 +32,7 @@ pub(crate) struct Turn {
 pub(crate) struct Buffers {
     pub(crate) alloc: Global,
     pub(crate) input: BytesMut,
-    /// There is no whole request in fewer bytes than this.
+    /// Fewer bytes than this hold no whole request.
     pub(crate) needs: usize,
     /// The last answer, as far as it is not sent yet, and whether the connection closes after it.
     pub(crate) outgoing: Outgoing,
@@ -54,7 +54,7 @@ impl Buffers {
     ghost use Rattle.streetmap_connections.specs.History.{Exchange, MayFollow, new_history};
     ghost use Rattle.streetmap_connections.specs.History.{after_receive, after_answer, after_send};
     ghost use Rattle.streetmap_connections.specs.History.{after_refusal};
-    ghost use Rattle.streetmap_connections.specs.Leaving.{IsFinal};
+    ghost use Rattle.streetmap_connections.specs.Departures.{IsFinal};
 
     /// Nothing, which allocates no memory.
     pub(crate) fn new(alloc: Global) -> Buffers
@@ -75,7 +75,7 @@ impl Buffers {
         }
     }
 
-    /// Reads once, if there is memory for the bytes that the read may return.
+    /// Reads once, if memory is available for the bytes that the read may return.
     pub(crate) fn receive_from<S: Stream>(
         &mut self,
         stream: &mut S,
@@ -114,7 +114,7 @@ impl Buffers {
         Ok(count)
     }
 
-    /// Has the service refuse the input, if there is no memory for it. The input is dropped.
+    /// Has the service refuse the input, since memory for it ran out. The input is dropped.
     pub(crate) fn refuse<V: Service>(&mut self, service: &V)
         ensures refused { (text : List ℕ) × V.refuses (history_of self.old).unread text
             × (history_of self.new ≡ after_refusal (history_of self.old) text) }
@@ -208,7 +208,7 @@ fn shrink(alloc: Global, input: &mut BytesMut)
     }
 }
 
-/// The room for a read after which there are to be `needs` bytes.
+/// The room for a read after which `needs` bytes are to be held.
 fn room_for(needs: usize, len: usize) -> usize {
     needs.saturating_sub(len).max(LEAST_ROOM).min(MOST_ROOM)
 }

@@ -3,7 +3,7 @@ ghost use Rattle.std.specs.Prelude.{◌≡◌, ◌≢◌, ◌≤◌, ◌↔◌, 
 ghost use Rattle.std.specs.Prelude.{◌<◌, if◌then◌else◌, IfOk, OnErr, IsErrAnd, MatchResult};
 ghost use Rattle.std.specs.Bool.{OnFalse};
 ghost use Rattle.streetmap_connections.specs.Connections.{history, IsOver};
-ghost use Rattle.streetmap_connections.specs.Leaving.{IsFinal};
+ghost use Rattle.streetmap_connections.specs.Departures.{IsFinal};
 ghost use Rattle.streetmap_connections.specs.Moves.{Moves};
 ghost use Rattle.streetmap_connections.specs.Leads.{Calls};
 
@@ -54,9 +54,9 @@ impl<S: Stream> Client<S> {
     ghost use Rattle.streetmap_connections.specs.Clients.{IsQuiet};
     ghost use Rattle.streetmap_connections.specs.Clients.{refusals_of};
     ghost use Rattle.streetmap_connections.specs.Clients.{IsLate, HasLeft};
-    ghost use Rattle.streetmap_connections.specs.Refusing.{AddsRefusals};
-    ghost use Rattle.streetmap_connections.specs.Timing.{IsTimedFrom, times_of, pieces_of};
-    ghost use Rattle.streetmap_connections.specs.Timing.{restarted, renewed};
+    ghost use Rattle.streetmap_connections.specs.RefusedRequests.{AddsRefusals};
+    ghost use Rattle.streetmap_connections.specs.Timers.{IsTimedFrom, times_of, pieces_of};
+    ghost use Rattle.streetmap_connections.specs.Timers.{restarted, renewed};
 
     /// A client of this stream, from this time on, in milliseconds.
     pub fn new(alloc: Global, stream: S, now: u64) -> Client<S>
@@ -256,8 +256,8 @@ impl<S: Stream> Client<S> {
         }
     }
 
-    /// Reads once, if less than `most_input` bytes of its input wait. If there is no memory for the
-    /// bytes that the read may return, the request is refused.
+    /// Reads once, if less than `most_input` bytes of its input wait. If memory for the bytes that
+    /// the read may return runs out, the request is refused.
     fn receive<V: Service>(&mut self, service: &V, now: u64, most_input: usize) -> Work
         requires sent { (history self.old.connection).unsent ≡ [] }
         requires stays { (history self.old.connection).closes ≡ false }
@@ -315,7 +315,7 @@ impl<S: Stream> Client<S> {
         }
     }
 
-    /// Refuses a request that was received in part, for which there is no memory.
+    /// Refuses a request that was received in part, since memory for it ran out.
     fn refuse<V: Service>(&mut self, service: &V, now: u64) -> Work
         requires sent { (history self.old.connection).unsent ≡ [] }
         requires stays { (history self.old.connection).closes ≡ false }

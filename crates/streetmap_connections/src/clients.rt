@@ -39,7 +39,7 @@ struct Round {
 }
 
 impl Round {
-    ghost use Rattle.streetmap_connections.specs.Serving.{EachMoves, Serves, TakesTurn};
+    ghost use Rattle.streetmap_connections.specs.Services.{EachMoves, Serves, TakesTurn};
 
     /// The client of the slot takes its turn, and leaves if it is over.
     fn give_turn<S: Stream + Drop, V: Service>(&mut self, slot: &mut Slot<S>, service: &mut V)
@@ -83,7 +83,7 @@ impl Round {
 }
 
 impl<S: Stream + Drop> Clients<S> {
-    ghost use Rattle.streetmap_connections.specs.Serving.{EachMoves, Serves};
+    ghost use Rattle.streetmap_connections.specs.Services.{EachMoves, Serves};
     ghost use Rattle.streetmap_connections.specs.Served.{all_refusals, clients_of, ended_of};
     ghost use Rattle.streetmap_connections.specs.Served.{slots_of};
     ghost use Rattle.streetmap_connections.specs.Slots.{exchanges_in, histories_in, woken_in};

@@ -7,7 +7,7 @@ ghost use Rattle.streetmap_connections.specs.Buffers.{history_of};
 ghost use Rattle.streetmap_connections.specs.History.{Exchange, FitsStream, MayFollow, new_history};
 ghost use Rattle.streetmap_connections.specs.History.{after_receive, after_answer, after_send};
 ghost use Rattle.streetmap_connections.specs.History.{after_refusal};
-ghost use Rattle.streetmap_connections.specs.Leaving.{IsFinal};
+ghost use Rattle.streetmap_connections.specs.Departures.{IsFinal};
 
 use crate::buffers::Buffers;
 use crate::limits::MOST_INPUT;
@@ -89,7 +89,7 @@ impl Connection {
     ///
     /// # Errors
     ///
-    /// If there is no memory for the bytes that the read may return: then nothing is read.
+    /// If memory for the bytes that the read may return runs out: then nothing is read.
     pub fn receive_from<S: Stream>(
         &mut self,
         stream: &mut S,
@@ -120,7 +120,7 @@ impl Connection {
             × (history self.new ≡ after_answer (history self.old) e)) }
         ensures waits { OnFalse result ((history self.new ≡ history self.old)
             × (service.new ≡ service.old)) }
-        // If it did not, no prefix of the input is a request, and none can be until there are
+        // If it did not, no prefix of the input is a request, and none can be until the input has
         // `awaited` bytes.
         ensures none { OnFalse result (HasNone V.is_request (history self.old).unread) }
         ensures awaits { OnFalse result ((length (history self.old).unread < awaited self.new)
@@ -130,7 +130,7 @@ impl Connection {
         self.buffers.answer(service)
     }
 
-    /// Has the service refuse a request that was received in part, for which there is no memory.
+    /// Has the service refuse a request that was received in part, since memory for it ran out.
     /// The input is dropped, and the connection closes after the answer.
     pub fn refuse<V: Service>(&mut self, service: &V)
         requires sent { (history self.old).unsent ≡ [] }

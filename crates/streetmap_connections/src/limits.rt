@@ -26,7 +26,7 @@ pub struct Limits {
     pub patience: u64,
     /// The milliseconds for which a client must be idle before another is let in in its place.
     pub least_idle: u64,
-    /// The bytes of input that may wait for an answer, over all clients: if there are more, a
+    /// The bytes of input that may wait for an answer, over all clients: if more wait, a
     /// client's input is read only up to the length of a head.
     pub most_waiting: usize,
 }

@@ -2,7 +2,7 @@
 ghost use Rattle.std.specs.Prelude.{◌≡◌, ◌≤◌, ◌+◌, ◌↔◌, ◌≢◌, [], true, length, map, IsOk, IsErrOf};
 ghost use Rattle.std.specs.Prelude.{IfErr};
 ghost use Rattle.streetmap_connections.specs.Over.{IsDrained};
-ghost use Rattle.streetmap_connections.specs.Serving.{Serves};
+ghost use Rattle.streetmap_connections.specs.Services.{Serves};
 ghost use Rattle.streetmap_connections.specs.Served.{all_refusals, clients_of, ended_of, slots_of};
 ghost use Rattle.streetmap_connections.specs.Served.{LetsInUpTo};
 ghost use Rattle.streetmap_connections.specs.Slots.{exchanges_in, histories_in, GivesWayAt};
@@ -162,7 +162,7 @@ impl Acceptor {
         Ok(())
     }
 
-    /// Lets in the clients that wait, as far as there are places, and up to that number in all.
+    /// Lets in the clients that wait, as long as places are free, and up to that number in all.
     fn let_in(
         &mut self,
         count: u64,
@@ -307,14 +307,14 @@ impl Acceptor {
 }
 
 /// Serves clients of a listener, many at once, until `count` of those let in have ended. A client
-/// that fails or is late ends alone. If there is no memory for the input of a client, the service
+/// that fails or is late ends alone. If memory for the input of a client runs out, the service
 /// refuses it, and its connection closes after that answer.
 ///
 /// Afterwards a call of `accept` on the listener does not block.
 ///
 /// # Errors
 ///
-/// `Net` if no client can be accepted while there is none, or the wait for the sockets fails, and
+/// `Net` if no client can be accepted while none is served, or the wait for the sockets fails, and
 /// `Memory` if memory runs out for that wait. `Over` after the service is over and the answers that
 /// had begun were sent, or a client took longer than its patience for that.
 pub fn serve_connections<R: Net + Clock, V: Service>(

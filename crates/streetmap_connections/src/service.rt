@@ -40,7 +40,7 @@ impl Answer {
 pub enum Cut {
     /// This number of bytes is a request.
     Whole(usize),
-    /// No prefix of the bytes is a whole request, whatever follows them, until there are this many.
+    /// No prefix of the bytes is a whole request, whatever follows them, until this many are held.
     Waits(usize),
 }
 
@@ -74,7 +74,7 @@ pub trait Service {
         requires { is_request request.now }
         ensures { answers self.old request.now (answer_text result.0) result.1 self.new };
 
-    /// Refuses a request for which there is no memory. The connection closes after the answer,
+    /// Refuses a request for which memory ran out. The connection closes after the answer,
     /// which must allocate no memory itself.
     fn refuse(&self, input: &[u8]) -> Answer
         ensures { refuses input.now (answer_text result) };

@@ -22,7 +22,7 @@ impl<S: Stream + Drop> Slot<S> {
     ghost use Rattle.streetmap_connections.specs.Slots.{clients_in, past_of, present, refusals_in};
     ghost use Rattle.streetmap_connections.specs.Slots.{client_history, woken_in};
     ghost use Rattle.streetmap_connections.specs.Slots.{GivesWay, IdlesFor, IsTaken};
-    ghost use Rattle.streetmap_connections.specs.Serving.{TakesTurn};
+    ghost use Rattle.streetmap_connections.specs.Services.{TakesTurn};
 
     pub(crate) fn vacant() -> Slot<S>
         ensures none { clients_in result ≡ [] }
@@ -59,7 +59,7 @@ impl<S: Stream + Drop> Slot<S> {
         if self.is_free() { 0 } else { 1 }
     }
 
-    /// The milliseconds for which the client has been idle; 0 if it is not, or if there is no
+    /// The milliseconds for which the client has been idle; 0 if it is not, or if the slot has no
     /// client.
     pub(crate) fn idle_for(&self, now: u64) -> u64
         ensures gives_way { 0 < result → GivesWay self.now }
@@ -93,7 +93,7 @@ impl<S: Stream + Drop> Slot<S> {
         }
     }
 
-    /// Ends the client, if there is one.
+    /// Ends the client, if any.
     pub(crate) fn end(&mut self, now: u64)
         ensures same { clients_in self.new ≡ clients_in self.old }
         ensures past { past_of self.new ≡ past_of self.old ++ present self.old.client }
@@ -105,7 +105,7 @@ impl<S: Stream + Drop> Slot<S> {
         self.client = None;
     }
 
-    /// Lets a client in, and ends the client at this place, if there is one.
+    /// Lets a client in, and ends the client at this place, if any.
     pub(crate) fn let_in(&mut self, client: Client<S>, now: u64)
         ensures one_more { clients_in self.new ≡ clients_in self.old ++ client ∷ [] }
         ensures past { past_of self.new ≡ past_of self.old ++ present self.old.client }

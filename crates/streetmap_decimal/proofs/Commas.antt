@@ -14,19 +14,19 @@ never_empty m e h =
 empty_text : (text : List ℕ) (m e : ℤ) → text ≡ [] → Means text m e → ⊥
 empty_text text m e none h = never_empty m e (subst (λ (t : List ℕ). Means t m e) none h)
 
-empty_behind : (text : List ℕ) → position_or_len is_comma text ≡ length text
+empty_after : (text : List ℕ) → position_or_len is_comma text ≡ length text
     → length (after_first is_comma text) ≡ 0
-empty_behind text e = omega (arith, length-drop (position_or_len is_comma text + 1) text)
+empty_after text e = omega (arith, length-drop (position_or_len is_comma text + 1) text)
 
 nothing : (text : List ℕ) → length text ≡ 0 → text ≡ []
 nothing [] e = refl
 nothing (b ∷ bs) e = absurd (omega (arith, e))
 
--- without a comma there is no shift
+-- a text without a comma is no shift
 pub no_comma : (text : List ℕ) (x y : ℤ) → position_or_len is_comma text ≡ length text
     → IsShift text x y → ⊥
 no_comma text x y e h =
-    empty_text (after_first is_comma text) h.1.0.0.0 h.1.0.0.1 (nothing _ (empty_behind text e))
+    empty_text (after_first is_comma text) h.1.0.0.0 h.1.0.0.1 (nothing _ (empty_after text e))
     h.1.0.1.0.1
 
 pub comma_within : (text : List ℕ) → position_or_len is_comma text ≤ length text
@@ -37,9 +37,9 @@ pub before_comma : (text : List ℕ) (n : ℕ) → n ≡ position_or_len is_comm
     → take n text ≡ before_first is_comma text
 before_comma text n e = ap (λ (k : ℕ). take k text) e
 
-pub behind_comma : (text : List ℕ) (n : ℕ) → n ≡ position_or_len is_comma text
+pub after_comma : (text : List ℕ) (n : ℕ) → n ≡ position_or_len is_comma text
     → take (length text - (n + 1)) (drop (n + 1) text) ≡ after_first is_comma text
-behind_comma text n e =
+after_comma text n e =
     take_all (length text - (n + 1)) (drop (n + 1) text) (omega (arith, length-drop (n + 1) text))
     ∙ ap (λ (k : ℕ). drop (k + 1) text) e
 

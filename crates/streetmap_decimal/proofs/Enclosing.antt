@@ -36,7 +36,7 @@ pub large_down : (n : ℕ) (k : ℤ) (u : ℕ) → int_le (pos 0) k ≡ false �
 large_down n (pos k) u down low large = absurd (never k down)
 large_down n (negsuc k) u down low large = (u, (low, large))
 
--- the two are the same, or follow one another
+-- the two are the same, or consecutive
 pub sides_near : (n : ℕ) (k : ℤ) (u v : ℕ) → IsFloor n k u → IsCeiling n k v → v ≤ u + 1
 sides_near n (pos k) u v low high = omega (arith, low, high)
 sides_near n (negsuc k) u v low high =

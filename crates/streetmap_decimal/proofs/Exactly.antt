@@ -125,8 +125,8 @@ whole_exactly shift scale m e g u count near =
     let same : shift ≡ shift *ℤ pos 1 = omega (arith, ints) in
     (0, (u, (count, subst (λ (t : ℤ). IsNearestOf (10 ^ 27) ((u -ℤ t) *ℤ scale) g) same near)))
 
-behind : (m e : ℤ) (j : ℕ) → e +ℤ pos 18 ≡ negsuc j → IsCount (18 + suc j) m e m
-behind m e j h =
+following : (m e : ℤ) (j : ℕ) → e +ℤ pos 18 ≡ negsuc j → IsCount (18 + suc j) m e m
+following m e j h =
     let none : pos 0 ≡ e +ℤ pos (18 + suc j) = omega (arith, ints, h) in
     subst (λ (k : ℤ). IsShifted m k m) none (omega (arith, ints))
 
@@ -143,7 +143,7 @@ by_power b shift scale m e g (negsuc j) u v up s is low high h i = (
   (
     m,
     (
-      behind m e j is,
+      following m e j is,
       enclosed b shift scale m g (10 ^ suc j) u v (pow_some (suc j)) up
           s low.0 high.0 h i,
     ),

@@ -98,7 +98,7 @@ finer_far shift scale m p y z some up low high h i near =
     (far_scaled (10 ^ 27) p a h) (far_scaled (10 ^ 27) p b i)
     (omega (arith, apart, close, some))
 
--- two counts that follow one another are placed less far apart than that
+-- two consecutive counts are placed less far apart than that
 gap : (b : Bool) (shift scale : ℤ) (u v : ℕ) → u ≤ v → v ≤ u + 1 → unsigned_abs scale < 10 ^ 36
     → unsigned_abs (placed shift scale (signed b u) -ℤ placed shift scale (signed b v)) < 10 ^ 36
 gap b shift scale u v low high small =

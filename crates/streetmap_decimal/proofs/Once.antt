@@ -1,4 +1,4 @@
--- No two answers.
+-- At most one result.
 use Rattle.std.proofs.Common.{◌≡◌, ℕ, suc, ◌^◌, ◌≤◌, List, ℤ, pos, negsuc, ◌+ℤ◌, ◌*ℤ◌, ◌≤ℤ◌, Result, Ok, Err, refl, sym, ap, subst, ◌∙◌, arith}
 use Rattle.std.specs.Prelude.{int_lt, unsigned_abs, ◌+◌, ◌-◌, ◌*◌, ◌<◌, Some, None}
 use Rattle.std.proofs.lemmas.Int.{ints}
@@ -10,7 +10,7 @@ use Rattle.streetmap_decimal.specs.declared.rounding.Rounding.{Rounding}
 use Rattle.streetmap_decimal.specs.declared.rounding.Rounding.TheVariants.{Exact, Nearest}
 use Rattle.streetmap_decimal.specs.NumberText.{Means, mantissa, exponent}
 use Rattle.streetmap_decimal.specs.Decimal.{ReadsDecimal, ReadsCount, IsShifted, Counts, IsFloor, IsCeiling, Sides, Encloses, with_sign_of}
-use Rattle.streetmap_decimal.specs.Grid.{IsNearest, IsWholeNumber, RoundsTo, Stands, Agrees, Places, PlacesText, placed}
+use Rattle.streetmap_decimal.specs.Grid.{IsNearest, IsWholeNumber, RoundsTo, IsExactCoordinate, Agrees, Places, PlacesText, placed}
 use Rattle.streetmap_decimal.proofs.Grammar.{components_again}
 use Rattle.streetmap_decimal.proofs.Powers.{pow_some, between_multiples}
 use Rattle.streetmap_decimal.proofs.Signs.{sign_of, signed-mul}
@@ -86,26 +86,26 @@ counts_once places m e (Err OutOfGrid) (Err Fraction) h k = absurd k
 counts_once places m e (Err NotANumber) s h k = absurd h
 counts_once places m e (Err Fraction) s h k = absurd h
 
-stands_once : (z : ℤ) (r s : Result ℤ DecimalFault) → Stands z r → Stands z s → r ≡ s
-stands_once z (Ok g) (Ok h) i j = ap Ok (nearest_once z g h i.0.0 j.0.0)
-stands_once z (Ok g) (Err OutOfGrid) i j = absurd (not_beyond z g i.0 j)
-stands_once z (Ok g) (Err Fraction) i j =
+coordinate_once : (z : ℤ) (r s : Result ℤ DecimalFault) → IsExactCoordinate z r → IsExactCoordinate z s → r ≡ s
+coordinate_once z (Ok g) (Ok h) i j = ap Ok (nearest_once z g h i.0.0 j.0.0)
+coordinate_once z (Ok g) (Err OutOfGrid) i j = absurd (not_beyond z g i.0 j)
+coordinate_once z (Ok g) (Err Fraction) i j =
     absurd (j.1.1 (subst (IsWholeNumber z) (nearest_once z g j.0 i.0.0 j.1.0.0) i.1))
-stands_once z (Ok g) (Err NotANumber) i j = absurd j
-stands_once z (Ok g) (Err TooManyDigits) i j = absurd j
-stands_once z (Err OutOfGrid) (Ok h) i j = absurd (not_beyond z h j.0 i)
-stands_once z (Err OutOfGrid) (Err OutOfGrid) i j = refl
-stands_once z (Err OutOfGrid) (Err Fraction) i j = absurd (not_beyond z j.0 j.1.0 i)
-stands_once z (Err OutOfGrid) (Err NotANumber) i j = absurd j
-stands_once z (Err OutOfGrid) (Err TooManyDigits) i j = absurd j
-stands_once z (Err Fraction) (Ok h) i j =
+coordinate_once z (Ok g) (Err NotANumber) i j = absurd j
+coordinate_once z (Ok g) (Err TooManyDigits) i j = absurd j
+coordinate_once z (Err OutOfGrid) (Ok h) i j = absurd (not_beyond z h j.0 i)
+coordinate_once z (Err OutOfGrid) (Err OutOfGrid) i j = refl
+coordinate_once z (Err OutOfGrid) (Err Fraction) i j = absurd (not_beyond z j.0 j.1.0 i)
+coordinate_once z (Err OutOfGrid) (Err NotANumber) i j = absurd j
+coordinate_once z (Err OutOfGrid) (Err TooManyDigits) i j = absurd j
+coordinate_once z (Err Fraction) (Ok h) i j =
     absurd (i.1.1 (subst (IsWholeNumber z) (nearest_once z h i.0 j.0.0 i.1.0.0) j.1))
-stands_once z (Err Fraction) (Err OutOfGrid) i j = absurd (not_beyond z i.0 i.1.0 j)
-stands_once z (Err Fraction) (Err Fraction) i j = refl
-stands_once z (Err Fraction) (Err NotANumber) i j = absurd j
-stands_once z (Err Fraction) (Err TooManyDigits) i j = absurd j
-stands_once z (Err NotANumber) s i j = absurd i
-stands_once z (Err TooManyDigits) s i j = absurd i
+coordinate_once z (Err Fraction) (Err OutOfGrid) i j = absurd (not_beyond z i.0 i.1.0 j)
+coordinate_once z (Err Fraction) (Err Fraction) i j = refl
+coordinate_once z (Err Fraction) (Err NotANumber) i j = absurd j
+coordinate_once z (Err Fraction) (Err TooManyDigits) i j = absurd j
+coordinate_once z (Err NotANumber) s i j = absurd i
+coordinate_once z (Err TooManyDigits) s i j = absurd i
 
 agrees_once : (y z : ℤ) (r s : Result ℤ DecimalFault) → Agrees y z r → Agrees y z s → r ≡ s
 agrees_once y z (Ok g) (Ok h) i j = ap Ok (nearest_once y g h i.0.0 j.0.0)
@@ -214,8 +214,8 @@ encloses_once places m e (Err f) (Err g) h i =
 places_once : (shift scale : ℤ) (rounding : Rounding) (m e : ℤ) (r s : Result ℤ DecimalFault)
     → Places shift scale rounding m e r → Places shift scale rounding m e s → r ≡ s
 places_once shift scale Exact m e =
-    then_once (Counts 18 m e) (λ u. Stands (placed shift scale u)) (counts_once 18 m e)
-    (λ u. stands_once (placed shift scale u))
+    then_once (Counts 18 m e) (λ u. IsExactCoordinate (placed shift scale u)) (counts_once 18 m e)
+    (λ u. coordinate_once (placed shift scale u))
 places_once shift scale Nearest m e =
     then_once (Encloses 18 m e) (λ s. Agrees (placed shift scale s.0) (placed shift scale s.1))
     (encloses_once 18 m e)

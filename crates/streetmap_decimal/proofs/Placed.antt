@@ -11,10 +11,10 @@ use Rattle.streetmap_decimal.specs.declared.fault.DecimalFault.TheVariants.{TooM
 use Rattle.streetmap_decimal.specs.declared.rounding.Rounding.{Rounding}
 use Rattle.streetmap_decimal.specs.declared.rounding.Rounding.TheVariants.{Exact, Nearest}
 use Rattle.streetmap_decimal.specs.NumberText.{NumberComponents}
-use Rattle.streetmap_decimal.specs.Reading.{components_of}
+use Rattle.streetmap_decimal.specs.NumberParts.{components_of}
 use Rattle.streetmap_decimal.specs.Decimal.{Then, ReadsDecimal, Shifts, Counts, Sides, Encloses, with_sign_of}
-use Rattle.streetmap_decimal.specs.Grid.{IsWholeNumber, RoundsTo, Stands, Agrees, Places, PlacesText, placed}
-use Rattle.streetmap_decimal.specs.Placing.{◌>>=◌, decimal_of, read_decimal, limited, shifted, count_of, ceiling, sides_of, counts_around, nearest_of, coordinate_at, whole_coordinate, agreed, placed_decimal, placed_text}
+use Rattle.streetmap_decimal.specs.Grid.{IsWholeNumber, RoundsTo, IsExactCoordinate, Agrees, Places, PlacesText, placed}
+use Rattle.streetmap_decimal.specs.Placements.{◌>>=◌, decimal_of, read_decimal, limited, shifted, count_of, ceiling, sides_of, counts_around, nearest_of, coordinate_at, whole_coordinate, agreed, placed_decimal, placed_text}
 use Rattle.streetmap_decimal.proofs.Grammar.{components_take, components_again}
 use Rattle.streetmap_decimal.proofs.Powers.{pow_some, whole_quotient, multiple_mod, floor_of, whole_ceiling, rest_ceiling}
 use Rattle.streetmap_decimal.proofs.Signs.{sign_of}
@@ -23,7 +23,7 @@ use Rattle.streetmap_decimal.proofs.NearestFacts.{nearest_is, in_grid, out_of_gr
 use Rattle.streetmap_decimal.proofs.Rounded.{nearest_once, agrees_ok, agrees_err, equal_options, same_options}
 use Rattle.streetmap_decimal.proofs.Steps.{then_next}
 
--- the next step, where each gives its own
+-- two steps, if each satisfies its own relation
 then_is : {A B : Type 0} (First : Result A DecimalFault → Type 0)
     (Next : A → Result B DecimalFault → Type 0) (r : Result A DecimalFault)
     (next : A → Result B DecimalFault) → First r → ((a : A) → Next a (next a))
@@ -147,13 +147,13 @@ rounds_by z false e =
 rounds_is : (z : ℤ) → RoundsTo z (coordinate_at z)
 rounds_is z = rounds_by z (nat_le (nearest_of (unsigned_abs z)) 1_000_000_000) refl
 
-stands_by : (z g : ℤ) (b : Bool) → RoundsTo z (Some g) → ((unsigned_abs z % 10 ^ 27) == 0) ≡ b
-    → Stands z (if b then Ok g else Err Fraction)
-stands_by z g true h e =
+coordinate_by : (z g : ℤ) (b : Bool) → RoundsTo z (Some g) → ((unsigned_abs z % 10 ^ 27) == 0) ≡ b
+    → IsExactCoordinate z (if b then Ok g else Err Fraction)
+coordinate_by z g true h e =
     let rest : unsigned_abs z % 10 ^ 27 ≡ 0 = grind (arith, nat_tests) in
     let same = nearest_once z (with_sign_of z (nearest_of (unsigned_abs z))) g (nearest_is z) h.0 in
     (h, subst (IsWholeNumber z) same (whole_is z rest))
-stands_by z g false h e = (
+coordinate_by z g false h e = (
   g,
   (
     h,
@@ -162,13 +162,13 @@ stands_by z g false h e = (
   ),
 )
 
-stands_of : (z : ℤ) (o : Option ℤ) → RoundsTo z o
-    → Stands z (whole_coordinate (unsigned_abs z % 10 ^ 27) o)
-stands_of z None h = h
-stands_of z (Some g) h = stands_by z g ((unsigned_abs z % 10 ^ 27) == 0) h refl
+coordinate_of : (z : ℤ) (o : Option ℤ) → RoundsTo z o
+    → IsExactCoordinate z (whole_coordinate (unsigned_abs z % 10 ^ 27) o)
+coordinate_of z None h = h
+coordinate_of z (Some g) h = coordinate_by z g ((unsigned_abs z % 10 ^ 27) == 0) h refl
 
-stands_is : (z : ℤ) → Stands z (whole_coordinate (unsigned_abs z % 10 ^ 27) (coordinate_at z))
-stands_is z = stands_of z (coordinate_at z) (rounds_is z)
+coordinate_is : (z : ℤ) → IsExactCoordinate z (whole_coordinate (unsigned_abs z % 10 ^ 27) (coordinate_at z))
+coordinate_is z = coordinate_of z (coordinate_at z) (rounds_is z)
 
 agrees_by : (y z : ℤ) (near far : Option ℤ) (b : Bool) → RoundsTo y near → RoundsTo z far
     → option_eq int_eq far near ≡ b
@@ -190,10 +190,10 @@ agrees_is y z =
 places_is : (shift scale : ℤ) (rounding : Rounding) (m e : ℤ)
     → Places shift scale rounding m e (placed_decimal shift scale rounding m e)
 places_is shift scale Exact m e =
-    then_is (Counts 18 m e) (λ u. Stands (placed shift scale u)) (count_of 18 m e)
+    then_is (Counts 18 m e) (λ u. IsExactCoordinate (placed shift scale u)) (count_of 18 m e)
     (λ u. whole_coordinate (unsigned_abs (placed shift scale u) % 10 ^ 27)
     (coordinate_at (placed shift scale u))) (counts_is 18 m e)
-    (λ u. stands_is (placed shift scale u))
+    (λ u. coordinate_is (placed shift scale u))
 places_is shift scale Nearest m e =
     then_is (Encloses 18 m e) (λ s. Agrees (placed shift scale s.0) (placed shift scale s.1))
     (counts_around 18 m e)

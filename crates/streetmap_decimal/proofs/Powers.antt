@@ -13,12 +13,12 @@ pow_rises i j h = pow-le-pow_right {n = 10} (lit< tt) {i = i} {j = j} h
 pub pow_fits : (k : ℕ) → k < 38 → 10 ^ k < 2 ^ 128
 pow_fits k h = omega (arith, pow_rises k 37 (omega arith))
 
--- one or more, times so large a power, is no smaller than the limit
+-- one or more, times a power no smaller than the limit, is no smaller than the limit
 pub times_large : (n k j : ℕ) → 1 ≤ n → j ≤ k → 10 ^ j ≤ n * 10 ^ k
 times_large n k j some h =
     omega (arith, pow_rises j k h, mul-le-mul_right {m = 1} {n = n} (10 ^ k) some)
 
--- a smaller number than the power is no multiple of it, unless it is zero
+-- a number below the power is no multiple of it, unless it is zero
 pub no_multiple : (n k m : ℕ) → 1 ≤ n → n < 10 ^ k → n ≢ m * 10 ^ k
 no_multiple n k zero some small e = omega arith
 no_multiple n k (suc m) some small e = omega
@@ -39,7 +39,7 @@ one_more v b i c h small =
     rw (add-one, pow-suc) (sym (mul_assoc b (10 ^ i) 10)) in
     omega (arith, e)
 
--- a number between two multiples that follow one another is below the second
+-- a number between two consecutive multiples is below the second
 pub between_multiples : (u v n p : ℕ) → u * p ≤ n → n < (v + 1) * p → u ≤ v
 between_multiples u v n p low high =
     elim (cases_lt v u) [

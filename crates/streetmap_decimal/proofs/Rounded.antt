@@ -21,13 +21,13 @@ rounds_once z (Some g) None i j = absurd (not_beyond z g i j)
 rounds_once z None (Some h) i j = absurd (not_beyond z h j i)
 rounds_once z None None i j = refl
 
--- both sides come to the same
+-- both sides give the same
 pub agrees_ok : (y z : ℤ) (o : Option ℤ) → RoundsTo y o → RoundsTo z o
     → Agrees y z (ok_or o OutOfGrid)
 agrees_ok y z (Some g) h i = (h, i)
 agrees_ok y z None h i = (h, i)
 
--- or do not
+-- both sides give different results
 pub agrees_err : (y z : ℤ) (a b : Option ℤ) → RoundsTo y a → RoundsTo z b → (b ≡ a → ⊥)
     → Agrees y z (Err TooManyDigits)
 agrees_err y z a b h i differ = λ o j k. differ (rounds_once z b o i k ∙ rounds_once y o a j h)

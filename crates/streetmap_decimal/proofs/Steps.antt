@@ -1,4 +1,4 @@
--- Steps, the one after the other.
+-- Steps, one after the other.
 use Rattle.std.proofs.Common.{◌≡◌, inl, inr, Result, Ok, Err, ap, subst}
 use Rattle.streetmap_decimal.specs.declared.fault.DecimalFault.{DecimalFault}
 use Rattle.streetmap_decimal.specs.Decimal.{Then}

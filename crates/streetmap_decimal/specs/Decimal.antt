@@ -99,7 +99,7 @@ Sides n k (Err TooManyDigits) = ⊥
 Sides n k (Err NotANumber) = ⊥
 Sides n k (Err Fraction) = ⊥
 
--- u, or u below zero if m is
+-- u, or -u if m is below zero
 abbrev pub with_sign_of : ℤ → ℕ → ℤ
 with_sign_of m u = signed (int_lt m (pos 0)) u
 

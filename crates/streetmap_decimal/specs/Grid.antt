@@ -43,12 +43,12 @@ RoundsTo z (Some g) = IsNearest z g × IsCoordinate g
 RoundsTo z None = IsBeyond z
 
 -- z, counted in 10 ^ -27, is this coordinate, without a rest
-abbrev pub Stands : ℤ → Result ℤ DecimalFault → Type 0
-Stands z (Ok g) = RoundsTo z (Some g) × IsWholeNumber z g
-Stands z (Err OutOfGrid) = IsBeyond z
-Stands z (Err Fraction) = (g : ℤ) × (RoundsTo z (Some g) × (IsWholeNumber z g → ⊥))
-Stands z (Err NotANumber) = ⊥
-Stands z (Err TooManyDigits) = ⊥
+abbrev pub IsExactCoordinate : ℤ → Result ℤ DecimalFault → Type 0
+IsExactCoordinate z (Ok g) = RoundsTo z (Some g) × IsWholeNumber z g
+IsExactCoordinate z (Err OutOfGrid) = IsBeyond z
+IsExactCoordinate z (Err Fraction) = (g : ℤ) × (RoundsTo z (Some g) × (IsWholeNumber z g → ⊥))
+IsExactCoordinate z (Err NotANumber) = ⊥
+IsExactCoordinate z (Err TooManyDigits) = ⊥
 
 -- the coordinate that the numbers on both sides give
 abbrev pub Agrees : (y z : ℤ) → Result ℤ DecimalFault → Type 0
@@ -62,7 +62,7 @@ Agrees y z (Err Fraction) = ⊥
 -- it must give the same one
 abbrev pub Places : (shift scale : ℤ) → Rounding → (m e : ℤ) → Result ℤ DecimalFault → Type 0
 Places shift scale Exact m e =
-    Then (Counts coordinate_places m e) (λ u. Stands (placed shift scale u))
+    Then (Counts coordinate_places m e) (λ u. IsExactCoordinate (placed shift scale u))
 Places shift scale Nearest m e =
     Then (Encloses coordinate_places m e)
     (λ s. Agrees (placed shift scale s.0) (placed shift scale s.1))

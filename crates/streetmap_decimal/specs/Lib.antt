@@ -1,5 +1,5 @@
 pub mod NumberText
-pub mod Reading
+pub mod NumberParts
 pub mod Views
 pub mod Readable
 pub mod Decimal
@@ -8,5 +8,5 @@ pub mod Options
 pub mod Axes
 pub mod Grid
 pub mod Nearest
-pub mod Placing
+pub mod Placements
 pub mod Faults

@@ -11,7 +11,7 @@ ghost use Rattle.streetmap_decimal.specs.NumberText.{signed};
 /// least 10^-9.
 pub(crate) const COUNT_LIMIT: u128 = 10_000_000_000_000_000_000_000_000_000_000_000_000;
 
-/// A number, or that number below zero.
+/// A number, or its negation.
 pub(crate) fn signed(is_negative: bool, magnitude: u128) -> i128
     requires { magnitude < 2 ^ 127 }
     ensures { result ≡ signed is_negative magnitude }

@@ -33,7 +33,7 @@ impl Decimal {
     ghost use Rattle.streetmap_decimal.specs.Readable.{IsReadable};
     ghost use Rattle.streetmap_decimal.specs.Views.{components_view};
 
-    /// The number of a text (RFC 8259, section 6), as `-500000.125` or `1.5e3`.
+    /// The number of a text (RFC 8259, section 6), such as `-500000.125` or `1.5e3`.
     ///
     /// # Errors
     ///

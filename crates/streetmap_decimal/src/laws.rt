@@ -5,7 +5,7 @@ ghost use Rattle.streetmap_grid.specs.Range.{IsCoordinate};
 ghost use Rattle.streetmap_decimal.specs.NumberText.{Means};
 ghost use Rattle.streetmap_decimal.specs.Grid.{IsNearest, Places, PlacesText};
 ghost use Rattle.streetmap_decimal.specs.Nearest.{IsNearestToText, IsOffGrid};
-ghost use Rattle.streetmap_decimal.specs.Placing.{placed_text};
+ghost use Rattle.streetmap_decimal.specs.Placements.{placed_text};
 ghost use Rattle.streetmap_decimal.specs.declared.fault.DecimalFault.{DecimalFault};
 ghost use Rattle.streetmap_decimal.specs.declared.fault.DecimalFault.TheVariants.{OutOfGrid};
 ghost use Rattle.streetmap_decimal.specs.declared.rounding.Rounding.{Rounding};

@@ -1,7 +1,7 @@
 //! From a map's coordinates to the whole numbers of the grid.
 ghost use Rattle.std.specs.Prelude.{◌≡◌, ◌<◌, ◌≤◌, ◌^◌, IfOk, IfSome, IfNone, pos, ◌<ℤ◌, Err};
 ghost use Rattle.std.specs.Prelude.{unsigned_abs};
-ghost use Rattle.streetmap_decimal.specs.Grid.{placed, RoundsTo, Stands};
+ghost use Rattle.streetmap_decimal.specs.Grid.{placed, RoundsTo, IsExactCoordinate};
 
 use crate::arithmetic::signed;
 use crate::axis::Axis;
@@ -99,7 +99,7 @@ impl AxisPlacement {
         match rounding {
             Rounding::Exact => {
                 let count = coordinate.count(COORDINATE_PLACES)?;
-                self.standing(count)
+                self.exact_coordinate(count)
             }
             Rounding::Nearest => {
                 let (near, far) = coordinate.enclosing(COORDINATE_PLACES)?;
@@ -109,9 +109,9 @@ impl AxisPlacement {
     }
 
     // The number of the grid of a count that must give a whole number.
-    fn standing(&self, count: i128) -> Result<i64, DecimalFault>
+    fn exact_coordinate(&self, count: i128) -> Result<i64, DecimalFault>
         requires { unsigned_abs count ≤ 10 ^ 37 }
-        ensures { Stands (placed self.now.shift self.now.scale count) result }
+        ensures { IsExactCoordinate (placed self.now.shift self.now.scale count) result }
     {
         match self.placed(count) {
             Some(placed) => whole_number(placed),
@@ -168,7 +168,7 @@ fn nearest_coordinate(placed: i128) -> Option<i64>
 
 /// The coordinate that a count of 10^-27 is.
 fn whole_number(placed: i128) -> Result<i64, DecimalFault>
-    ensures { Stands placed result }
+    ensures { IsExactCoordinate placed result }
 {
     match nearest_coordinate(placed) {
         None => Err(DecimalFault::OutOfGrid),

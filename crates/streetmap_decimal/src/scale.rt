@@ -33,7 +33,7 @@ impl Scale {
         Scale { count: ONE }
     }
 
-    /// The scale that a text is, as `1000` for a map in metres and `304.8` for one in feet.
+    /// The scale of a text, such as `1000` for a map in metres and `304.8` for one in feet.
     ///
     /// # Errors
     ///

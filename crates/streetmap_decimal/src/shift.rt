@@ -32,7 +32,7 @@ impl Shift {
         }
     }
 
-    /// The shift that a text is: an easting and a northing with a comma between them, as
+    /// The shift of a text: an easting and a northing with a comma between them, such as
     /// `412000,5811000.5`.
     ///
     /// # Errors

@@ -21,7 +21,7 @@ use Rattle.streetmap_replay.proofs.CallsInTurn.{then_lost}
 use Rattle.streetmap_ledger.specs.State.{State, Collection}
 use Rattle.streetmap_ledger.specs.WellFormed.{IsState}
 use Rattle.streetmap_ledger.specs.Pages.{PageValue, selected, page_over, page_in}
-use Rattle.streetmap_ledger.specs.Walks.{page_behind, IsWalk, ends, goes_on, shown}
+use Rattle.streetmap_ledger.specs.Walks.{page_after, IsWalk, ends, goes_on, shown}
 use Rattle.streetmap_ledger.proofs.Walking.{walks_show_all}
 use Rattle.streetmap_ledger.specs.declared.reply.Fault.TheVariants.{Memory, Device, Damaged, Reopen}
 use Rattle.streetmap_exchange.specs.declared.fault.ExportFault.{ExportFault}
@@ -32,8 +32,8 @@ use Rattle.streetmap_exchange.specs.Exports.{export_text, features_in, WritesAll
 use Rattle.streetmap_exchange.specs.Exports.{WritesLess, WritesSomeIf, Exports, ShowsPart}
 use Rattle.streetmap_exchange.specs.Exports.{part_query, part_text}
 use Rattle.streetmap_text_lines.specs.Written.{AppendsBeginning, AppendsLess}
-use Rattle.streetmap_text_lines.proofs.WriteLemmas.{beginning_longer, beginning_behind}
-use Rattle.streetmap_text_lines.proofs.WriteLemmas.{beginning_all, less_longer, less_behind}
+use Rattle.streetmap_text_lines.proofs.WriteLemmas.{beginning_longer, beginning_after}
+use Rattle.streetmap_text_lines.proofs.WriteLemmas.{beginning_all, less_longer, less_after}
 use Rattle.streetmap_text_lines.proofs.WriteLemmas.{less_none}
 
 -- ---- the text in parts
@@ -44,7 +44,7 @@ opening = codes "{\"features\":["
 abbrev pub closing : List ℕ
 closing = codes "],\"type\":\"FeatureCollection\"}\n"
 
--- whether features stand before
+-- whether features come before
 abbrev pub is_any : List FeatureValue → Bool
 is_any [] = false
 is_any (f ∷ fs) = true
@@ -72,7 +72,7 @@ or_true : (b : Bool) → (b || true) ≡ true
 or_true true = refl
 or_true false = refl
 
--- features behind features
+-- features after features
 part_text-append : (later : Bool) (fs gs : List FeatureValue) → part_text later (fs ++ gs) ≡ part_text later fs ++ part_text (later || is_any fs) gs
 part_text-append later [] gs = ap (λ b. part_text b gs) (sym (or_false later))
 part_text-append later (f ∷ fs) gs =
@@ -92,7 +92,7 @@ is_any-append (f ∷ fs) gs = refl
 abbrev all : QueryValue
 all = part_query None
 
--- all features are asked
+-- the query selects all features
 all_selected : (fs : List FeatureValue) → selected all fs ≡ fs
 all_selected [] = refl
 all_selected (f ∷ fs) = ap (λ gs. f ∷ gs) (all_selected fs)
@@ -106,14 +106,14 @@ pub record Underway (s : State) (name : Text) (old new : Option (List ℕ)) (lat
   pub pages : List PageValue
   pub walk : IsWalk all (values collection.features) after pages
   pub whole : front ++ shown pages ≡ values collection.features
-  pub here : page ≡ page_behind all (values collection.features) after
-  pub behind : later ≡ is_any front
+  pub here : page ≡ page_after all (values collection.features) after
+  pub following : later ≡ is_any front
   pub written : Appends old new (opening ++ part_text false front)
 
 -- the collection of a page
-collection_of : (s : State) (name : Text) (after : Option Text) (page : PageValue) → page_in s name (part_query after) ≡ Some page → (c : Collection) × (get s.collections name ≡ Some c) × (page ≡ page_behind all (values c.features) after)
+collection_of : (s : State) (name : Text) (after : Option Text) (page : PageValue) → page_in s name (part_query after) ≡ Some page → (c : Collection) × (get s.collections name ≡ Some c) × (page ≡ page_after all (values c.features) after)
 collection_of s name after page h = by (get s.collections name) refl h where
-  by : (o : Option Collection) → get s.collections name ≡ o → option_map (λ (c : Collection). page_over (part_query after) (values c.features)) o ≡ Some page → (c : Collection) × (get s.collections name ≡ Some c) × (page ≡ page_behind all (values c.features) after)
+  by : (o : Option Collection) → get s.collections name ≡ o → option_map (λ (c : Collection). page_over (part_query after) (values c.features)) o ≡ Some page → (c : Collection) × (get s.collections name ≡ Some c) × (page ≡ page_after all (values c.features) after)
   by None is e = absurd cc
   by (Some c) is e = let same : page ≡ page_over (part_query after) (values c.features) = cc in (c, is, same)
 
@@ -132,32 +132,32 @@ begins s name old new page sound h w =
       walk = walk.1;
       whole = (law.0 walk.0 walk.1).whole ∙ all_selected (values c.0.features);
       here = c.2;
-      behind = refl;
+      following = refl;
       written = subst (Appends old new) (sym (append-nil opening)) w;
     }
 
--- what is told of a walk at its page
+-- the rest of a walk after its first page
 record Turned (fs : List FeatureValue) (after : Option Text) (pages : List PageValue) (id : Text) : Type 0 where
   more : List PageValue
   walk : IsWalk all fs (Some id) more
-  shows : shown pages ≡ (page_behind all fs after).features ++ shown more
+  shows : shown pages ≡ (page_after all fs after).features ++ shown more
 
-turned : (fs : List FeatureValue) (after : Option Text) (pages : List PageValue) (id : Text) → IsWalk all fs after pages → (page_behind all fs after).next ≡ Some id → Turned fs after pages id
+turned : (fs : List FeatureValue) (after : Option Text) (pages : List PageValue) (id : Text) → IsWalk all fs after pages → (page_after all fs after).next ≡ Some id → Turned fs after pages id
 turned fs _ _ id (ends after none) h = absurd cc
-turned fs _ _ id (goes_on after told pages next walk) h =
-    let same : told ≡ id = cc in
+turned fs _ _ id (goes_on after reported pages next walk) h =
+    let same : reported ≡ id = cc in
     record { more = pages; walk = subst (λ i. IsWalk all fs (Some i) pages) same walk; shows = refl }
 
-last : (fs : List FeatureValue) (after : Option Text) (pages : List PageValue) → IsWalk all fs after pages → (page_behind all fs after).next ≡ None → shown pages ≡ (page_behind all fs after).features
+last : (fs : List FeatureValue) (after : Option Text) (pages : List PageValue) → IsWalk all fs after pages → (page_after all fs after).next ≡ None → shown pages ≡ (page_after all fs after).features
 last fs _ _ (ends after none) h = append-nil _
-last fs _ _ (goes_on after told pages next walk) h = absurd cc
+last fs _ _ (goes_on after reported pages next walk) h = absurd cc
 
 -- the page shows the first of what the walk shows
-front_of : (fs : List FeatureValue) (after : Option Text) (pages : List PageValue) → IsWalk all fs after pages → (more : List FeatureValue) × (shown pages ≡ (page_behind all fs after).features ++ more)
+front_of : (fs : List FeatureValue) (after : Option Text) (pages : List PageValue) → IsWalk all fs after pages → (more : List FeatureValue) × (shown pages ≡ (page_after all fs after).features ++ more)
 front_of fs _ _ (ends after none) = ([], refl)
-front_of fs _ _ (goes_on after told pages next walk) = (shown pages, refl)
+front_of fs _ _ (goes_on after reported pages next walk) = (shown pages, refl)
 
--- the text, where these features stand before others
+-- the text, split into the features in front, a part, and the rest
 text_split : (front part rest fs : List FeatureValue) → front ++ (part ++ rest) ≡ fs → export_text fs ≡ (opening ++ part_text false front) ++ (part_text (is_any front) part ++ (part_text (is_any front || is_any part) rest ++ closing))
 text_split front part rest fs whole =
     let b = is_any front in
@@ -178,15 +178,15 @@ pub goes_further : (s : State) (name : Text) (old a b : Option (List ℕ)) (late
     → page_in s name (part_query (Some id)) ≡ Some next → Appends a b (part_text later page.features) → Underway s name old b (later || is_any page.features) next
 goes_further s name old a b later page next id u more h w =
     let fs = values u.collection.features in
-    let told : (page_behind all fs u.after).next ≡ Some id = ap (λ (p : PageValue). p.next) (sym u.here) ∙ more in
-    let t = turned fs u.after u.pages id u.walk told in
+    let reported : (page_after all fs u.after).next ≡ Some id = ap (λ (p : PageValue). p.next) (sym u.here) ∙ more in
+    let t = turned fs u.after u.pages id u.walk reported in
     let shows : shown u.pages ≡ page.features ++ shown t.more = t.shows ∙ ap (λ (p : PageValue). p.features ++ shown t.more) (sym u.here) in
     let c = collection_of s name (Some id) next h in
     let same : c.0 ≡ u.collection = same_collection (get s.collections name) u.collection c.0 u.there c.1 in
     let front = u.front ++ page.features in
     let texts : (opening ++ part_text false u.front) ++ part_text later page.features ≡ opening ++ part_text false front =
     append_assoc opening (part_text false u.front) (part_text later page.features)
-    ∙ ap (λ l. opening ++ l) (ap (λ x. part_text false u.front ++ part_text x page.features) u.behind ∙ sym (part_text-append false u.front page.features)) in
+    ∙ ap (λ l. opening ++ l) (ap (λ x. part_text false u.front ++ part_text x page.features) u.following ∙ sym (part_text-append false u.front page.features)) in
     record {
       collection = u.collection;
       there = u.there;
@@ -195,15 +195,15 @@ goes_further s name old a b later page next id u more h w =
       pages = t.more;
       walk = t.walk;
       whole = append_assoc u.front page.features (shown t.more) ∙ ap (λ gs. u.front ++ gs) (sym shows) ∙ u.whole;
-      here = c.2 ∙ ap (λ (d : Collection). page_behind all (values d.features) (Some id)) same;
-      behind = ap (λ x. x || is_any page.features) u.behind ∙ sym (is_any-append u.front page.features);
+      here = c.2 ∙ ap (λ (d : Collection). page_after all (values d.features) (Some id)) same;
+      following = ap (λ x. x || is_any page.features) u.following ∙ sym (is_any-append u.front page.features);
       written = subst (Appends old b) texts (Appends-trans old a b (opening ++ part_text false u.front) (part_text later page.features) u.written w);
     }
 
--- what is left to be written behind the pages before this one
+-- what is left to write after the pages before this one
 record Left (s : State) (name : Text) (later : Bool) (page : PageValue) (before rest : List ℕ) : Type 0 where
   features : List FeatureValue
-  told : features_in s name ≡ Some features
+  reported : features_in s name ≡ Some features
   text : export_text features ≡ before ++ (part_text later page.features ++ rest)
   some : 0 < length rest
 
@@ -216,9 +216,9 @@ left_of s name old a later page u =
       rest,
       record {
         features = fs;
-        told = ap (option_map (λ (c : Collection). values c.features)) u.there;
+        reported = ap (option_map (λ (c : Collection). values c.features)) u.there;
         text = text_split u.front page.features m.0 fs (ap (λ gs. u.front ++ gs) (sym shows) ∙ u.whole)
-            ∙ ap (λ x. (opening ++ part_text false u.front) ++ (part_text x page.features ++ rest)) (sym u.behind);
+            ∙ ap (λ x. (opening ++ part_text false u.front) ++ (part_text x page.features ++ rest)) (sym u.following);
         some = omega (arith, length-append (part_text (is_any u.front || is_any page.features) m.0) closing);
       },
     )
@@ -227,13 +227,13 @@ left_of s name old a later page u =
 left_last : (s : State) (name : Text) (old a : Option (List ℕ)) (later : Bool) (page : PageValue) → (u : Underway s name old a later page) → page.next ≡ None → Left s name later page (opening ++ part_text false u.front) closing
 left_last s name old a later page u none =
     let fs = values u.collection.features in
-    let told : (page_behind all fs u.after).next ≡ None = ap (λ (p : PageValue). p.next) (sym u.here) ∙ none in
-    let shows : shown u.pages ≡ page.features ++ [] = last fs u.after u.pages u.walk told ∙ ap (λ (p : PageValue). p.features) (sym u.here) ∙ sym (append-nil page.features) in
+    let reported : (page_after all fs u.after).next ≡ None = ap (λ (p : PageValue). p.next) (sym u.here) ∙ none in
+    let shows : shown u.pages ≡ page.features ++ [] = last fs u.after u.pages u.walk reported ∙ ap (λ (p : PageValue). p.features) (sym u.here) ∙ sym (append-nil page.features) in
     record {
       features = fs;
-      told = ap (option_map (λ (c : Collection). values c.features)) u.there;
+      reported = ap (option_map (λ (c : Collection). values c.features)) u.there;
       text = text_split u.front page.features [] fs (ap (λ gs. u.front ++ gs) (sym shows) ∙ u.whole)
-          ∙ ap (λ x. (opening ++ part_text false u.front) ++ (part_text x page.features ++ closing)) (sym u.behind);
+          ∙ ap (λ x. (opening ++ part_text false u.front) ++ (part_text x page.features ++ closing)) (sym u.following);
       some = omega arith;
     }
 
@@ -254,40 +254,40 @@ pub finished : (s : State) (name : Text) (old a b c : Option (List ℕ)) (later 
 finished s name old a b c later page u none w v =
     let l = left_last s name old a later page u none in
     let both = Appends-trans a b c (part_text later page.features) closing w v in
-    all_of (features_in s name) l.features old c l.told (subst (Appends old c) (sym l.text) (Appends-trans old a c (opening ++ part_text false u.front) (part_text later page.features ++ closing) u.written both))
+    all_of (features_in s name) l.features old c l.reported (subst (Appends old c) (sym l.text) (Appends-trans old a c (opening ++ part_text false u.front) (part_text later page.features ++ closing) u.written both))
 
--- the last page is written, and a beginning of the end
+-- the last page and a prefix of the end are written
 pub ends_early : (s : State) (name : Text) (old a b c : Option (List ℕ)) (later : Bool) (page : PageValue) → Underway s name old a later page → page.next ≡ None
     → Appends a b (part_text later page.features) → AppendsBeginning b c closing
     → WritesSome (features_in s name) old c
 ends_early s name old a b c later page u none w v =
     let l = left_last s name old a later page u none in
-    let both = beginning_behind a b c (part_text later page.features) closing w v in
-    some_of (features_in s name) l.features old c l.told
+    let both = beginning_after a b c (part_text later page.features) closing w v in
+    some_of (features_in s name) l.features old c l.reported
     (subst (AppendsBeginning old c) (sym l.text)
-    (beginning_behind old a c (opening ++ part_text false u.front)
+    (beginning_after old a c (opening ++ part_text false u.front)
     (part_text later page.features ++ closing) u.written both))
 
--- a beginning of the page is written
+-- a prefix of the page is written
 pub breaks_off : (s : State) (name : Text) (old a b : Option (List ℕ)) (later : Bool) (page : PageValue) → Underway s name old a later page
     → AppendsBeginning a b (part_text later page.features) → WritesSome (features_in s name) old b
 breaks_off s name old a b later page u w =
     let l = left_of s name old a later page u in
     let part = part_text later page.features in
-    some_of (features_in s name) l.1.features old b l.1.told
+    some_of (features_in s name) l.1.features old b l.1.reported
     (subst (AppendsBeginning old b) (sym l.1.text)
-    (beginning_behind old a b (opening ++ part_text false u.front) (part ++ l.0) u.written
+    (beginning_after old a b (opening ++ part_text false u.front) (part ++ l.0) u.written
     (beginning_longer a b part l.0 w)))
 
--- a beginning of the page is written, and not all of it
+-- a prefix of the page is written, and not all of it
 pub breaks_off_less : (s : State) (name : Text) (old a b : Option (List ℕ)) (later : Bool) (page : PageValue) → Underway s name old a later page
     → AppendsLess a b (part_text later page.features) → WritesLess (features_in s name) old b
 breaks_off_less s name old a b later page u w =
     let l = left_of s name old a later page u in
     let part = part_text later page.features in
-    less_of (features_in s name) l.1.features old b l.1.told
+    less_of (features_in s name) l.1.features old b l.1.reported
     (subst (AppendsLess old b) (sym l.1.text)
-    (less_behind old a b (opening ++ part_text false u.front) (part ++ l.0) u.written
+    (less_after old a b (opening ++ part_text false u.front) (part ++ l.0) u.written
     (less_longer a b part l.0 w)))
 
 -- the page is not written yet, so not all of the text is
@@ -296,28 +296,28 @@ less_written s name old a later page u =
     let l = left_of s name old a later page u in
     let part = part_text later page.features in
     let some : 0 < length (part ++ l.0) = omega (arith, length-append part l.0, l.1.some) in
-    less_of (features_in s name) l.1.features old a l.1.told
+    less_of (features_in s name) l.1.features old a l.1.reported
     (subst (AppendsLess old a) (sym l.1.text)
-    (less_behind old a a (opening ++ part_text false u.front) (part ++ l.0) u.written
+    (less_after old a a (opening ++ part_text false u.front) (part ++ l.0) u.written
     (less_none a (part ++ l.0) some)))
 
--- the last page is written, and a beginning of the end, and not all of it
+-- the last page and a prefix of the end are written, and not all of the end
 pub ends_less : (s : State) (name : Text) (old a b c : Option (List ℕ)) (later : Bool) (page : PageValue) → Underway s name old a later page → page.next ≡ None
     → Appends a b (part_text later page.features) → AppendsLess b c closing
     → WritesLess (features_in s name) old c
 ends_less s name old a b c later page u none w v =
     let l = left_last s name old a later page u none in
-    let both = less_behind a b c (part_text later page.features) closing w v in
-    less_of (features_in s name) l.features old c l.told
+    let both = less_after a b c (part_text later page.features) closing w v in
+    less_of (features_in s name) l.features old c l.reported
     (subst (AppendsLess old c) (sym l.text)
-    (less_behind old a c (opening ++ part_text false u.front)
+    (less_after old a c (opening ++ part_text false u.front)
     (part_text later page.features ++ closing) u.written both))
 
 -- the page is not written yet
 pub still_written : (s : State) (name : Text) (old a : Option (List ℕ)) (later : Bool) (page : PageValue) → Underway s name old a later page → WritesSome (features_in s name) old a
 still_written s name old a later page u = breaks_off s name old a a later page u ([], refl, Appends-nil a)
 
--- a beginning of what comes before the pages is written
+-- a prefix of what comes before the pages is written
 pub begins_early : (s : State) (name : Text) (old new : Option (List ℕ)) (page : PageValue) →
     page_in s name (part_query None) ≡ Some page → AppendsBeginning old new opening →
     WritesSome (features_in s name) old new
@@ -339,7 +339,7 @@ begins_less s name old new page h w =
     (subst (AppendsLess old new) (sym (text_in_parts fs))
     (less_longer old new opening (part_text false fs ++ closing) w))
 
--- the page is written, and no other
+-- the page is written, and nothing after it
 pub part_written : (s : State) (name : Text) (old a b : Option (List ℕ)) (later : Bool) (page : PageValue) → Underway s name old a later page
     → Appends a b (part_text later page.features) → WritesSome (features_in s name) old b
 part_written s name old a b later page u w =
@@ -445,11 +445,11 @@ module _ {K T : Type 0} {model : Model K} {a b : K} where
   end_reads (Err (Stopped Reopen)) (inl f) reads = absurd f
   end_reads (Err (Stopped Reopen)) (inr f) reads = absurd f
 
--- the features of a page, as they were handed on
+-- the features of a page, as they were passed on
 pub page_part : (later : Bool) (fs gs : List FeatureValue) → fs ≡ gs → part_text later (map feature_value fs) ≡ part_text later gs
 page_part later fs gs h = ap (part_text later) (map-id fs ∙ h)
 
--- whether features stand before the next page: some did before this one, or it has some
+-- whether features come before the next page: some came before this one, or it has some
 pub some_before : (b b' x : Bool) → b ≡ true → b' ≡ b → (b || x) ≡ b'
 some_before true b' x h k = sym k
 some_before false b' x h k = absurd cc

@@ -9,21 +9,21 @@ use Rattle.streetmap_geojson.specs.declared.fault.Fault.TheVariants.{WrongType}
 use Rattle.streetmap_geojson.specs.declared.fault.CollectionFault.{CollectionFault}
 use Rattle.streetmap_geojson.specs.declared.fault.CollectionFault.TheVariants as faults
 use Rattle.streetmap_geojson.specs.FeatureValue.{FeatureValue}
-use Rattle.streetmap_geojson.specs.Reading.{list_of}
-use Rattle.streetmap_geojson.specs.FeatureReading.{feature_at}
+use Rattle.streetmap_geojson.specs.ParsedGeometries.{list_of}
+use Rattle.streetmap_geojson.specs.ParsedFeatures.{feature_at}
 use Rattle.streetmap_geojson.specs.JsonText.{json_of}
 use Rattle.streetmap_geojson.specs.Collection.{at_place, and_more, features_after, features_in, is_collection, features, AreFeatures, GivesAt}
 use Rattle.streetmap_geojson.proofs.Collections.{are_found, are_read}
 use Rattle.streetmap_batch.specs.Text.{Text}
 use Rattle.streetmap_batch.specs.Names.{is_key, is_collection_id}
-use Rattle.streetmap_batch.specs.BatchReading.{most_edits}
+use Rattle.streetmap_batch.specs.ParsedBatches.{most_edits}
 use Rattle.streetmap_batch.specs.BatchValue.{BatchValue}
 use Rattle.streetmap_exchange.specs.declared.fault.ImportFault.{ImportFault}
 use Rattle.streetmap_exchange.specs.ImportFaults.{IsReadBy}
 use Rattle.streetmap_exchange.specs.Imports.{◌>>=◌, unless, most_bytes, batch_of_features, as_json, as_feature, features_of, import_text, import_of}
 use Rattle.streetmap_exchange.specs.ImportMeaning.{IsImport}
 
--- ---- no reading is a want of memory
+-- ---- the definition of reading never runs out of memory
 
 placed_memory : (n : ℕ) (r : Result FeatureValue Fault) → at_place n r ≡ Err faults.Memory → ⊥
 placed_memory n (Ok f) h = cc
@@ -61,14 +61,14 @@ itself d (Err faults.Memory) h = tt
 itself d (Err (faults.Fault f)) h = h
 itself d (Err (faults.At n f)) h = h
 
-told : (d : Data) (fs : List FeatureValue) (r : Result (List FeatureValue) CollectionFault) → features None d ≡ r → GivesAt (λ (x : List FeatureValue). x) r (Ok fs) → features None d ≡ Ok fs
-told d fs (Ok gs) h g = h ∙ sym g
-told d fs (Err faults.Memory) h g = absurd (no_memory d h)
-told d fs (Err (faults.Fault f)) h g = absurd cc
-told d fs (Err (faults.At n f)) h g = absurd cc
+reported : (d : Data) (fs : List FeatureValue) (r : Result (List FeatureValue) CollectionFault) → features None d ≡ r → GivesAt (λ (x : List FeatureValue). x) r (Ok fs) → features None d ≡ Ok fs
+reported d fs (Ok gs) h g = h ∙ sym g
+reported d fs (Err faults.Memory) h g = absurd (no_memory d h)
+reported d fs (Err (faults.Fault f)) h g = absurd cc
+reported d fs (Err (faults.At n f)) h g = absurd cc
 
 pub again : (d : Data) (fs : List FeatureValue) → AreFeatures None d fs → features None d ≡ Ok fs
-again d fs h = told d fs (features None d) refl (are_read (λ (x : List FeatureValue). x) (features None d) None d (itself d (features None d) refl) fs h)
+again d fs h = reported d fs (features None d) refl (are_read (λ (x : List FeatureValue). x) (features None d) None d (itself d (features None d) refl) fs h)
 
 -- ---- what passes a step
 
@@ -86,7 +86,7 @@ feature_ok (Err faults.Memory) fs h = absurd cc
 feature_ok (Err (faults.Fault f)) fs h = absurd cc
 feature_ok (Err (faults.At n f)) fs h = absurd cc
 
--- what was read at one step, and went on
+-- what was read at one step, and passed to the next
 went_on : {A B : Type 0} (r : Result A ImportFault) (f : A → Result B ImportFault) (x : B) → (r >>= f) ≡ Ok x → (a : A) × (r ≡ Ok a) × (f a ≡ Ok x)
 went_on (Ok a) f x h = (a, refl, h)
 went_on (Err e) f x h = absurd cc
@@ -113,7 +113,7 @@ text_found replace key collection text b keyed placed short h =
       placed = placed;
       short = short;
       value = d.0;
-      told = json_ok (json_of text) d.0 d.1;
+      reported = json_ok (json_of text) d.0 d.1;
       features = fs.0;
       read = found d.0 fs.0 (feature_ok (features None d.0) fs.0 d.2);
       few = within (length fs.0) most_edits few.0;
@@ -134,7 +134,7 @@ import_again replace key collection text b h =
     let short = passes (length text) most_bytes h.short in
     let few = passes (length h.features) most_edits h.few in
     let read = again h.value h.features h.read in
-    rw (h.keyed, h.placed, short, h.told, read, few, h.made) refl
+    rw (h.keyed, h.placed, short, h.reported, read, few, h.made) refl
 
 -- ---- what is answered
 

@@ -30,17 +30,17 @@ never_stopped key (replies.Repeated counts serial) fault h = h
 never_stopped key (replies.Refused why place) fault h = cc
 
 module _ {K : Type 0} (model : Model K) (a b : K) where
-  pub told_batch : (s : State) (batch : BatchValue) (reply : Reply) (r : Result (String Global) ImportStop) → IsReported batch.key reply r → Writes model a b s batch (Ok reply) → ImportsBatch model a b s batch r
-  told_batch s batch reply (Ok body) told h = (subst (λ (x : Reply). IsReported batch.key x (Ok body)) h.0 told, h.1)
-  told_batch s batch reply (Err (NotRead fault)) told h = absurd (never_unread batch.key reply fault told)
-  told_batch s batch reply (Err (Refused why place)) told h = (subst (λ (x : Reply). IsReported batch.key x (Err (Refused why place))) h.0 told, h.1)
-  told_batch s batch reply (Err (Stopped fault)) told h = absurd (never_stopped batch.key reply fault told)
+  pub reported_batch : (s : State) (batch : BatchValue) (reply : Reply) (r : Result (String Global) ImportStop) → IsReported batch.key reply r → Writes model a b s batch (Ok reply) → ImportsBatch model a b s batch r
+  reported_batch s batch reply (Ok body) reported h = (subst (λ (x : Reply). IsReported batch.key x (Ok body)) h.0 reported, h.1)
+  reported_batch s batch reply (Err (NotRead fault)) reported h = absurd (never_unread batch.key reply fault reported)
+  reported_batch s batch reply (Err (Refused why place)) reported h = (subst (λ (x : Reply). IsReported batch.key x (Err (Refused why place))) h.0 reported, h.1)
+  reported_batch s batch reply (Err (Stopped fault)) reported h = absurd (never_stopped batch.key reply fault reported)
 
-  pub told_calls : (key : Text) (reply : Reply) (r : Result (String Global) ImportStop) → IsReported key reply r → IsCall model a b (Ok reply) → AreCalls model a b (import_answer r)
-  told_calls key reply (Ok body) told call = answered call
-  told_calls key reply (Err (NotRead fault)) told call = absurd (never_unread key reply fault told)
-  told_calls key reply (Err (Refused why place)) told call = answered call
-  told_calls key reply (Err (Stopped fault)) told call = absurd (never_stopped key reply fault told)
+  pub reported_calls : (key : Text) (reply : Reply) (r : Result (String Global) ImportStop) → IsReported key reply r → IsCall model a b (Ok reply) → AreCalls model a b (import_answer r)
+  reported_calls key reply (Ok body) reported call = answered call
+  reported_calls key reply (Err (NotRead fault)) reported call = absurd (never_unread key reply fault reported)
+  reported_calls key reply (Err (Refused why place)) reported call = answered call
+  reported_calls key reply (Err (Stopped fault)) reported call = absurd (never_stopped key reply fault reported)
 
   -- ---- what a text's batch does is what the import does
 
@@ -59,11 +59,11 @@ module _ {K : Type 0} (model : Model K) (a b : K) where
 
 -- ---- what is returned is what the keeper replied
 
-pub told_of_reply : {K : Type 0} (applies : K → BatchValue → Result Reply Fault → K → Type 0)
+pub reported_of_reply : {K : Type 0} (applies : K → BatchValue → Result Reply Fault → K → Type 0)
     (b : BatchValue) (reply : Reply) (r : Result (String Global) ImportStop) (old new : K)
     → IsReported b.key reply r → applies old b (Ok reply) new
     → IsOfReply b.key (λ x. applies old b x new) (new ≡ old) r
-told_of_reply applies b reply (Ok body) old new told h = (reply, h, told)
-told_of_reply applies b reply (Err (NotRead fault)) old new told h = absurd (never_unread b.key reply fault told)
-told_of_reply applies b reply (Err (Refused why place)) old new told h = (reply, h, told)
-told_of_reply applies b reply (Err (Stopped fault)) old new told h = absurd (never_stopped b.key reply fault told)
+reported_of_reply applies b reply (Ok body) old new reported h = (reply, h, reported)
+reported_of_reply applies b reply (Err (NotRead fault)) old new reported h = absurd (never_unread b.key reply fault reported)
+reported_of_reply applies b reply (Err (Refused why place)) old new reported h = (reply, h, reported)
+reported_of_reply applies b reply (Err (Stopped fault)) old new reported h = absurd (never_stopped b.key reply fault reported)

@@ -55,12 +55,12 @@ each_entry : (P : Text → FeatureValue → Type 0) (es : List (Text × FeatureV
 each_entry P [] up has = tt
 each_entry P (e ∷ es) up has = (
   has e.0 e.1 (ap (λ r. cond (is_eq r) (Some e.1) (find text_cmp e.0 es)) (tied_itself nat_list_cmp_total e.0)),
-  each_entry P es (second _ _ up) (λ id f there. has id f (behind id f there (text_cmp id e.0) refl)),
+  each_entry P es (second _ _ up) (λ id f there. has id f (following id f there (text_cmp id e.0) refl)),
 ) where
-  behind : (id : Text) (f : FeatureValue) → find text_cmp id es ≡ Some f → (r : Ordering) → text_cmp id e.0 ≡ r → cond (is_eq (text_cmp id e.0)) (Some e.1) (find text_cmp id es) ≡ Some f
-  behind id f there Less is = ap (λ r. cond (is_eq r) (Some e.1) (find text_cmp id es)) is ∙ there
-  behind id f there Greater is = ap (λ r. cond (is_eq r) (Some e.1) (find text_cmp id es)) is ∙ there
-  behind id f there Equal is =
+  following : (id : Text) (f : FeatureValue) → find text_cmp id es ≡ Some f → (r : Ordering) → text_cmp id e.0 ≡ r → cond (is_eq (text_cmp id e.0)) (Some e.1) (find text_cmp id es) ≡ Some f
+  following id f there Less is = ap (λ r. cond (is_eq r) (Some e.1) (find text_cmp id es)) is ∙ there
+  following id f there Greater is = ap (λ r. cond (is_eq r) (Some e.1) (find text_cmp id es)) is ∙ there
+  following id f there Equal is =
       let none : find text_cmp id es ≡ None = ap (λ k. find text_cmp k es) (one_text id e.0 is) ∙ not_among e.0 es (first _ _ up) in
       cc
 
@@ -78,7 +78,7 @@ all_features P Q so (e ∷ es) h = All-cons Q e.1 (map (λ x. x.1) es) (so e.0 e
 
 -- ---- the edits act one after the other
 
--- a feature with the time that the property tells
+-- a feature with the time that its property gives
 timed_again : (property : Option Text) (f : FeatureValue) → time_of property f.properties ≡ Ok f.time → timed property (untimed f) ≡ Ok f
 timed_again property f h = rw h refl
 
@@ -96,10 +96,10 @@ record Inserted (t u : State) (to : Text) (d : Collection) (f : FeatureValue) : 
 
 insert_done : (t u : State) (to : Text) (d : Collection) (f : FeatureValue) → get t.collections to ≡ Some d → time_of d.time f.properties ≡ Ok f.time
     → step t (edit_of false to (untimed f)) ≡ Ok u → Inserted t u to d f
-insert_done t u to d f there told h =
+insert_done t u to d f there reported h =
     let found : inserted t to (untimed f) d ≡ Ok u = ap (λ o. ok_or o NoCollection >>= inserted t to (untimed f)) (sym there) ∙ h in
     let parts = absent_none (get d.features f.id) FeatureExists (timed d.time (untimed f) >>= λ g. Ok (with_feature t to d g)) u found in
-    let done : ◌≡◌ {A = Result State Refusal} (Ok (with_feature t to d f)) (Ok u) = ap (λ r. r >>= λ g. Ok (with_feature t to d g)) (sym (timed_again d.time f told)) ∙ parts.1 in
+    let done : ◌≡◌ {A = Result State Refusal} (Ok (with_feature t to d f)) (Ok u) = ap (λ r. r >>= λ g. Ok (with_feature t to d g)) (sym (timed_again d.time f reported)) ∙ parts.1 in
     record { new = parts.0; is = same_state (with_feature t to d f) u done }
 
 went_on : (place : ℕ) (r : Result State Refusal) (es : List EditValue) (u : State) → (placed place r >>= λ t. edited (place + 1) t es) ≡ Ok u → (t : State) × (r ≡ Ok t) × (edited (place + 1) t es ≡ Ok u)
@@ -114,26 +114,26 @@ put_there : (t : State) (to : Text) (d : Collection) (f : FeatureValue) → get 
 put_there t to d f = get-insert nat_list_cmp_total t.collections to (holding d (insert d.features f.id f)) to
     ∙ ap (λ r. cond (is_eq r) (Some (holding d (insert d.features f.id f))) (get t.collections to)) (tied_itself nat_list_cmp_total to)
 
--- an entry stands under the id of its feature, which has the time that the property tells
-abbrev Stands : Option Text → Text → FeatureValue → Type 0
-Stands property id f = (f.id ≡ id) × (time_of property f.properties ≡ Ok f.time)
+-- the key of an entry is the id of its feature, which has the time that the property gives
+abbrev IsTimedAs : Option Text → Text → FeatureValue → Type 0
+IsTimedAs property id f = (f.id ≡ id) × (time_of property f.properties ≡ Ok f.time)
 
-all_inserted : (front es : List (Text × FeatureValue)) (place : ℕ) (t u : State) (to : Text) (d : Collection) → get t.collections to ≡ Some (holding d (from_entries front)) → Each (Stands d.time) es
+all_inserted : (front es : List (Text × FeatureValue)) (place : ℕ) (t u : State) (to : Text) (d : Collection) → get t.collections to ≡ Some (holding d (from_entries front)) → Each (IsTimedAs d.time) es
     → edited place t (map (edit_of false to) (map untimed (map (λ e. e.1) es))) ≡ Ok u → get u.collections to ≡ Some (holding d (from_entries (front ++ es)))
-all_inserted front [] place t u to d there stand h =
+all_inserted front [] place t u to d there all_timed h =
     let same : u ≡ t = let e : ◌≡◌ {A = Result State (ℕ × Refusal)} (Ok t) (Ok u) = h in cc in
     ap (λ (x : State). get x.collections to) same ∙ there ∙ ap (λ es. Some (holding d (from_entries es))) (sym (append-nil front))
-all_inserted front (e ∷ es) place t u to d there stand h =
+all_inserted front (e ∷ es) place t u to d there all_timed h =
     let f = e.1 in
     let more = map (edit_of false to) (map untimed (map (λ x. x.1) es)) in
     let on = went_on place (step t (edit_of false to (untimed f))) more u h in
-    let one = insert_done t on.0 to (holding d (from_entries front)) f there stand.0.1 on.1 in
-    let id : f.id ≡ e.0 = stand.0.0 in
+    let one = insert_done t on.0 to (holding d (from_entries front)) f there all_timed.0.1 on.1 in
+    let id : f.id ≡ e.0 = all_timed.0.0 in
     let none : find text_cmp e.0 front ≡ None = sym (get-from_entries nat_list_cmp_total front e.0) ∙ ap (get (from_entries front)) (sym id) ∙ one.new in
     let put : insert (from_entries front) f.id f ≡ from_entries (front ++ e ∷ []) = ap (λ k. insert (from_entries front) k f) id ∙ sym (from_entries_push nat_list_cmp_total one_text front e.0 f none) in
     let now : get (on.0).collections to ≡ Some (holding d (from_entries (front ++ e ∷ []))) =
     ap (λ (x : State). get x.collections to) one.is ∙ put_there t to (holding d (from_entries front)) f ∙ ap (λ m. Some (holding d m)) put in
-    all_inserted (front ++ e ∷ []) es (place + 1) on.0 u to d now stand.1 on.2 ∙ ap (λ l. Some (holding d (from_entries l))) (append_assoc front (e ∷ []) es)
+    all_inserted (front ++ e ∷ []) es (place + 1) on.0 u to d now all_timed.1 on.2 ∙ ap (λ l. Some (holding d (from_entries l))) (append_assoc front (e ∷ []) es)
 
 -- ---- the batch is accepted
 
@@ -178,7 +178,7 @@ same_data d e text h k = let both = sym k ∙ h in cc
 exported_batch : (fs : List FeatureValue) (key to : Text) (b : BatchValue) → All IsFeature fs → import_of false key to (export_text fs) ≡ Ok b → b ≡ batch_of_features false key to (map untimed fs)
 exported_batch fs key to b sound h =
     let i = import_found false key to (export_text fs) b h in
-    let value = same_data (collection_data fs) i.value (export_text fs) (written_reads fs sound) i.told in
+    let value = same_data (collection_data fs) i.value (export_text fs) (written_reads fs sound) i.reported in
     let read : AreFeatures None (collection_data fs) i.features = subst (λ v. AreFeatures None v i.features) value i.read in
     i.made ∙ ap (batch_of_features false key to) (same_features (map untimed fs) i.features (collection_data fs) (collection_again fs sound) read)
 
@@ -191,5 +191,5 @@ import_of_export s t from to key c d b sound exported there none time h accepted
     let a = accepts t b accepted in
     let edits : edited 1 t (map (edit_of false to) (map untimed fs)) ≡ Ok a.after = ap (λ (x : BatchValue). edited 1 t x.edits) (sym batch) ∙ a.done in
     let begun : get t.collections to ≡ Some (holding d (from_entries [])) = there ∙ ap (λ m. Some (holding d m)) none in
-    let stand : Each (Stands d.time) es = each_as (IsPlaced c.time) (Stands d.time) (λ id f p. (p.named, ap (λ x. time_of x f.properties) time ∙ p.timed)) es placed_so in
-    ap (λ m. get m to) a.kept ∙ all_inserted [] es 1 t a.after to d begun stand edits ∙ ap (λ m. Some (holding d m)) (of_entries c.features)
+    let all_timed : Each (IsTimedAs d.time) es = each_as (IsPlaced c.time) (IsTimedAs d.time) (λ id f p. (p.named, ap (λ x. time_of x f.properties) time ∙ p.timed)) es placed_so in
+    ap (λ m. get m to) a.kept ∙ all_inserted [] es 1 t a.after to d begun all_timed edits ∙ ap (λ m. Some (holding d m)) (of_entries c.features)

@@ -1,4 +1,4 @@
--- A line feed behind the text of a value changes nothing of what the text reads as.
+-- A line feed after the text of a value does not change what the text reads as.
 use Rattle.std.proofs.Common.{◌≡◌, ℕ, ◌+◌, ◌^◌, ◌≤◌, List, [], ◌∷◌, ◌++◌, length, Bool, true, false, cond, ◌&&◌, ◌==◌, pos, negsuc, ok_or, refl, sym, ap, subst, ◌∙◌, arith, append_assoc, append-nil, length-append, bytes_eq, nat_le, option_and_then}
 use Rattle.std.proofs.lemmas.Bool.{and_parts, ltb-true}
 use Rattle.std.proofs.lemmas.Bool.Decides.{nat_tests}
@@ -48,11 +48,11 @@ last_fed [] = refl
 last_fed (b ∷ []) = refl
 last_fed (b ∷ c ∷ cs) = last_fed (c ∷ cs)
 
-last_behind : (front : List ℕ) (b c : ℕ) (cs : List ℕ) → last_byte (front ++ b ∷ c ∷ cs) ≡ last_byte (c ∷ cs)
+last_after : (front : List ℕ) (b c : ℕ) (cs : List ℕ) → last_byte (front ++ b ∷ c ∷ cs) ≡ last_byte (c ∷ cs)
 unfolding last_byte
-last_behind [] b c cs = refl
-last_behind (x ∷ []) b c cs = refl
-last_behind (x ∷ y ∷ ys) b c cs = last_behind (y ∷ ys) b c cs
+last_after [] b c cs = refl
+last_after (x ∷ []) b c cs = refl
+last_after (x ∷ y ∷ ys) b c cs = last_after (y ∷ ys) b c cs
 
 zeros_end : (c : ℕ) (cs : List ℕ) → list_all (λ b. b == 48) (c ∷ cs) ≡ true → last_byte (c ∷ cs) ≡ 48
 unfolding last_byte
@@ -63,7 +63,7 @@ no_zeros : (t whole zeros : List ℕ) → t ++ feed ≡ whole ++ 46 ∷ zeros �
 no_zeros t whole [] e h = absurd cc
 no_zeros t whole (c ∷ cs) e h =
     let p = and_parts _ (list_all (λ b. b == 48) (c ∷ cs)) h in
-    let clash : 10 ≡ 48 = sym (last_fed t) ∙ ap last_byte e ∙ last_behind whole 46 c cs ∙ zeros_end c cs p.1 in
+    let clash : 10 ≡ 48 = sym (last_fed t) ∙ ap last_byte e ∙ last_after whole 46 c cs ∙ zeros_end c cs p.1 in
     absurd (omega (arith, clash))
 
 not_zero_at : (t : List ℕ) (b : Bool) → bytes_eq (t ++ feed) (45 ∷ 48 ∷ []) ≡ b → cond b (48 ∷ []) (t ++ feed) ≡ t ++ feed
@@ -88,7 +88,7 @@ abbrev end_of : Side → List ℕ → Side
 end_of side [] = side
 end_of side (b ∷ bs) = end_of (side_after side b) bs
 
--- within a string the line feed is of the last token
+-- within a string the line feed is part of the last token
 abbrev with_feed : Bool → List (List ℕ) → List (List ℕ)
 with_feed unended [] = feed ∷ []
 with_feed true (t ∷ []) = (t ++ feed) ∷ []
@@ -159,7 +159,7 @@ unfolding tokens_from
 all_tokens side [] = refl
 all_tokens side (b ∷ bs) = put_joined (is_joined (side_after side b) b bs) b (tokens_from (side_after side b) bs) ∙ ap (λ l. b ∷ l) (all_tokens (side_after side b) bs)
 
--- ---- where each token stays, they stay with the line feed
+-- ---- if each token stays, the tokens with the line feed stay
 
 not_longer_at : (t : List ℕ) (b : Bool) → nat_le (length t) (length (whole_text t)) ≡ b → length (whole_text t) ≤ length t
 not_longer_at t true h = let low : length t ≤ length (whole_text t) = grind (arith, nat_tests) in let same = ap length (whole_text_same t low) in omega (arith, same)
@@ -220,21 +220,21 @@ null_lexed : (r : List ℕ) → ends_word r ≡ true → lex between (token_text
 unfolding lex word
 null_lexed r e = ap (λ b. token (cond b null bad) ∷ lex in_word r) e ∙ ap (λ l. token null ∷ l) (in_word-ended r e)
 
-alike_behind : (t : Token) (r q : List ℕ) → IsPrintable t → (ends t ≡ true → ends_word r ≡ true) → (ends t ≡ true → ends_word q ≡ true) → Alike r q → Alike (token_text t ++ r) (token_text t ++ q)
+alike_after : (t : Token) (r q : List ℕ) → IsPrintable t → (ends t ≡ true → ends_word r ≡ true) → (ends t ≡ true → ends_word q ≡ true) → Alike r q → Alike (token_text t ++ r) (token_text t ++ q)
 unfolding lex
-alike_behind begin_object r q h a b e = ap (λ l. token begin_object ∷ l) e
-alike_behind end_object r q h a b e = ap (λ l. token end_object ∷ l) e
-alike_behind begin_array r q h a b e = ap (λ l. token begin_array ∷ l) e
-alike_behind end_array r q h a b e = ap (λ l. token end_array ∷ l) e
-alike_behind (key s) r q h a b e =
+alike_after begin_object r q h a b e = ap (λ l. token begin_object ∷ l) e
+alike_after end_object r q h a b e = ap (λ l. token end_object ∷ l) e
+alike_after begin_array r q h a b e = ap (λ l. token begin_array ∷ l) e
+alike_after end_array r q h a b e = ap (λ l. token end_array ∷ l) e
+alike_after (key s) r q h a b e =
     ap (lex between) (append_assoc (quoted s) (58 ∷ []) r) ∙ quoted_lexed s (58 ∷ r) ∙ ap (λ l. token (string s) ∷ colon ∷ l) e
     ∙ sym (ap (lex between) (append_assoc (quoted s) (58 ∷ []) q) ∙ quoted_lexed s (58 ∷ q))
-alike_behind (string s) r q h a b e = quoted_lexed s r ∙ ap (λ l. token (string s) ∷ l) e ∙ sym (quoted_lexed s q)
-alike_behind (number s) r q h a b e = lex-number s r h (a refl) ∙ ap (λ l. token (number s) ∷ l) e ∙ sym (lex-number s q h (b refl))
-alike_behind (boolean true) r q h a b e = true_lexed r (a refl) ∙ ap (λ l. token (boolean true) ∷ l) e ∙ sym (true_lexed q (b refl))
-alike_behind (boolean false) r q h a b e = false_lexed r (a refl) ∙ ap (λ l. token (boolean false) ∷ l) e ∙ sym (false_lexed q (b refl))
-alike_behind null r q h a b e = null_lexed r (a refl) ∙ ap (λ l. token null ∷ l) e ∙ sym (null_lexed q (b refl))
-alike_behind bad r q h a b e = absurd h
+alike_after (string s) r q h a b e = quoted_lexed s r ∙ ap (λ l. token (string s) ∷ l) e ∙ sym (quoted_lexed s q)
+alike_after (number s) r q h a b e = lex-number s r h (a refl) ∙ ap (λ l. token (number s) ∷ l) e ∙ sym (lex-number s q h (b refl))
+alike_after (boolean true) r q h a b e = true_lexed r (a refl) ∙ ap (λ l. token (boolean true) ∷ l) e ∙ sym (true_lexed q (b refl))
+alike_after (boolean false) r q h a b e = false_lexed r (a refl) ∙ ap (λ l. token (boolean false) ∷ l) e ∙ sym (false_lexed q (b refl))
+alike_after null r q h a b e = null_lexed r (a refl) ∙ ap (λ l. token null ∷ l) e ∙ sym (null_lexed q (b refl))
+alike_after bad r q h a b e = absurd h
 
 -- a value is followed by a comma, a closing bracket or the rest
 value_ends : (ts : List Token) (rest : List ℕ) → ends_word rest ≡ true → ends_word (print_from true ts ++ rest) ≡ true
@@ -266,7 +266,7 @@ printed_fed c (t ∷ ts) h =
     let rest = print_from (ends t) ts in
     ap (lex between) (append_assoc (separator c t) (token_text t ++ rest) feed ∙ ap (λ l. separator c t ++ l) (append_assoc (token_text t) rest feed))
     ∙ separated (c && begins t) (token_text t ++ (rest ++ feed)) (token_text t ++ rest)
-    (alike_behind t (rest ++ feed) rest h.0
+    (alike_after t (rest ++ feed) rest h.0
     (λ e. ap (λ b. ends_word (print_from b ts ++ feed)) e ∙ value_ends ts feed refl)
     (λ e. ap (λ b. ends_word (print_from b ts)) e ∙ value_ends_alone ts)
     (printed_fed (ends t) ts h.1))
@@ -323,6 +323,6 @@ value_fed d h =
     let fed_utf8 = utf8_fed text utf8 in
     rw (fed, fed_utf8, plain, utf8) (read_alike d h)
 
--- a text that is written for exact data reads alike with a line feed behind it
+-- a text that is written for exact data reads the same with a line feed after it
 pub json_fed : (d : Data) → is_exact d ≡ true → json_of (compact_text d ++ feed) ≡ json_of (compact_text d)
 json_fed d h = ap (λ o. ok_or o NotJson) (value_fed d h)

@@ -7,7 +7,7 @@ use Rattle.std.specs.Prelude.{slice_get, decimal}
 use Rattle.std.specs.Io.KnownBytes.{Appends}
 use Rattle.std.proofs.KnownBytes.{Appends-trans}
 use Rattle.streetmap_text_lines.specs.Written.{AppendsBeginning}
-use Rattle.streetmap_text_lines.proofs.WriteLemmas.{beginning_longer, beginning_behind}
+use Rattle.streetmap_text_lines.proofs.WriteLemmas.{beginning_longer, beginning_after}
 use Rattle.streetmap_ledger.specs.Kept.{KeyedBatch}
 use Rattle.streetmap_ledger.specs.KeptView.{keyed_batch, keyed_batches}
 use Rattle.streetmap_ledger.specs.declared.kept_batch.KeptBatch.{KeptBatch}
@@ -55,28 +55,28 @@ module _ (n : ℕ) (text : List ℕ) (a b : Option (List ℕ)) (serial : Appends
   tab_breaks c h =
       let rest = text ++ 10 ∷ [] in
       subst (AppendsBeginning a c) (sym (line_is n text))
-      (beginning_behind a b c _ _ serial (beginning_longer b c (9 ∷ []) rest h))
+      (beginning_after a b c _ _ serial (beginning_longer b c (9 ∷ []) rest h))
 
   module _ (c : Option (List ℕ)) (tab : Appends b c (9 ∷ [])) where
     pub text_breaks : (d : Option (List ℕ)) → AppendsBeginning c d text → AppendsBeginning a d line
     text_breaks d h =
         subst (AppendsBeginning a d) (sym (line_is n text))
-        (beginning_behind a b d _ _ serial
-        (beginning_behind b c d _ _ tab (beginning_longer c d text (10 ∷ []) h)))
+        (beginning_after a b d _ _ serial
+        (beginning_after b c d _ _ tab (beginning_longer c d text (10 ∷ []) h)))
 
-    module _ (d : Option (List ℕ)) (told : Appends c d text) where
+    module _ (d : Option (List ℕ)) (reported : Appends c d text) where
       pub feed_breaks : (e : Option (List ℕ)) → AppendsBeginning d e (10 ∷ [])
           → AppendsBeginning a e line
       feed_breaks e h =
           subst (AppendsBeginning a e) (sym (line_is n text))
-          (beginning_behind a b e _ _ serial
-          (beginning_behind b c e _ _ tab (beginning_behind c d e _ _ told h)))
+          (beginning_after a b e _ _ serial
+          (beginning_after b c e _ _ tab (beginning_after c d e _ _ reported h)))
 
       pub line_written : (e : Option (List ℕ)) → Appends d e (10 ∷ []) → Appends a e line
       line_written e h =
           subst (Appends a e) (sym (line_is n text))
           (Appends-trans a b e _ _ serial
-          (Appends-trans b c e _ _ tab (Appends-trans c d e _ _ told h)))
+          (Appends-trans b c e _ _ tab (Appends-trans c d e _ _ reported h)))
 
 -- ---- batches of a list
 
@@ -112,7 +112,7 @@ module _ (xs : List KeptBatch) (i : ℕ) (x : KeptBatch) (h : i < length xs) (is
       let lines = ap lines_text cut ∙ (lines_append first (keyed_batch x ∷ rest)
       ∙ ap (λ l. lines_text first ++ l) (lines_more (keyed_batch x) rest)) in
       subst (AppendsBeginning a c) (sym lines)
-      (beginning_behind a b c _ _ before (beginning_longer b c (line_text (keyed_batch x))
+      (beginning_after a b c _ _ before (beginning_longer b c (line_text (keyed_batch x))
       (lines_text rest) wrote))
 
   pub lines_grow : Appends b c (line_text (keyed_batch x))

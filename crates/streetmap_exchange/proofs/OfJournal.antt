@@ -9,7 +9,7 @@ use Rattle.streetmap_ledger.specs.State.{State}
 use Rattle.streetmap_ledger.specs.WellFormed.{IsState}
 use Rattle.streetmap_batch.specs.Text.{Text}
 use Rattle.streetmap_ledger.specs.Kept.{KeyedBatch, batch_count, batches_next}
-use Rattle.streetmap_ledger.specs.Kept.{batches_behind}
+use Rattle.streetmap_ledger.specs.Kept.{batches_after}
 use Rattle.streetmap_ledger.proofs.Serials.{found_under}
 use Rattle.streetmap_ledger.proofs.AllThere.{as_many, kept_there}
 use Rattle.streetmap_ledger.proofs.Nexts.{nexts_split}
@@ -33,7 +33,7 @@ long_map : {A B : Type 0} (f : A → B) (xs : List A) → length (map f xs) ≡ 
 long_map f [] = refl
 long_map f (x ∷ xs) = ap suc (long_map f xs)
 
--- one line more
+-- one more line
 numbered_last : (n : ℕ) (ts : List Text) (t : Text)
     → numbered_after n (ts ++ t ∷ []) ≡ numbered_after n ts ++ numbered (n + suc (length ts)) t ∷ []
 numbered_last n [] t = refl
@@ -73,7 +73,7 @@ module _ (s : State) (sound : IsState s) where
       ∙ sym (lines_next 0 (batch_count s) (omega arith))
 
   low : (after : ℕ) → after ≤ batch_count s
-      → map line_of (batches_behind s after) ≡ drop after (journal_lines s)
+      → map line_of (batches_after s after) ≡ drop after (journal_lines s)
   low after high =
       let rest = batch_count s - after in
       let all : batch_count s ≡ after + rest = omega (arith, high) in
@@ -89,7 +89,7 @@ module _ (s : State) (sound : IsState s) where
       sym (ap (drop after) lines ∙ drop_all (map line_of front) _ after many)
 
   high : (after : ℕ) → batch_count s ≤ after
-      → map line_of (batches_behind s after) ≡ drop after (journal_lines s)
+      → map line_of (batches_after s after) ≡ drop after (journal_lines s)
   high after over =
       let none : batch_count s - after ≡ 0 = omega (arith, over) in
       let all = batches_next s 0 (batch_count s) in

@@ -9,10 +9,10 @@ use Rattle.streetmap_ledger.specs.State.{State}
 use Rattle.streetmap_ledger.specs.WellFormed.{IsState}
 use Rattle.streetmap_ledger.specs.declared.reply.Fault.TheVariants.{Memory, Device, Damaged, Reopen}
 use Rattle.streetmap_text_lines.specs.Written.{AppendsBeginning}
-use Rattle.streetmap_text_lines.proofs.WriteLemmas.{beginning_longer, beginning_behind}
+use Rattle.streetmap_text_lines.proofs.WriteLemmas.{beginning_longer, beginning_after}
 use Rattle.streetmap_text_lines.proofs.WriteLemmas.{beginning_all}
 use Rattle.streetmap_ledger.specs.Kept.{KeyedBatch, batch_in, batch_count, batches_next}
-use Rattle.streetmap_ledger.specs.Kept.{batches_behind, AreNext}
+use Rattle.streetmap_ledger.specs.Kept.{batches_after, AreNext}
 use Rattle.streetmap_ledger.proofs.Nexts.{nexts_split, last_next}
 use Rattle.streetmap_ledger.proofs.Serials.{found_under}
 use Rattle.streetmap_exchange.specs.Printed.{lines_text}
@@ -38,9 +38,9 @@ begins s after old =
           (Appends-nil old);
     }
 
--- the batches behind a serial, up to another one and behind that
+-- the batches after a serial: those up to another serial, and those after it
 cut_at : (s : State) (after last : ℕ) → after ≤ last → last ≤ max after (batch_count s)
-    → batches_behind s after ≡ batches_next s after (last - after) ++ batches_behind s last
+    → batches_after s after ≡ batches_next s after (last - after) ++ batches_after s last
 cut_at s after last low high =
     let all : batch_count s - after ≡ (last - after) + (batch_count s - last) =
     omega (arith, low, high) in
@@ -52,16 +52,16 @@ cut_at s after last low high =
 
 module _ (s : State) (sound : IsState s) (after last : ℕ) (old now : Option (List ℕ))
     (it : Underway s after last old now) where
-  pub early : AppendsBeginning old now (lines_text (batches_behind s after))
+  pub early : AppendsBeginning old now (lines_text (batches_after s after))
   early =
       let cut = ap lines_text (cut_at s after last it.low it.high)
-      ∙ lines_append (batches_next s after (last - after)) (batches_behind s last) in
+      ∙ lines_append (batches_next s after (last - after)) (batches_after s last) in
       subst (AppendsBeginning old now) (sym cut) (beginning_longer old now _ _
       (beginning_all old now _ it.written))
 
   module _ (room : ℕ) (found : List KeyedBatch) (next : AreNext s last room found) where
     pub ends : found ≡ []
-        → Appends old now (lines_text (batches_behind s after)) × (last ≡ max after (batch_count s))
+        → Appends old now (lines_text (batches_after s after)) × (last ≡ max after (batch_count s))
     ends none =
         let most = next.some none in
         let low = it.low in
@@ -118,7 +118,7 @@ module _ (s : State) (sound : IsState s) (after last : ℕ) (old now : Option (L
           }
 
       pub breaks : (later : Option (List ℕ)) → AppendsBeginning now later (lines_text found)
-          → AppendsBeginning old later (lines_text (batches_behind s after))
+          → AppendsBeginning old later (lines_text (batches_after s after))
       breaks later wrote =
           let low = it.low in
           let serial = serial_is in
@@ -126,10 +126,10 @@ module _ (s : State) (sound : IsState s) (after last : ℕ) (old now : Option (L
           let cut = ap lines_text (cut_at s after b.1.serial (omega (arith, low, serial))
           (omega (arith, most)))
           ∙ lines_append (batches_next s after (b.1.serial - after))
-          (batches_behind s b.1.serial) in
+          (batches_after s b.1.serial) in
           subst (AppendsBeginning old later) (sym cut) (beginning_longer old later _ _
           (subst (AppendsBeginning old later) (sym texts_up_to)
-          (beginning_behind old now later _ _ it.written wrote)))
+          (beginning_after old now later _ _ it.written wrote)))
 
 -- ---- the keeper
 

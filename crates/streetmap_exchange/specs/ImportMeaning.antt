@@ -6,7 +6,7 @@ use Rattle.streetmap_geojson.specs.Collection.{AreFeatures}
 use Rattle.streetmap_geojson.specs.JsonText.{json_of}
 use Rattle.streetmap_batch.specs.Text.{Text}
 use Rattle.streetmap_batch.specs.Names.{is_key, is_collection_id}
-use Rattle.streetmap_batch.specs.BatchReading.{most_edits}
+use Rattle.streetmap_batch.specs.ParsedBatches.{most_edits}
 use Rattle.streetmap_batch.specs.BatchValue.{BatchValue}
 use Rattle.streetmap_exchange.specs.Imports.{most_bytes, batch_of_features}
 
@@ -18,7 +18,7 @@ pub record IsImport (replace : Bool) (key collection : Text) (text : List ℕ) (
   pub placed : IsTrue (is_collection_id collection)
   pub short : length text ≤ most_bytes
   pub value : Data
-  pub told : json_of text ≡ Ok value
+  pub reported : json_of text ≡ Ok value
   pub features : List FeatureValue
   pub read : AreFeatures None value features
   pub few : length features ≤ most_edits

@@ -11,7 +11,7 @@ use Rattle.streetmap_geojson.specs.Collection.{features}
 use Rattle.streetmap_geojson.specs.JsonText.{json_of}
 use Rattle.streetmap_batch.specs.Text.{Text}
 use Rattle.streetmap_batch.specs.Names.{is_key, is_collection_id}
-use Rattle.streetmap_batch.specs.BatchReading.{most_edits}
+use Rattle.streetmap_batch.specs.ParsedBatches.{most_edits}
 use Rattle.streetmap_batch.specs.BatchValue as edit
 use Rattle.streetmap_batch.specs.BatchValue.{EditValue, BatchValue}
 use Rattle.streetmap_exchange.specs.declared.fault.ImportFault.{ImportFault}

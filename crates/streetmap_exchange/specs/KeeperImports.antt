@@ -23,8 +23,8 @@ use Rattle.streetmap_exchange.specs.declared.fault.ImportStop.TheVariants.{Stopp
 -- for an accepted or repeated batch of this key the body of its reply is returned, for a refused
 -- one the refusal
 abbrev pub IsReported : (key : Text) → Reply → Result (String Global) ImportStop → Type 0
-IsReported key (replies.Refused why place) told = told ≡ Err (Refused why place)
-IsReported key reply told = IsOkAnd told (λ body. string_bytes body
+IsReported key (replies.Refused why place) reported = reported ≡ Err (Refused why place)
+IsReported key reply reported = IsOkAnd reported (λ body. string_bytes body
     ≡ compact_text (reply_body key reply))
 
 -- a batch on a keeper that represented this state: its reply is returned, and the keeper represents
@@ -33,8 +33,8 @@ abbrev pub ImportsBatch : {K : Type 0} → Model K → (old new : K) → State �
     → Result (String Global) ImportStop → Type 0
 ImportsBatch model old new s b (Err (NotRead fault)) = ⊥
 ImportsBatch model old new s b (Err (Stopped fault)) = Writes model old new s b (Err fault)
-ImportsBatch model old new s b told =
-    IsReported b.key (act s b).reply told × model.represents new (act s b).state
+ImportsBatch model old new s b reported =
+    IsReported b.key (act s b).reply reported × model.represents new (act s b).state
 
 -- for a text that reads as this: its batch does what a batch does, or its fault is returned and the
 -- state stays
@@ -42,18 +42,18 @@ abbrev pub Imports : {K : Type 0} → Model K → (old new : K) → State
     → Result BatchValue ImportFault → Result (String Global) ImportStop → Type 0
 Imports model old new s read (Err (NotRead fault)) =
     FailsToRead fault read × model.represents new s
-Imports model old new s read told =
-    (b : BatchValue) × (read ≡ Ok b) × ImportsBatch model old new s b told
+Imports model old new s read reported =
+    (b : BatchValue) × (read ≡ Ok b) × ImportsBatch model old new s b reported
 
 -- the keeper's answer; none if it received no request
 abbrev pub import_answer : Result (String Global) ImportStop → LastAnswer
 import_answer (Err (NotRead fault)) = None
 import_answer (Err (Stopped fault)) = fails_by fault
-import_answer told = Some (Ok tt)
+import_answer reported = Some (Ok tt)
 
 -- the keeper received no request and is as it was, or the result is what it replied to the batch
 abbrev pub IsOfReply : (key : Text) → (came : Result Reply Fault → Type 0) → (same : Type 0) →
     Result (String Global) ImportStop → Type 0
 IsOfReply key came same (Err (NotRead fault)) = same
 IsOfReply key came same (Err (Stopped fault)) = came (Err fault)
-IsOfReply key came same told = (reply : Reply) × came (Ok reply) × IsReported key reply told
+IsOfReply key came same reported = (reply : Reply) × came (Ok reply) × IsReported key reply reported

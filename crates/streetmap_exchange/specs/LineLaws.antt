@@ -2,7 +2,7 @@
 use Rattle.std.specs.Prelude.{◌≡◌, ℕ, map, drop}
 use Rattle.streetmap_ledger.specs.State.{State}
 use Rattle.streetmap_ledger.specs.WellFormed.{IsState}
-use Rattle.streetmap_ledger.specs.Kept.{batches_behind}
+use Rattle.streetmap_ledger.specs.Kept.{batches_after}
 use Rattle.streetmap_replay.specs.JournalText.{journal_lines}
 use Rattle.streetmap_exchange.specs.Printed.{line_of}
 
@@ -10,4 +10,4 @@ use Rattle.streetmap_exchange.specs.Printed.{line_of}
 abbrev pub LinesAreOfTheJournal : Type 0
 LinesAreOfTheJournal =
     (s : State) (after : ℕ) → IsState s →
-    map line_of (batches_behind s after) ≡ drop after (journal_lines s)
+    map line_of (batches_after s after) ≡ drop after (journal_lines s)

@@ -2,7 +2,7 @@
 use Rattle.std.specs.Prelude.{◌≡◌, ℕ, max, List, ◌∷◌, ◌++◌, [], map, Option, Result, Ok, Err}
 use Rattle.std.specs.Io.KnownBytes.{Appends}
 use Rattle.streetmap_ledger.specs.State.{State}
-use Rattle.streetmap_ledger.specs.Kept.{KeyedBatch, batch_count, batches_behind}
+use Rattle.streetmap_ledger.specs.Kept.{KeyedBatch, batch_count, batches_after}
 use Rattle.streetmap_replay.specs.JournalText.{text_of_lines}
 use Rattle.streetmap_replay.specs.Lines.{Line, numbered, line_bytes}
 use Rattle.streetmap_text_lines.specs.Written.{AppendsBeginning}
@@ -24,6 +24,6 @@ lines_text bs = text_of_lines (map line_of bs)
 -- them
 abbrev pub WritesLines : State → ℕ → Result ℕ LinesStop → Option (List ℕ) → Option (List ℕ) → Type 0
 WritesLines s after (Ok last) old new =
-    Appends old new (lines_text (batches_behind s after)) × (last ≡ max after (batch_count s))
+    Appends old new (lines_text (batches_after s after)) × (last ≡ max after (batch_count s))
 WritesLines s after (Err stop) old new =
-    AppendsBeginning old new (lines_text (batches_behind s after))
+    AppendsBeginning old new (lines_text (batches_after s after))

@@ -22,7 +22,7 @@ pub enum ImportFault {
     WrongType,
     /// The feature of that place, counted from 1, cannot be read.
     BadFeature { place: u64, cause: Fault },
-    /// There are more than 10,000 features.
+    /// The text has more than 10,000 features.
     TooManyEdits,
     /// Out of memory. The caller may try again.
     Memory,
@@ -127,7 +127,7 @@ pub enum ImportStop {
     /// The text is not read into a batch, or memory ran out: the keeper received no request.
     NotRead(ImportFault),
     /// The batch is refused, and nothing changed; with the place of the feature at fault, counted
-    /// from 1, if there is one.
+    /// from 1, if any.
     Refused(Refusal, Option<u64>),
     /// The keeper gave no reply.
     Stopped(KeeperFault),

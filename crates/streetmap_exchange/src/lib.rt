@@ -16,16 +16,16 @@
 //! reads a few batches at a time from the keeper, so that the memory it takes does not grow with
 //! their number. These lines are those of the state's journal (`line_laws`).
 //!
-//! Modules, in the order of reading: `fault`, `progress`, `importing`, `keeping`, `part`,
-//! `exporting`, `laws`; `lines_stop`, `batch_lines`, `batches`, `line_laws`.
+//! Modules, in the order of reading: `fault`, `progress`, `imports`, `keeper_imports`, `part`,
+//! `exports`, `laws`; `lines_stop`, `batch_lines`, `batches`, `line_laws`.
 #![tactic(auto)]
 
 mod batch_lines;
 mod batches;
-mod exporting;
+mod exports;
 mod fault;
-mod importing;
-mod keeping;
+mod imports;
+mod keeper_imports;
 pub mod laws;
 pub mod line_laws;
 mod lines_stop;
@@ -33,9 +33,9 @@ mod part;
 mod progress;
 
 pub use batches::write_batches;
-pub use exporting::export;
+pub use exports::export;
 pub use fault::{ExportFault, ImportFault, ImportStop};
-pub use importing::{MAX_TEXT, import_batch};
-pub use keeping::{apply_import, import};
+pub use imports::{MAX_TEXT, import_batch};
+pub use keeper_imports::{apply_import, import};
 pub use lines_stop::LinesStop;
 pub use progress::Progress;

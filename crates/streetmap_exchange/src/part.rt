@@ -20,7 +20,7 @@ use streetmap_query::Query;
 use streetmap_text_lines::WriteFault;
 
 /// The page of a thousand features after an id.
-pub(crate) fn page_behind<K: Keeper>(
+pub(crate) fn page_after<K: Keeper>(
     keeper: &mut K,
     collection: &str,
     after: Option<Id>,
@@ -67,11 +67,11 @@ fn push_part(
     ensures { OnOk result (string_bytes out.new
         ≡ string_bytes out.old ++ part_text later (map feature_value features.now)) }
 {
-    let mut behind = later;
+    let mut following = later;
     for feature in features {
-        push_comma(out, behind)?;
+        push_comma(out, following)?;
         push_feature(alloc, out, feature)?;
-        behind = true;
+        following = true;
     }
     Ok(())
 }

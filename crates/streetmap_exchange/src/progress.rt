@@ -11,7 +11,7 @@ pub trait Progress {
 }
 
 /// Reports the number of features, at each thousandth.
-pub(crate) fn tell<P: Progress>(progress: &mut P, features: u64) {
+pub(crate) fn report<P: Progress>(progress: &mut P, features: u64) {
     if features > 0 && features % STEP == 0 {
         progress.reached(features);
     }

@@ -27,7 +27,8 @@ use Rattle.streetmap_faults.specs.declared.fault.ProgramFault.TheVariants.{NewFo
 use Rattle.streetmap_faults.specs.declared.fault.ProgramFault.TheVariants.{Taken, NoText, Import}
 use Rattle.streetmap_faults.specs.declared.fault.ProgramFault.TheVariants.{Export, LineTooLong}
 use Rattle.streetmap_faults.specs.declared.fault.ProgramFault.TheVariants.{ReadFailed, WriteFailed}
-use Rattle.streetmap_faults.specs.declared.fault.ProgramFault.TheVariants.{Net, Damaged, Device, Shut}
+use Rattle.streetmap_faults.specs.declared.fault.ProgramFault.TheVariants.{Net, Damaged, Device}
+use Rattle.streetmap_faults.specs.declared.fault.ProgramFault.TheVariants.{Shut}
 use Rattle.streetmap_faults.specs.declared.fault.ProgramFault.TheVariants.{NotBound, NotOpened}
 use Rattle.streetmap_faults.specs.declared.fault.ProgramFault.TheVariants.{Memory}
 use Rattle.streetmap_faults.specs.declared.fault.ProgramFault.TheVariants.{SameFile, NoJournal}
@@ -46,9 +47,9 @@ use Rattle.streetmap_loading.specs.declared.load_fault.LoadFault.TheVariants as 
 use Rattle.streetmap_loading.specs.EndCodes.{end_code, end_place, end_cause, load_fault_code}
 use Rattle.streetmap_loading.specs.EndCodes.{cause_code}
 use Rattle.streetmap_replay.specs.declared.line_stop.LineStop.TheVariants as stops
-use Rattle.streetmap_replay.specs.declared.following.Followed.{Followed}
-use Rattle.streetmap_replay.specs.declared.following.End.{End as FollowEnd}
-use Rattle.streetmap_replay.specs.declared.following.End.TheVariants as following
+use Rattle.streetmap_replay.specs.declared.follower.Followed.{Followed}
+use Rattle.streetmap_replay.specs.declared.follower.End.{End as FollowEnd}
+use Rattle.streetmap_replay.specs.declared.follower.End.TheVariants as following
 use Rattle.streetmap_replay.specs.FollowNames.{end_code as follow_code, end_place as follow_place}
 use Rattle.streetmap_replay.specs.FollowNames.{end_cause as follow_cause}
 use Rattle.streetmap_exchange.specs.declared.lines_stop.LinesStop.{LinesStop}
@@ -88,28 +89,28 @@ code_of (NotOpened cause) = codes "device"
 code_of Shut = codes "shut"
 code_of Memory = codes "memory"
 
--- the exit status where a keeper does not answer
+-- the exit status if a keeper does not answer
 abbrev pub keeper_status : KeeperFault → ℕ
 keeper_status keeper.Memory = 4
 keeper_status keeper.Device = 3
 keeper_status keeper.Damaged = 3
 keeper_status keeper.Reopen = 3
 
--- where a text is not imported
+-- if a text is not imported
 abbrev pub import_status : ImportStop → ℕ
 import_status (importing.NotRead reading.Memory) = 4
 import_status (importing.NotRead fault) = 1
 import_status (importing.Refused why place) = 1
 import_status (importing.Stopped fault) = keeper_status fault
 
--- where a collection is not exported to its end
+-- if a collection is not exported to its end
 abbrev pub export_status : ExportFault → ℕ
 export_status exporting.NoCollection = 1
 export_status (exporting.Stopped fault) = keeper_status fault
 export_status exporting.WriteFailed = 3
 export_status exporting.FlushFailed = 3
 
--- where a load ends before its text does
+-- if a load ends before its text does
 abbrev pub load_status : LoadEnd → ℕ
 load_status loading.ReadFailed = 3
 load_status loading.Memory = 4
@@ -119,12 +120,12 @@ load_status (loading.AtFault fault) = 1
 load_status (loading.Refused why place) = 1
 load_status loading.All = 0
 
--- where it does not begin
+-- if a load does not begin
 abbrev pub not_loaded_status : LoadFault → ℕ
 not_loaded_status beginning.Memory = 4
 not_loaded_status fault = 1
 
--- where lines of batches are not followed to their end
+-- if lines of batches are not followed to their end
 abbrev pub follow_status : FollowEnd → ℕ
 follow_status (following.Stopped (stops.Unread batch.Memory)) = 4
 follow_status (following.Stopped (stops.Stopped fault)) = keeper_status fault
@@ -133,16 +134,16 @@ follow_status following.CutLine = 1
 follow_status (following.NotRead text.LineTooLong) = 1
 follow_status (following.NotRead text.ReadFailed) = 3
 follow_status (following.NotRead text.Memory) = 4
-follow_status following.NotTold = 3
+follow_status following.NotReported = 3
 follow_status following.All = 0
 
--- where kept batches are not printed to their end
+-- if kept batches are not printed to their end
 abbrev pub batches_status : LinesStop → ℕ
 batches_status (batches.Stopped fault) = keeper_status fault
 batches_status batches.WriteFailed = 3
 
--- the exit status: 1 refused, 2 usage, 3 a device, damage, a socket, a read or a write that failed,
--- 4 want of memory
+-- the exit status: 1 refused, 2 usage, 3 a device, damage, a socket, a failed read or write,
+-- 4 out of memory
 abbrev pub status_of : ProgramFault → ℕ
 status_of Usage = 2
 status_of BadBase = 1
@@ -182,19 +183,19 @@ place_of (Load ended) = end_place ended
 place_of (Follow it) = follow_place it.end
 place_of _ = None
 
--- the name of what is wrong with it, where it cannot be read
+-- the name of what is wrong with it, if it cannot be read
 abbrev pub cause_of : ProgramFault → Option (List ℕ)
 cause_of (Import stop) = option_map feature_code (stop_cause_of stop)
 cause_of (Load ended) = option_map cause_code (end_cause ended)
 cause_of (Follow it) = option_map feature_code (follow_cause it.end)
 cause_of _ = None
 
--- behind the name: a space and the place of the feature at fault, and a space and the name of what
--- is wrong with it, where there are such
-abbrev pub behind_code : Option ℕ → Option (List ℕ) → List ℕ
-behind_code None cause = []
-behind_code (Some place) None = codes " " ++ decimal place
-behind_code (Some place) (Some cause) = codes " " ++ decimal place ++ codes " " ++ cause
+-- after the name: a space and the place of the feature at fault, and a space and the name of what
+-- is wrong with it, if it has them
+abbrev pub after_code : Option ℕ → Option (List ℕ) → List ℕ
+after_code None cause = []
+after_code (Some place) None = codes " " ++ decimal place
+after_code (Some place) (Some cause) = codes " " ++ decimal place ++ codes " " ++ cause
 
 -- whether lines of batches ended at a fault of the next line, and not of a file or a stream
 abbrev pub has_line : FollowEnd → Bool
@@ -211,7 +212,7 @@ batch_line_of (NotItsJournal serial) = Some serial
 batch_line_of (NotReplayed serial) = serial
 batch_line_of _ = None
 
--- a space and the number of that line, where there is one
+-- a space and the number of that line, if it has one
 abbrev pub line_part : Option ℕ → List ℕ
 line_part None = []
 line_part (Some line) = codes " " ++ decimal line
@@ -220,19 +221,19 @@ line_part (Some line) = codes " " ++ decimal line
 abbrev pub line_of : ProgramFault → List ℕ
 line_of fault =
     codes "streetmap: " ++ code_of fault ++ line_part (batch_line_of fault)
-    ++ behind_code (place_of fault) (cause_of fault)
+    ++ after_code (place_of fault) (cause_of fault)
 
--- what the program ends with where there is no command
+-- what the program ends with if no command can be read
 abbrev pub fault_of_command : CommandFault → ProgramFault
 fault_of_command command.Usage = Usage
 fault_of_command command.Memory = Memory
 
--- where the base is none
+-- if no base can be made
 abbrev pub fault_of_base : BaseFault → ProgramFault
 fault_of_base base.BadBase = BadBase
 fault_of_base base.Memory = Memory
 
--- where lines are not answered to their end
+-- if lines are not answered to their end
 abbrev pub fault_of_lines : LinesFault → ProgramFault
 fault_of_lines lines.LineTooLong = LineTooLong
 fault_of_lines lines.ReadFailed = ReadFailed
@@ -240,7 +241,7 @@ fault_of_lines lines.WriteFailed = WriteFailed
 fault_of_lines lines.FlushFailed = WriteFailed
 fault_of_lines lines.Memory = Memory
 
--- where connections are not served to their end
+-- if connections are not served to their end
 abbrev pub fault_of_serve : ServeFault → ProgramFault
 fault_of_serve serve.Net = Net
 fault_of_serve serve.Over = Shut

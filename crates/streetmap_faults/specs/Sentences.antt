@@ -32,8 +32,8 @@ use Rattle.streetmap_loading.specs.declared.load_fault.LoadFault.TheVariants as 
 use Rattle.streetmap_loading.specs.declared.text_fault.TextFault.{TextFault}
 use Rattle.streetmap_loading.specs.declared.text_fault.TextFault.TheVariants as texts
 use Rattle.streetmap_loading.specs.EndCodes.{text_description}
-use Rattle.streetmap_replay.specs.declared.following.End.{End as FollowEnd}
-use Rattle.streetmap_replay.specs.declared.following.End.TheVariants as following
+use Rattle.streetmap_replay.specs.declared.follower.End.{End as FollowEnd}
+use Rattle.streetmap_replay.specs.declared.follower.End.TheVariants as following
 use Rattle.streetmap_replay.specs.declared.line_stop.LineStop.{LineStop}
 use Rattle.streetmap_replay.specs.declared.line_stop.LineStop.TheVariants as stops
 use Rattle.streetmap_text_lines.specs.declared.fault.LineFault.TheVariants as lines
@@ -180,7 +180,7 @@ follow_sentence (following.NotRead lines.LineTooLong) =
     codes "A line has more than 16777216 bytes."
 follow_sentence (following.NotRead lines.ReadFailed) = input_sentence
 follow_sentence (following.NotRead lines.Memory) = keeper_sentence keeper.Memory
-follow_sentence following.NotTold = output_sentence
+follow_sentence following.NotReported = output_sentence
 
 -- on kept batches that are not printed to their end
 unfoldable pub batches_sentence : LinesStop → Text

@@ -5,13 +5,13 @@
 pub enum OpenCause {
     /// Another program has it open.
     InUse,
-    /// Its folder is not there.
+    /// Its folder does not exist.
     NoFolder,
     /// It, or its folder, may not be read and written.
     NoRight,
     /// It is a damaged database.
     Damaged,
-    /// It is not known.
+    /// The cause is not known.
     Other,
 }
 
@@ -20,8 +20,8 @@ pub enum OpenCause {
 pub enum PortCause {
     /// Another program listens there.
     Taken,
-    /// It is kept for programs with more rights.
+    /// It is reserved for programs with more rights.
     NoRight,
-    /// It is not known.
+    /// The cause is not known.
     Other,
 }

@@ -29,21 +29,21 @@ use streetmap_text_lines::LineFault;
 /// Why the program ends before it is done.
 #[derive(Clone, Copy)]
 pub enum ProgramFault {
-    /// `usage`: the words of the command line are none that the program takes.
+    /// `usage`: the program does not accept the arguments of the command line.
     Usage,
-    /// `bad_base`: the base of links is no `http` or `https` URL with the path `/` alone.
+    /// `bad_base`: the base is not an `http` or `https` URL with the path `/` and nothing after it.
     BadBase,
-    /// `exists`: the file that is to be made is there.
+    /// `exists`: the file to be made already exists.
     Exists,
-    /// `no_file`: the file is not there.
+    /// `no_file`: the file does not exist.
     NoFile,
-    /// `not_ours`: the file is none of this product.
+    /// `not_ours`: the file is not one of this product.
     NotOurs,
     /// `new_format`: the file has a format above 2.
     NewFormat,
     /// `taken`: a table, an index or a view of the file has one of the names of its tables.
     Taken,
-    /// `no_text`: the file of the text that is to be imported is not there.
+    /// `no_text`: the file of the text to be imported does not exist.
     NoText,
     /// The text is not imported: the name of the refusal or fault.
     Import(ImportStop),
@@ -51,11 +51,11 @@ pub enum ProgramFault {
     Export(ExportFault),
     /// The text of features is not loaded to its end: the name of what ended the load.
     Load(LoadEnd),
-    /// `passed_over`: features at fault were passed over, and each was listed.
+    /// `passed_over`: features at fault were skipped, and each was listed.
     PassedOver,
     /// The load of a text does not begin: the name of the refusal.
     NotLoaded(LoadFault),
-    /// The lines of batches are not followed to their end: the name of why, and the line.
+    /// The lines of batches are not followed to their end: the name of the reason, and the line.
     Follow(Followed),
     /// The kept batches are not printed to their end: the name of the fault.
     Batches(LinesStop),
@@ -68,7 +68,7 @@ pub enum ProgramFault {
     /// `not_its_journal`: the line with this serial is not that of the file's batch.
     NotItsJournal(u64),
     /// `not_replayed`: the kept batches do not give what the file shows. With the serial of the
-    /// first that its text does not give again; a collection that differs is listed.
+    /// first batch that its text does not give again; a collection that differs is listed.
     NotReplayed(Option<u64>),
     /// `line_too_long`: a line of input has more than 8,388,608 bytes, its line feed not counted.
     LineTooLong,
@@ -80,7 +80,7 @@ pub enum ProgramFault {
     Net,
     /// `net`: nothing can listen at this port.
     NotBound(u16, PortCause),
-    /// `damaged`: the rows of the file are those of no state.
+    /// `damaged`: the rows of the file are not those of a state.
     Damaged,
     /// `device`: the file can no longer be read or written.
     Device,
@@ -88,12 +88,12 @@ pub enum ProgramFault {
     NotOpened(OpenCause),
     /// `shut`: the store failed while it was served. The fault has its line already.
     Shut,
-    /// `memory`: memory was refused.
+    /// `memory`: an allocation failed.
     Memory,
 }
 
 impl ProgramFault {
-    /// The name that is printed behind `streetmap: `.
+    /// The name that is printed after `streetmap: `.
     #[tactic(auto, unfolding(crate::specs::ProgramFaults::code_of))]
     pub fn code(self) -> &'static str
         ensures { result.now ≡ code_of self }
@@ -130,8 +130,8 @@ impl ProgramFault {
         }
     }
 
-    /// The exit status: 1 refused, 2 usage, 3 a device, damage, a socket, a read or a write that
-    /// failed, 4 want of memory.
+    /// The exit status: 1 refused, 2 usage, 3 a device, damage, a socket, a failed read or write,
+    /// 4 out of memory.
     pub fn status(self) -> u8
         ensures { result ≡ status_of self }
     {
@@ -169,7 +169,7 @@ impl ProgramFault {
         }
     }
 
-    /// The name of what is wrong with that feature, where it cannot be read.
+    /// The name of what is wrong with that feature, if it cannot be read.
     pub fn cause(self) -> Option<&'static str>
         ensures { option_map (λ s. s.now) result ≡ cause_of self }
     {
@@ -197,7 +197,7 @@ impl ProgramFault {
 }
 
 /// The line that is printed, without its line feed: `streetmap: ` and the name, the place of the
-/// feature at fault, and the name of what is wrong with it, where there are such.
+/// feature at fault, and the name of what is wrong with it, if it has them.
 impl Display for ProgramFault {
     ghost output = { λ fault. Some (line_of fault) };
 
@@ -235,7 +235,7 @@ fn code_of_text(cause: Option<TextFeatureFault>) -> Option<&'static str>
     }
 }
 
-/// The exit status where a keeper does not answer.
+/// The exit status if a keeper does not answer.
 fn status_of_keeper(fault: KeeperFault) -> u8
     ensures { result ≡ keeper_status fault }
 {
@@ -245,7 +245,7 @@ fn status_of_keeper(fault: KeeperFault) -> u8
     }
 }
 
-/// The exit status where a text is not imported.
+/// The exit status if a text is not imported.
 fn status_of_import(stop: ImportStop) -> u8
     ensures { result ≡ import_status stop }
 {
@@ -256,7 +256,7 @@ fn status_of_import(stop: ImportStop) -> u8
     }
 }
 
-/// The exit status where a collection is not exported to its end.
+/// The exit status if a collection is not exported to its end.
 fn status_of_export(fault: ExportFault) -> u8
     ensures { result ≡ export_status fault }
 {
@@ -267,7 +267,7 @@ fn status_of_export(fault: ExportFault) -> u8
     }
 }
 
-/// The exit status where a load ends before its text does.
+/// The exit status if a load ends before its text does.
 fn status_of_load(end: LoadEnd) -> u8
     ensures { result ≡ load_status end }
 {
@@ -290,7 +290,7 @@ fn has_line(end: FollowEnd) -> bool
     )
 }
 
-/// The exit status where lines of batches are not followed to their end.
+/// The exit status if lines of batches are not followed to their end.
 fn status_of_follow(end: FollowEnd) -> u8
     ensures { result ≡ follow_status end }
 {
@@ -301,7 +301,7 @@ fn status_of_follow(end: FollowEnd) -> u8
         FollowEnd::Stopped(_) | FollowEnd::CutLine => 1,
         FollowEnd::NotRead(LineFault::LineTooLong) => 1,
         FollowEnd::NotRead(LineFault::Memory) => 4,
-        FollowEnd::NotRead(LineFault::ReadFailed) | FollowEnd::NotTold => 3,
+        FollowEnd::NotRead(LineFault::ReadFailed) | FollowEnd::NotReported => 3,
     }
 }
 

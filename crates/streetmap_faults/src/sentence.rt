@@ -232,7 +232,7 @@ fn on_load_fault(fault: LoadFault) -> &'static str
     }
 }
 
-/// On a line that is no batch.
+/// On a line that is not a batch.
 #[tactic(auto, unfolding(crate::specs::Sentences::batch_sentence))]
 fn on_batch(fault: BatchFault) -> &'static str
     ensures { result.now ≡ batch_sentence fault }
@@ -272,7 +272,7 @@ fn on_follow(end: FollowEnd) -> &'static str
         FollowEnd::NotRead(LineFault::LineTooLong) => "A line has more than 16777216 bytes.",
         FollowEnd::NotRead(LineFault::ReadFailed) => on_input(),
         FollowEnd::NotRead(LineFault::Memory) => on_keeper(KeeperFault::Memory),
-        FollowEnd::NotTold => on_output(),
+        FollowEnd::NotReported => on_output(),
     }
 }
 

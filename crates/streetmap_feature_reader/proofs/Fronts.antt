@@ -1,4 +1,4 @@
--- What stands at the front of tokens.
+-- What tokens begin with.
 use Rattle.std.proofs.Common.{◌≡◌, ℕ, List, [], ◌∷◌, Option, None, Some, IfSome, Result, Ok, Err, IfOk, ap, ◌∙◌, arith}
 use Rattle.json.specs.Json.{value, parse_map}
 use Rattle.json.specs.Token.{Token}
@@ -16,7 +16,7 @@ string_front depth s ts = ap (converted of_json) (value_is depth (Token.string s
 pub null_front : (depth : ℕ) (ts : List Token) → value_at depth (Token.null ∷ ts) ≡ Some (null, ts)
 null_front depth ts = ap (converted of_json) (value_is depth (Token.null ∷ ts))
 
--- what is true of a value, where there is one, tells the same of it
+-- a fact about a value, if any, implies another about it
 pub where_some : {A : Type 0} {P Q : A → Type 0} (o : Option A) → ((a : A) → P a → Q a) → IfSome o P → IfSome o Q
 where_some None f h = tt
 where_some (Some a) f h = f a h

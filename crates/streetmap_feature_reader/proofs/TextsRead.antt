@@ -4,7 +4,7 @@ use Rattle.serde_json.specs.Data.{Data}
 use Rattle.streetmap_geojson.specs.declared.fault.JsonFault.{JsonFault}
 use Rattle.streetmap_geojson.specs.Fault.{Gives, ◌>>=◌}
 use Rattle.streetmap_geojson.specs.FeatureMeaning.{ReadsAs}
-use Rattle.streetmap_geojson.specs.FeatureReading.{feature}
+use Rattle.streetmap_geojson.specs.ParsedFeatures.{feature}
 use Rattle.streetmap_geojson.specs.FeatureValue.{FeatureValue}
 use Rattle.streetmap_geojson.specs.JsonText.{json_of}
 use Rattle.streetmap_geojson.proofs.Steps.{bind_ok}

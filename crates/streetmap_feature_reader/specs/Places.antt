@@ -11,7 +11,7 @@ found name (Some d) more = member name d more
 
 -- the next value, nested no deeper than this, is read, and put among the members under this name
 abbrev pub Takes : (depth : ℕ) (name : List ℕ) → (old new : Members)
-    → (before behind : List Token) → Type 0
-Takes depth name old new before behind =
-    (d : Data) × (value_at depth before ≡ Some (d, behind)) × (new ≡ put name d old)
-    × (length behind < length before)
+    → (before following : List Token) → Type 0
+Takes depth name old new before following =
+    (d : Data) × (value_at depth before ≡ Some (d, following)) × (new ≡ put name d old)
+    × (length following < length before)

@@ -5,7 +5,7 @@ use Rattle.streetmap_json.specs.JsonText.{json_value}
 use Rattle.streetmap_geojson.specs.declared.fault.Fault.{Fault}
 use Rattle.streetmap_geojson.specs.Fault.{◌>>=◌}
 use Rattle.streetmap_geojson.specs.FeatureMembers.{feature_object}
-use Rattle.streetmap_geojson.specs.FeatureReading.{feature}
+use Rattle.streetmap_geojson.specs.ParsedFeatures.{feature}
 use Rattle.streetmap_geojson.specs.FeatureValue.{FeatureValue}
 use Rattle.streetmap_geojson.specs.JsonText.{json_of}
 

@@ -8,12 +8,12 @@
 //! text, a usual one in this way, and every other as a value. Both return what the value of the
 //! text reads as.
 //!
-//! Modules, in the order of reading: `places`, `usual_geometry`, `usual_members`, `reading`.
+//! Modules, in the order of reading: `places`, `usual_geometry`, `usual_members`, `reader`.
 #![tactic(auto)]
 
 mod places;
-mod reading;
+mod reader;
 mod usual_geometry;
 mod usual_members;
 
-pub use reading::{read_feature_text, read_usual};
+pub use reader::{read_feature_text, read_usual};

@@ -19,7 +19,7 @@ use Rattle.streetmap_geojson.specs.declared.kind.SimpleKind.{SimpleKind}
 use Rattle.streetmap_geojson.specs.declared.kind.SimpleKind.TheVariants as kinds
 use Rattle.streetmap_geojson.specs.FeatureValue.{FeatureValue, untimed}
 use Rattle.streetmap_geojson.specs.FeatureInvariant.{IsGeometryIf, is_oriented_if, IsFeature}
-use Rattle.streetmap_geojson.specs.Reading.{list_of, kind_at, somes, collection_of}
+use Rattle.streetmap_geojson.specs.ParsedGeometries.{list_of, kind_at, somes, collection_of}
 use Rattle.streetmap_geojson.specs.Meaning.{ReadsAsCoordinate, ArePosition, IsArray, AreEach, AreLine, AreRing, ArePolygon, AreSimple, AreCoordinates, ReadsAsSimple, ReadsAsMember, ReadsAsGeometry}
 use Rattle.streetmap_geojson.specs.FeatureMeaning.{ReadsAs, ReadsAt}
 use Rattle.streetmap_feature_text.specs.Written.{number_data, position_elements, position_data, line_data, polygon_data, coordinates_of, simple_data, geometry_member, feature_data}
@@ -239,7 +239,7 @@ depth_feature f h = let k = depth_geometry f.geometry in let flat = h.flat in om
 
 -- ---- features
 
--- the id stands in what is written, so that no place is taken for it
+-- what is written contains the id, so that no place is used as id
 pub feature_again_at : (place : Option ℕ) (f : FeatureValue) → IsFeature f → ReadsAt place None (feature_data f) (untimed f)
 feature_again_at place f h = record {
   typed = refl;
@@ -247,7 +247,7 @@ feature_again_at place f h = record {
   named = (h.named, refl);
   placed = geometry_again f.geometry h.made h.oriented;
   few = h.few;
-  told = refl;
+  reported = refl;
   kept = h.kept;
   whole = h.whole;
   timed = refl;

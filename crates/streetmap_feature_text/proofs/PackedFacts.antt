@@ -7,7 +7,7 @@ use Rattle.streetmap_moment.specs.IntervalValue.{IntervalValue}
 use Rattle.streetmap_moment.specs.Range.{IsMoment}
 use Rattle.streetmap_geojson.specs.Fault.{◌>>=◌}
 use Rattle.streetmap_geojson.specs.FeatureValue.{FeatureValue, untimed, retimed}
-use Rattle.streetmap_geojson.specs.FeatureReading.{feature}
+use Rattle.streetmap_geojson.specs.ParsedFeatures.{feature}
 use Rattle.streetmap_feature_text.specs.Ends.{end_at, time_between}
 use Rattle.streetmap_geojson.specs.FeatureInvariant.{IsFeature, IsIntervalIf}
 use Rattle.streetmap_feature_text.specs.Packed.{feature_in_text, or_nothing, unpacked, IsPacked}

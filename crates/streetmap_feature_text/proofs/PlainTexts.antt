@@ -1,4 +1,4 @@
--- Texts that stand in quotes as they are.
+-- Texts that appear in quotes unescaped.
 use Rattle.std.proofs.Common.{◌≡◌, ℕ, List, [], ◌∷◌, ◌++◌, true, ap, ap₂, refl}
 use Rattle.std.specs.List.{list_all}
 use Rattle.std.proofs.lemmas.Bool.{and_parts, not-true, eqb-false, leb-true}

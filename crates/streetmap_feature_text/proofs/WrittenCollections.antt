@@ -9,7 +9,7 @@ use Rattle.streetmap_geojson.specs.FeatureValue.{FeatureValue, untimed}
 use Rattle.streetmap_geojson.specs.FeatureInvariant.{IsFeature}
 use Rattle.streetmap_geojson.specs.Collection.{AreAfter, AreFeatures}
 use Rattle.streetmap_geojson.specs.JsonText.{json_of}
-use Rattle.streetmap_geojson.specs.Reading.{list_of}
+use Rattle.streetmap_geojson.specs.ParsedGeometries.{list_of}
 use Rattle.streetmap_feature_text.specs.Written.{feature_data, collection_data}
 use Rattle.streetmap_geojson.proofs.Lists.{list_of-items_of}
 use Rattle.streetmap_feature_text.proofs.Again.{feature_again_at, depth_feature}

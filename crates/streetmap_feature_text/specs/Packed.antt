@@ -10,7 +10,7 @@ use Rattle.streetmap_geojson.specs.declared.fault.Fault.{Fault}
 use Rattle.streetmap_feature_text.specs.declared.packed.Part.{Part}
 use Rattle.streetmap_geojson.specs.Fault.{◌>>=◌}
 use Rattle.streetmap_geojson.specs.FeatureValue.{FeatureValue, retimed}
-use Rattle.streetmap_geojson.specs.FeatureReading.{feature}
+use Rattle.streetmap_geojson.specs.ParsedFeatures.{feature}
 use Rattle.streetmap_geojson.specs.JsonText.{json_of}
 use Rattle.streetmap_geojson.specs.FeatureInvariant.{IsFeature}
 use Rattle.streetmap_feature_text.specs.Written.{feature_data}

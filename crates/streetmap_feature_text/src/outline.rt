@@ -28,7 +28,11 @@ impl Model for Outline {
 
     ghost coded = { coded_outline };
 
-    ghost view = { λ o. record { extent = option_map box_value o.extent; time = packed_interval_value o.time } };
+    ghost view = { λ o. record {
+      extent = option_map box_value o.extent;
+      time =
+          packed_interval_value o.time;
+    } };
 }
 
 impl Outline {
@@ -42,7 +46,7 @@ impl Outline {
         }
     }
 
-    /// The extent of the geometry, in millimetres: none if there is none.
+    /// The extent of the geometry, in millimetres; none without a geometry.
     pub fn extent(&self) -> Option<GridBox>
         ensures { option_map box_value result ≡ self.now.extent }
     {

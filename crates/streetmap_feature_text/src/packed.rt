@@ -64,7 +64,8 @@ impl Model for PackedFeature {
 
     ghost view = { λ p. unpacked p.kept.value.text (packed_interval_value p.kept.value.time) };
 
-    ghost invariant = { λ p. IsPacked p.kept.value.text (option_map box_value p.kept.value.extent) p.kept.value.id };
+    ghost invariant = { λ p. IsPacked p.kept.value.text (option_map box_value p.kept.value.extent)
+        p.kept.value.id };
 }
 
 /// The bytes before an id in a feature's text.
@@ -124,7 +125,7 @@ impl PackedFeature {
         let _ = &self.kept.time;
     }
 
-    /// The extent of the geometry, in millimetres: none if there is none.
+    /// The extent of the geometry, in millimetres; none without a geometry.
     pub fn extent(&self) -> Option<GridBox>
         ensures { option_map box_value result ≡ option_map extent_of self.now.geometry }
     {
@@ -148,7 +149,7 @@ impl PackedFeature {
         }
     }
 
-    /// The bytes of the id, if the text has exactly these bytes. None if it has not, since one of
+    /// The bytes of the id, if the text has exactly these bytes. None if it does not, since one of
     /// them is written as an escape: then the caller must read the feature.
     pub fn unescaped_id(&self) -> Option<&[u8]>
         ensures { IfSome result (λ id. id.now ≡ self.now.id) }

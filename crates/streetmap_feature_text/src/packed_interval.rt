@@ -20,7 +20,8 @@ pub(crate) struct PackedInterval {
     end_nanoseconds: u32,
     ghost start_in: { ForSome (end_at start start_nanoseconds) IsMoment },
     ghost end_in: { ForSome (end_at end end_nanoseconds) IsMoment },
-    ghost ordered: { ForSome (end_at start start_nanoseconds) (λ s. ForSome (end_at end end_nanoseconds) (λ e. s ≤ℤ e)) },
+    ghost ordered: { ForSome (end_at start start_nanoseconds) (λ s.
+        ForSome (end_at end end_nanoseconds) (λ e. s ≤ℤ e)) },
 }
 
 /// The second and the nanoseconds of an end.

@@ -9,9 +9,9 @@ ghost use Rattle.streetmap_geojson.specs.FeatureValue.{untimed};
 ghost use Rattle.streetmap_geojson.specs.Times.{time_of};
 ghost use Rattle.streetmap_feature_text.specs.Written.{feature_data};
 
+use crate::feature_json::push_feature;
 use crate::packed::read_text;
 use crate::packed_interval::PackedInterval;
-use crate::text_writing::push_feature;
 use serde_json::Value;
 use std::alloc::{AllocError, Global};
 use std::marker::Model;
@@ -56,7 +56,8 @@ impl Model for WrittenFeature {
 
     ghost coded = { coded_feature };
 
-    ghost view = { λ w. unpacked (string_bytes w.kept.value.text) (packed_interval_value w.kept.value.time) };
+    ghost view = { λ w. unpacked (string_bytes w.kept.value.text)
+        (packed_interval_value w.kept.value.time) };
 
     ghost invariant = { λ w. IsWritten (string_bytes w.kept.value.text)
         (string_bytes w.kept.value.id) (option_map box_value w.kept.value.extent)
@@ -126,7 +127,7 @@ impl WrittenFeature {
         self.kept.id.as_str()
     }
 
-    /// The extent of the geometry, in millimetres: none if there is none.
+    /// The extent of the geometry, in millimetres; none without a geometry.
     pub fn extent(&self) -> Option<GridBox>
         ensures { option_map box_value result ≡ option_map extent_of self.now.geometry }
     {
@@ -169,10 +170,10 @@ impl WrittenFeature {
         alloc: Global,
         property: Option<&str>,
     ) -> Result<Result<Option<Interval>, TimeFault>, AllocError>
-        ensures told { IfOk result (λ told. IfOk told (λ t.
+        ensures reported { IfOk result (λ reported. IfOk reported (λ t.
             time_of (option_map (λ s. s.now) property.entry) self.now.properties
             ≡ Ok (option_map interval_value t))) }
-        ensures refused { IfOk result (λ told. IfErr told (λ e.
+        ensures refused { IfOk result (λ reported. IfErr reported (λ e.
             time_of (option_map (λ s. s.now) property.entry) self.now.properties ≡ Err e)) }
     {
         match &self.kept.feature {

@@ -1,4 +1,4 @@
--- Never more positions are read than may be.
+-- No more positions are read than allowed.
 use Rattle.std.proofs.Common.{◌≡◌, ℕ, ◌+◌, ◌<◌, ◌≤◌, Bool, true, false, cond, ltb, List, [], ◌∷◌, length, Option, None, Some, Ok, Err, refl, subst, arith, codes, is_some}
 use Rattle.std.proofs.lemmas.Bool.{ltb-true}
 use Rattle.serde_json.specs.Data.{Data, null, boolean, number, string, array, object}
@@ -10,7 +10,7 @@ use Rattle.streetmap_geojson.specs.declared.kind.Kind.{Kind}
 use Rattle.streetmap_geojson.specs.declared.kind.Kind.TheVariants.{Simple, Collection}
 use Rattle.streetmap_geojson.specs.declared.kind.SimpleKind.{SimpleKind}
 use Rattle.streetmap_geojson.specs.declared.kind.SimpleKind.TheVariants as kinds
-use Rattle.streetmap_geojson.specs.Reading.{Read, position_of, position, inside, each, positions, line, lines, ends_of, ring, rings, some_rings, polygon, polygons, under, coordinates_as, unless_empty, array_at, kind_at, simple_as, member_as, member_of_collection, members, collection, single_of, collection_of, somes, geometry_as, geometry, max_positions}
+use Rattle.streetmap_geojson.specs.ParsedGeometries.{Read, position_of, position, inside, each, positions, line, lines, ends_of, ring, rings, some_rings, polygon, polygons, under, coordinates_as, unless_empty, array_at, kind_at, simple_as, member_as, member_of_collection, members, collection, single_of, collection_of, somes, geometry_as, geometry, max_positions}
 use Rattle.streetmap_geojson.proofs.Steps.{bind_ok, guard_ok, passed_ok, ok_is}
 
 abbrev pub Bounded : {S A : Type 0} → (S → ℕ → Read A) → Type 0

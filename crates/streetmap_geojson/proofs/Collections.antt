@@ -10,8 +10,8 @@ use Rattle.streetmap_geojson.specs.declared.fault.Fault.TheVariants.{WrongType}
 use Rattle.streetmap_geojson.specs.declared.fault.CollectionFault.{CollectionFault}
 use Rattle.streetmap_geojson.specs.declared.fault.CollectionFault.TheVariants as faults
 use Rattle.streetmap_geojson.specs.FeatureValue.{FeatureValue}
-use Rattle.streetmap_geojson.specs.Reading.{list_of}
-use Rattle.streetmap_geojson.specs.FeatureReading.{feature_at}
+use Rattle.streetmap_geojson.specs.ParsedGeometries.{list_of}
+use Rattle.streetmap_geojson.specs.ParsedFeatures.{feature_at}
 use Rattle.streetmap_geojson.specs.Collection.{at_place, and_more, features_after, is_collection, features_in, features, AreAfter, AreFeatures, FailsAt, GivesAt}
 use Rattle.streetmap_geojson.proofs.Wholes.{feature_found, feature_again}
 

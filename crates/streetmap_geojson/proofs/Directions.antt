@@ -9,7 +9,7 @@ use Rattle.streetmap_grid.specs.WellFormed.{is_oriented_simple}
 use Rattle.streetmap_grid.proofs.Turning.{oriented_right}
 use Rattle.streetmap_geojson.specs.declared.kind.SimpleKind.{SimpleKind}
 use Rattle.streetmap_geojson.specs.declared.kind.SimpleKind.TheVariants as kinds
-use Rattle.streetmap_geojson.specs.Reading.{list_of, somes, collection_of, single_of}
+use Rattle.streetmap_geojson.specs.ParsedGeometries.{list_of, somes, collection_of, single_of}
 use Rattle.streetmap_geojson.specs.Meaning.{IsArray, AreEach, ArePolygon, AreSimple, AreCoordinates, ReadsAsMember, ReadsAsGeometry}
 use Rattle.streetmap_geojson.specs.FeatureInvariant.{is_oriented_if}
 

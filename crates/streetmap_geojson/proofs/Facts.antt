@@ -1,4 +1,4 @@
--- What the types keep is true of what they stand for.
+-- What the types keep is true of the values that they represent.
 use Rattle.std.proofs.Common.{Option, None, Some, option_map, IsTrue}
 use Rattle.std.specs.Str.{is_utf8}
 use Rattle.streetmap_grid.specs.declared.geometry.Geometry.{Geometry}

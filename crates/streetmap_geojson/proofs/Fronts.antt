@@ -7,7 +7,7 @@ use Rattle.streetmap_geojson.specs.declared.fault.Fault.{Fault}
 use Rattle.streetmap_geojson.specs.declared.fault.JsonFault.{JsonFault}
 use Rattle.streetmap_geojson.specs.declared.fault.JsonFault.TheVariants as errors
 use Rattle.streetmap_geojson.specs.Fault.{◌>>=◌, Fails}
-use Rattle.streetmap_geojson.specs.Reading.{each, somes, under}
+use Rattle.streetmap_geojson.specs.ParsedGeometries.{each, somes, under}
 
 abbrev pub with_front : {A : Type 0} → List A → Result (List A × ℕ) Fault → Result (List A × ℕ) Fault
 with_front front read = read >>= λ x. Ok (front ++ x.0, x.1)
@@ -16,7 +16,7 @@ regroup : {A : Type 0} (front : List A) (a : A) (read : Result (List A × ℕ) F
 regroup {A} front a (Ok x) = ap (λ (xs : List A). Ok (xs, x.1)) (simp append_assoc)
 regroup front a (Err f) = refl
 
--- what is left is the element at i, and what is behind it
+-- what is left is the element at i, and what comes after it
 left_is : {V : Type 0} (view : V → Data) (vs : List V) (i : ℕ) (v : V) → i < length vs → v ≡ get_or vs i v → map view (drop i vs) ≡ view v ∷ map view (drop (i + 1) vs)
 left_is view vs i v lt is = rw (add-one, drop-cons vs i v lt) (ap (λ w. view w ∷ map view (drop (suc i) vs)) (sym is))
 
@@ -60,7 +60,7 @@ pub Fails-under : {A B : Type 0} (e : JsonFault) (g : A → B) (read : Result (A
 Fails-under errors.Memory g read h = tt
 Fails-under (errors.Fault f) g read h = rw h refl
 
--- one more that is there, or none
+-- one more element, present or absent
 pub push_some : {X A : Type 0} (view : X → A) (xs : List X) (x : X) (front : List (Option A)) → map view xs ≡ somes front → map view (xs ++ x ∷ []) ≡ somes (front ++ Some (view x) ∷ [])
 push_some view xs x front e = rw (map_push view xs x, e, somes-append front (Some (view x) ∷ [])) refl
 

@@ -13,7 +13,7 @@ use Rattle.streetmap_geojson.specs.declared.kind.Kind.TheVariants.{Simple, Colle
 use Rattle.streetmap_geojson.specs.declared.kind.SimpleKind.{SimpleKind}
 use Rattle.streetmap_geojson.specs.declared.kind.SimpleKind.TheVariants as kinds
 use Rattle.streetmap_geojson.specs.Fault.{Gives}
-use Rattle.streetmap_geojson.specs.Reading.{Read, list_of, under, each, coordinates_as, unless_empty, array_at, kind_at, simple_as, member_as, member_of_collection, somes, collection_of, members, collection, single_of, geometry_as, geometry, max_positions}
+use Rattle.streetmap_geojson.specs.ParsedGeometries.{Read, list_of, under, each, coordinates_as, unless_empty, array_at, kind_at, simple_as, member_as, member_of_collection, somes, collection_of, members, collection, single_of, geometry_as, geometry, max_positions}
 use Rattle.streetmap_geojson.specs.Meaning.{AreEach, AreSimple, AreCoordinates, IsArrayAt, ReadsAsSimple, ReadsAsMember, ReadsAsCollection, ReadsAsGeometry, counts, simple_count, position_count, count_if}
 use Rattle.streetmap_geojson.specs.FeatureInvariant.{is_oriented_if}
 use Rattle.streetmap_geojson.proofs.Directions.{geometry_oriented}

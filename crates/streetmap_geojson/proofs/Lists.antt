@@ -1,9 +1,9 @@
--- Lists of values beside the items that they stand for.
+-- Lists of values, and the items that they represent.
 use Rattle.std.proofs.Common.{◌≡◌, ◌<◌, ◌≤◌, List, [], ◌∷◌, length, get_or, Option, None, Some, option_map, ok_or, Ok, refl, ap, arith}
 use Rattle.serde_json.specs.Data.{Data, Items}
 use Rattle.serde_json.specs.View.{items_of}
 use Rattle.streetmap_geojson.specs.declared.fault.Fault.{Fault}
-use Rattle.streetmap_geojson.specs.Reading.{list_of}
+use Rattle.streetmap_geojson.specs.ParsedGeometries.{list_of}
 
 pub list_of_three : {V : Type 0} (vs : List V) (a b c : V) → 3 ≤ length vs → length vs < 4 → a ≡ get_or vs 0 a → b ≡ get_or vs 1 b → c ≡ get_or vs 2 c → vs ≡ a ∷ b ∷ c ∷ []
 list_of_three [] a b c low high p q r = absurd (omega arith)

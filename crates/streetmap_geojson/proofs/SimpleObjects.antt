@@ -6,7 +6,7 @@ use Rattle.streetmap_geojson.specs.declared.fault.Fault.TheVariants.{BadGeometry
 use Rattle.streetmap_geojson.specs.declared.kind.SimpleKind.{SimpleKind}
 use Rattle.streetmap_geojson.specs.declared.kind.SimpleKind.TheVariants as kinds
 use Rattle.streetmap_geojson.specs.FeatureMembers.{simple_object}
-use Rattle.streetmap_geojson.specs.Reading.{under, single_of, inside, unless_empty, coordinates_as, simple_as, geometry}
+use Rattle.streetmap_geojson.specs.ParsedGeometries.{under, single_of, inside, unless_empty, coordinates_as, simple_as, geometry}
 
 -- it reads as its coordinates
 pub simple_is : (k : SimpleKind) (d : Data) (n : ℕ) → geometry (simple_object k d) n ≡ under single_of (inside BadGeometry (unless_empty (coordinates_as k)) d n)

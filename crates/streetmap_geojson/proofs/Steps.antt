@@ -1,6 +1,6 @@
 -- A reading step by step.
 use Rattle.serde_json.specs.Data.{Data}
-use Rattle.streetmap_geojson.specs.Reading.{Read, each}
+use Rattle.streetmap_geojson.specs.ParsedGeometries.{Read, each}
 use Rattle.std.proofs.Common.{List, [], ◌∷◌, length, suc, sym, ap, ◌∙◌, ◌≡◌, ℕ, Bool, true, false, cond, Result, Ok, Err, refl}
 use Rattle.streetmap_geojson.specs.declared.fault.Fault.{Fault}
 use Rattle.streetmap_geojson.specs.Fault.{◌>>=◌}
@@ -22,7 +22,7 @@ passed_ok false d r y e = absurd cc
 pub ok_is : {A : Type 0} (x y : A) → (let done : Result A Fault = Ok x in done) ≡ Ok y → x ≡ y
 ok_is x y e = cc
 
--- as many are read as there are
+-- the number of values read is the number of elements
 pub each_length : {A : Type 0} (f : Data → ℕ → Read A) (ds : List Data) (n : ℕ) (xs : List A) (m : ℕ) → each f ds n ≡ Ok (xs, m) → length xs ≡ length ds
 unfolding each
 each_length {A} f [] n xs m e = let is : ([], n) ≡ (xs, m) = ok_is ([], n) (xs, m) e in ap (λ (w : List A × ℕ). length w.0) (sym is)

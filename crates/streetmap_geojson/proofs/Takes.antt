@@ -9,7 +9,7 @@ use Rattle.streetmap_grid.specs.Ring.{is_closed, is_wrong, double_area, turned, 
 use Rattle.streetmap_grid.specs.Values.{PositionValue}
 use Rattle.streetmap_geojson.specs.declared.fault.Fault.{Fault}
 use Rattle.streetmap_geojson.specs.declared.fault.Fault.TheVariants.{BadPosition, OutOfGrid, TooManyPositions, ShortLine, ShortRing, OpenRing, BadGeometry}
-use Rattle.streetmap_geojson.specs.Reading.{Read, list_of, whole, coordinate, position_of, position, inside, each, positions, line, lines, ends_of, ring, rings, some_rings, polygon, polygons, max_positions}
+use Rattle.streetmap_geojson.specs.ParsedGeometries.{Read, list_of, whole, coordinate, position_of, position, inside, each, positions, line, lines, ends_of, ring, rings, some_rings, polygon, polygons, max_positions}
 use Rattle.streetmap_geojson.specs.Meaning.{ReadsAsCoordinate, ArePosition, IsArray, AreEach, ArePositions, AreLine, AreLines, AreRing, AreRings, ArePolygon, ArePolygons, counts, line_count, polygon_count}
 use Rattle.streetmap_geojson.proofs.Steps.{bind_ok, guard_ok, passed_ok, ok_is}
 

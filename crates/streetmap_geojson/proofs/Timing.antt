@@ -71,7 +71,7 @@ from_is (Some (number n)) time e = absurd cc
 from_is (Some (array ds)) time e = absurd cc
 from_is (Some (object ms)) time e = absurd cc
 
--- the time that a property tells is an interval
+-- the time that a property gives is an interval
 pub time_is : (time_property : Option (List ℕ)) (ps : Data) (time : Option IntervalValue) → time_of time_property ps ≡ Ok time → IsIntervalIf time
 time_is None ps time e = nothing_said time (none_is time e)
 time_is (Some name) ps time e = from_is (get name ps) time e

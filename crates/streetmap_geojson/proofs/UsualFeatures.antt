@@ -6,15 +6,15 @@ use Rattle.serde_json.proofs.OnLiterals.{serde_json_on_literals}
 use Rattle.streetmap_geojson.specs.declared.fault.Fault.{Fault}
 use Rattle.streetmap_geojson.specs.declared.fault.Fault.TheVariants.{TooDeep}
 use Rattle.streetmap_geojson.specs.Fault.{◌>>=◌}
-use Rattle.streetmap_geojson.specs.FeatureReading.{feature, feature_at, unless, max_levels}
+use Rattle.streetmap_geojson.specs.ParsedFeatures.{feature, feature_at, unless, max_levels}
 use Rattle.streetmap_geojson.specs.FeatureMembers.{feature_object, flat_feature}
 
--- a test, and what is done where it passes
+-- a test, and what is done if it passes
 passes : {A : Type 0} (b : Bool) (fault : Fault) (r : Result A Fault) → (unless b fault >>= λ _. r) ≡ cond b r (Err fault)
 passes true fault r = refl
 passes false fault r = refl
 
--- it reads as its members, where it is nested no deeper than it may
+-- it reads as its members, if it is nested no deeper than allowed
 feature_is : (time_property : Option (List ℕ)) (g i p : Data)
     → feature time_property (feature_object g i p) ≡ cond (leb (depth (feature_object g i p)) max_levels) (flat_feature time_property g i p) (Err TooDeep)
 unfolding serde_json_on_literals feature_at flat_feature

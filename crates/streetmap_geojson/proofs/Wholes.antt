@@ -16,10 +16,10 @@ use Rattle.streetmap_geojson.specs.declared.fault.JsonFault.{JsonFault}
 use Rattle.streetmap_geojson.specs.FeatureValue.{FeatureValue}
 use Rattle.streetmap_geojson.specs.Fault.{Gives}
 use Rattle.streetmap_geojson.specs.Id.{is_id, number_id, id_from, id_of, place_id}
-use Rattle.streetmap_geojson.specs.Reading.{geometry, value_of, max_positions}
+use Rattle.streetmap_geojson.specs.ParsedGeometries.{geometry, value_of, max_positions}
 use Rattle.streetmap_geojson.specs.Meaning.{ReadsAsGeometry, count_if, position_count}
 use Rattle.streetmap_geojson.specs.Times.{time_of, as_fault}
-use Rattle.streetmap_geojson.specs.FeatureReading.{unless, max_levels, is_feature, is_properties, properties_of, member_of, feature, feature_at}
+use Rattle.streetmap_geojson.specs.ParsedFeatures.{unless, max_levels, is_feature, is_properties, properties_of, member_of, feature, feature_at}
 use Rattle.streetmap_geojson.specs.FeatureMeaning.{IsId, IsIdOf, ReadsAs, ReadsAt}
 use Rattle.streetmap_geojson.proofs.Steps.{bind_ok, guard_ok, passed_ok, ok_is}
 use Rattle.streetmap_geojson.proofs.Geometries.{geometry_takes}
@@ -108,7 +108,7 @@ feature_found place time_property d f is =
       named = id_of_found place (get (codes "id") d) i.0 i.1;
       placed = subst (λ (v : Option GeometryValue). ReadsAsGeometry (member_of (codes "geometry") d) v) same found.0;
       few = few;
-      told = ps.0;
+      reported = ps.0;
       kept = ps.1;
       whole = ps.2;
       timed = time_found time_property p.0 w.0 w.1;
@@ -117,7 +117,7 @@ feature_found place time_property d f is =
 pub feature_again : (place : Option ℕ) (time_property : Option (List ℕ)) (d : Data) (f : FeatureValue) → ReadsAt place time_property d f → feature_at place time_property d ≡ Ok f
 unfolding feature_at
 feature_again place time_property d f h =
-    let props : properties_of (member_of (codes "properties") d) ≡ Ok f.properties = rw (← h.told) (properties_again f.properties h.kept h.whole) in
+    let props : properties_of (member_of (codes "properties") d) ≡ Ok f.properties = rw (← h.reported) (properties_again f.properties h.kept h.whole) in
     rw (h.typed, le-leb (depth d) max_levels h.flat, id_of_again place (get (codes "id") d) f.id h.named, place_again (member_of (codes "geometry") d) f.geometry h.placed h.few, props, time_again time_property f.properties f.time h.timed) refl
 
 pub is_found : {X : Type 0} (view : X → FeatureValue) (r : Result X JsonFault) (time_property : Option (List ℕ)) (d : Data) → Gives view r (feature time_property d) → IfOk r (λ x. ReadsAs time_property d (view x))

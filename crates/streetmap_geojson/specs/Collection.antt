@@ -9,9 +9,9 @@ use Rattle.streetmap_geojson.specs.declared.fault.Fault.TheVariants.{WrongType}
 use Rattle.streetmap_geojson.specs.declared.fault.CollectionFault.{CollectionFault}
 use Rattle.streetmap_geojson.specs.declared.fault.CollectionFault.TheVariants as faults
 use Rattle.streetmap_geojson.specs.FeatureValue.{FeatureValue}
-use Rattle.streetmap_geojson.specs.Reading.{list_of}
+use Rattle.streetmap_geojson.specs.ParsedGeometries.{list_of}
 use Rattle.streetmap_geojson.specs.Meaning.{IsArrayAt}
-use Rattle.streetmap_geojson.specs.FeatureReading.{feature_at}
+use Rattle.streetmap_geojson.specs.ParsedFeatures.{feature_at}
 use Rattle.streetmap_geojson.specs.FeatureMeaning.{ReadsAt}
 
 -- a fault of the feature at that place

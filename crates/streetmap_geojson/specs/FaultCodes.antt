@@ -1,4 +1,4 @@
--- The names of faults in answers, and the sentences on them, which are empty if there is none.
+-- The names of faults in answers, and the sentences on them, which may be empty.
 use Rattle.std.specs.Prelude.{ℕ, List, [], codes}
 use Rattle.streetmap_geojson.specs.declared.fault.Fault.{Fault}
 use Rattle.streetmap_geojson.specs.declared.fault.Fault.TheVariants as fault

@@ -8,10 +8,10 @@ use Rattle.streetmap_grid.specs.WellFormed.{IsGeometry, is_oriented}
 use Rattle.streetmap_moment.specs.IntervalValue.{IntervalValue, IsInterval}
 use Rattle.streetmap_geojson.specs.FeatureValue.{FeatureValue}
 use Rattle.streetmap_geojson.specs.Id.{is_id}
-use Rattle.streetmap_geojson.specs.Reading.{max_positions}
+use Rattle.streetmap_geojson.specs.ParsedGeometries.{max_positions}
 use Rattle.streetmap_geojson.specs.Meaning.{count_if, position_count}
 use Rattle.streetmap_json.specs.ExactData.{is_exact}
-use Rattle.streetmap_geojson.specs.FeatureReading.{is_properties}
+use Rattle.streetmap_geojson.specs.ParsedFeatures.{is_properties}
 
 abbrev pub IsGeometryIf : Option GeometryValue → Type 0
 IsGeometryIf None = Unit {0}

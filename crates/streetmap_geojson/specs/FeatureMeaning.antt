@@ -8,9 +8,9 @@ use Rattle.serde_json.specs.Find.{as_integer, get}
 use Rattle.serde_json.specs.Written.{has_float}
 use Rattle.streetmap_geojson.specs.FeatureValue.{FeatureValue}
 use Rattle.streetmap_geojson.specs.Id.{is_id}
-use Rattle.streetmap_geojson.specs.Reading.{max_positions}
+use Rattle.streetmap_geojson.specs.ParsedGeometries.{max_positions}
 use Rattle.streetmap_geojson.specs.Meaning.{ReadsAsGeometry, count_if, position_count}
-use Rattle.streetmap_geojson.specs.FeatureReading.{is_feature, is_properties, member_of, max_levels}
+use Rattle.streetmap_geojson.specs.ParsedFeatures.{is_feature, is_properties, member_of, max_levels}
 use Rattle.streetmap_geojson.specs.Times.{IsTimeOf}
 
 -- a text that is an id, or a whole number, by its decimal text
@@ -31,7 +31,7 @@ pub record ReadsAt (place : Option ℕ) (time_property : Option (List ℕ)) (d :
   pub named : IsIdOf place (get (codes "id") d) f.id
   pub placed : ReadsAsGeometry (member_of (codes "geometry") d) f.geometry
   pub few : count_if position_count f.geometry ≤ max_positions
-  pub told : f.properties ≡ member_of (codes "properties") d
+  pub reported : f.properties ≡ member_of (codes "properties") d
   pub kept : IsTrue (is_properties f.properties)
   pub whole : has_float f.properties ≡ false
   pub timed : IsTimeOf time_property f.properties f.time

@@ -7,11 +7,11 @@ use Rattle.streetmap_geojson.specs.declared.geometry_member.GeometryMember.{Geom
 use Rattle.streetmap_geojson.specs.declared.geometry_member.GeometryMember.TheVariants as members
 use Rattle.streetmap_geojson.specs.declared.kind.SimpleKind.{SimpleKind}
 use Rattle.streetmap_geojson.specs.Fault.{◌>>=◌}
-use Rattle.streetmap_geojson.specs.FeatureReading.{properties_of}
+use Rattle.streetmap_geojson.specs.ParsedFeatures.{properties_of}
 use Rattle.streetmap_geojson.specs.FeatureValue.{FeatureValue}
 use Rattle.streetmap_geojson.specs.Id.{id_of}
 use Rattle.streetmap_geojson.specs.Kind.{kind_name}
-use Rattle.streetmap_geojson.specs.Reading.{geometry, value_of}
+use Rattle.streetmap_geojson.specs.ParsedGeometries.{geometry, value_of}
 use Rattle.streetmap_geojson.specs.Times.{time_of, as_fault}
 
 -- the object of a type that has coordinates and the value of its `coordinates`
@@ -32,11 +32,11 @@ feature_object geometry id properties = object (member (codes "geometry") geomet
     (member (codes "type") (string (codes "Feature")) no_members))))
 
 -- what these members read as, or the first fault, if they are nested no deeper than allowed
-unfoldable pub flat_feature : (time_property : Option (List ℕ)) → (placed named told : Data)
+unfoldable pub flat_feature : (time_property : Option (List ℕ)) → (placed named reported : Data)
     → Result FeatureValue Fault
-flat_feature time_property placed named told = do
+flat_feature time_property placed named reported = do
   id ← id_of None (Some named)
   g ← value_of (geometry placed 0)
-  properties ← properties_of told
+  properties ← properties_of reported
   time ← as_fault (time_of time_property properties)
   Ok (record { id = id; geometry = g; properties = properties; time = time })

@@ -5,9 +5,9 @@ pub mod Kind
 pub mod Fault
 pub mod FaultCodes
 pub mod Times
-pub mod Reading
+pub mod ParsedGeometries
 pub mod Meaning
-pub mod FeatureReading
+pub mod ParsedFeatures
 pub mod FeatureMembers
 pub mod FeatureMeaning
 pub mod FeatureInvariant

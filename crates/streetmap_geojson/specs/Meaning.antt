@@ -11,7 +11,8 @@ use Rattle.streetmap_grid.specs.Ring.{is_closed, oriented}
 use Rattle.streetmap_geojson.specs.declared.kind.Kind.TheVariants.{Simple, Collection}
 use Rattle.streetmap_geojson.specs.declared.kind.SimpleKind.{SimpleKind}
 use Rattle.streetmap_geojson.specs.declared.kind.SimpleKind.TheVariants as kinds
-use Rattle.streetmap_geojson.specs.Reading.{list_of, kind_at, somes, collection_of, single_of}
+use Rattle.streetmap_geojson.specs.ParsedGeometries.{list_of, kind_at, somes, collection_of}
+use Rattle.streetmap_geojson.specs.ParsedGeometries.{single_of}
 
 -- a whole number of the grid
 abbrev pub ReadsAsCoordinate : Data → ℤ → Type 0

@@ -24,7 +24,7 @@ time_from (Some null) = Ok None
 time_from (Some (string s)) = there (property_of s)
 time_from (Some _) = Err times.BadTime
 
--- the time under the property of that name; without a name there is none
+-- the time under the property of that name; none without a name
 abbrev pub time_of : (time_property : Option (List ℕ)) → (properties : Data)
     → Result (Option IntervalValue) TimeFault
 time_of None properties = Ok None

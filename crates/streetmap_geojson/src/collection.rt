@@ -3,17 +3,17 @@ ghost use Rattle.std.specs.Prelude.{◌≡◌, ◌<◌, ◌^◌, ◌+◌, List, 
 ghost use Rattle.std.specs.Prelude.{option_and_then, codes};
 ghost use Rattle.serde_json.specs.View.{view, items_view};
 ghost use Rattle.serde_json.specs.Find.{as_array, get};
-ghost use Rattle.streetmap_geojson.specs.Reading.{list_of};
+ghost use Rattle.streetmap_geojson.specs.ParsedGeometries.{list_of};
 ghost use Rattle.streetmap_geojson.specs.FeatureValue.{FeatureValue};
 ghost use Rattle.streetmap_geojson.specs.FeatureView.{feature_value};
-ghost use Rattle.streetmap_geojson.specs.FeatureReading.{feature_at};
+ghost use Rattle.streetmap_geojson.specs.ParsedFeatures.{feature_at};
 ghost use Rattle.streetmap_geojson.specs.Collection.{GivesAt, at_place, features_after};
 ghost use Rattle.streetmap_geojson.specs.Collection.{features_in, features, is_collection};
 ghost use Rattle.streetmap_geojson.specs.Collection.{AreFeatures};
 
 use crate::fault::{CollectionFault, Fault, JsonFault};
 use crate::feature::Feature;
-use crate::feature_reading::read_at;
+use crate::feature_parser::read_at;
 use crate::geometry::array_in;
 use serde_json::Value;
 use std::alloc::Global;

@@ -8,10 +8,12 @@ ghost use Rattle.streetmap_grid.specs.Views.{polygons_value, items_of};
 ghost use Rattle.streetmap_geojson.specs.Fault.{Gives};
 ghost use Rattle.streetmap_geojson.specs.declared.fault.Fault.TheVariants.{BadPosition};
 ghost use Rattle.streetmap_geojson.specs.declared.fault.Fault.TheVariants.{BadGeometry};
-ghost use Rattle.streetmap_geojson.specs.Reading.{ends_of, some_rings, coordinate, position_of};
-ghost use Rattle.streetmap_geojson.specs.Reading.{elements_of, position, positions, line, lines};
-ghost use Rattle.streetmap_geojson.specs.Reading.{ring, rings, polygon, polygons, inside};
-ghost use Rattle.streetmap_geojson.specs.Reading.{max_positions};
+ghost use Rattle.streetmap_geojson.specs.ParsedGeometries.{ends_of, some_rings, coordinate};
+ghost use Rattle.streetmap_geojson.specs.ParsedGeometries.{position_of};
+ghost use Rattle.streetmap_geojson.specs.ParsedGeometries.{elements_of, position, positions, line};
+ghost use Rattle.streetmap_geojson.specs.ParsedGeometries.{lines};
+ghost use Rattle.streetmap_geojson.specs.ParsedGeometries.{ring, rings, polygon, polygons, inside};
+ghost use Rattle.streetmap_geojson.specs.ParsedGeometries.{max_positions};
 
 use crate::fault::{Fault, JsonFault};
 use serde_json::Value;
@@ -20,7 +22,7 @@ use streetmap_grid::{GridFault, Line, NonEmpty, Polygon, Position, Ring};
 
 const MAX_POSITIONS: usize = 100_000;
 
-#[tactic(auto, unfolding(crate::specs::Reading::coordinate))]
+#[tactic(auto, unfolding(crate::specs::ParsedGeometries::coordinate))]
 fn read_coordinate(value: &Value) -> Result<i64, JsonFault>
     ensures reads { Gives (λ x. x) result (coordinate (view value.now)) }
     ensures in_range { IfOk result (λ x. IsCoordinate x) }
@@ -61,7 +63,7 @@ fn read_numbers(elements: &[Value]) -> Result<Position, JsonFault>
 }
 
 /// The position of the elements of an array. `seen` counts the positions of the feature.
-#[tactic(auto, unfolding(crate::specs::Reading::position))]
+#[tactic(auto, unfolding(crate::specs::ParsedGeometries::position))]
 pub(crate) fn read_position(elements: &[Value], seen: &mut usize) -> Result<Position, JsonFault>
     requires { seen.old ≤ max_positions }
     ensures reads { Gives (λ p. (position_value p, seen.new)) result
@@ -85,7 +87,7 @@ pub(crate) fn elements(value: &Value, fault: Fault) -> Result<&[Value], JsonFaul
     }
 }
 
-#[tactic(auto, unfolding(crate::specs::Reading::inside))]
+#[tactic(auto, unfolding(crate::specs::ParsedGeometries::inside))]
 fn read_position_in(value: &Value, seen: &mut usize) -> Result<Position, JsonFault>
     requires { seen.old ≤ max_positions }
     ensures reads { Gives (λ p. (position_value p, seen.new)) result
@@ -131,7 +133,7 @@ pub(crate) fn read_some_positions(
 }
 
 /// The line of an array's elements.
-#[tactic(auto, unfolding(crate::specs::Reading::line))]
+#[tactic(auto, unfolding(crate::specs::ParsedGeometries::line))]
 pub(crate) fn read_line(
     alloc: Global,
     values: &[Value],
@@ -149,7 +151,7 @@ pub(crate) fn read_line(
     }
 }
 
-#[tactic(auto, unfolding(crate::specs::Reading::inside))]
+#[tactic(auto, unfolding(crate::specs::ParsedGeometries::inside))]
 fn read_line_in(alloc: Global, value: &Value, seen: &mut usize) -> Result<Line, JsonFault>
     requires { seen.old ≤ max_positions }
     ensures reads { Gives (λ l. (line_value l, seen.new)) result
@@ -200,7 +202,7 @@ fn ring_of(positions: Vec<Position>) -> Result<Ring, JsonFault>
     }
 }
 
-#[tactic(auto, unfolding(crate::specs::Reading::ring))]
+#[tactic(auto, unfolding(crate::specs::ParsedGeometries::ring))]
 fn read_ring(alloc: Global, values: &[Value], seen: &mut usize) -> Result<Ring, JsonFault>
     requires { seen.old ≤ max_positions }
     ensures reads { Gives (λ r. (ring_value r, seen.new)) result
@@ -211,7 +213,7 @@ fn read_ring(alloc: Global, values: &[Value], seen: &mut usize) -> Result<Ring, 
     ring_of(positions)
 }
 
-#[tactic(auto, unfolding(crate::specs::Reading::inside))]
+#[tactic(auto, unfolding(crate::specs::ParsedGeometries::inside))]
 fn read_ring_in(alloc: Global, value: &Value, seen: &mut usize) -> Result<Ring, JsonFault>
     requires { seen.old ≤ max_positions }
     ensures reads { Gives (λ r. (ring_value r, seen.new)) result
@@ -246,7 +248,7 @@ fn polygon_of(rings: Vec<Ring>) -> Result<Polygon, JsonFault>
 }
 
 /// The polygon of an array's elements.
-#[tactic(auto, unfolding(crate::specs::Reading::polygon))]
+#[tactic(auto, unfolding(crate::specs::ParsedGeometries::polygon))]
 pub(crate) fn read_polygon(
     alloc: Global,
     values: &[Value],
@@ -261,7 +263,7 @@ pub(crate) fn read_polygon(
     polygon_of(rings)
 }
 
-#[tactic(auto, unfolding(crate::specs::Reading::inside))]
+#[tactic(auto, unfolding(crate::specs::ParsedGeometries::inside))]
 fn read_polygon_in(alloc: Global, value: &Value, seen: &mut usize) -> Result<Polygon, JsonFault>
     requires { seen.old ≤ max_positions }
     ensures reads { Gives (λ p. (polygon_value p, seen.new)) result

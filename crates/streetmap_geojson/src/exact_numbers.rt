@@ -11,7 +11,7 @@ use serde_json::{Map, Number, Value};
 /// Whether every number in it, at any depth, is whole: from -2^63 to 2^64 - 1.
 #[cycle(exact)]
 pub(crate) fn is_exact(value: &Value) -> bool
-    ensures told { result ≡ is_exact (view value.now) }
+    ensures reported { result ≡ is_exact (view value.now) }
     ensures whole { result ≡ not (has_float (view value.now)) }
 {
     match value {
@@ -25,7 +25,7 @@ pub(crate) fn is_exact(value: &Value) -> bool
 
 #[cycle(exact)]
 fn are_exact(items: &Vec<Value>) -> bool
-    ensures told { result ≡ are_exact (items_view items.now.items) }
+    ensures reported { result ≡ are_exact (items_view items.now.items) }
     ensures whole { result ≡ not (items_have_float (items_view items.now.items)) }
 {
     for item in items {
@@ -38,7 +38,7 @@ fn are_exact(items: &Vec<Value>) -> bool
 
 #[cycle(exact)]
 fn are_exact_members(members: &Map<String, Value>) -> bool
-    ensures told { result ≡ are_exact_members (members_view members.now.entries) }
+    ensures reported { result ≡ are_exact_members (members_view members.now.entries) }
     ensures whole { result ≡ not (members_have_float (members_view members.now.entries)) }
 {
     let _ordered = members.len();
@@ -60,7 +60,7 @@ fn is_utf8_text(text: &String) -> bool
 }
 
 fn is_whole(number: &Number) -> bool
-    ensures told { result ≡ is_whole (number_view number.now) }
+    ensures reported { result ≡ is_whole (number_view number.now) }
     ensures whole { result ≡ not (is_float (number_view number.now)) }
 {
     if let Some(n) = number.as_u64() {

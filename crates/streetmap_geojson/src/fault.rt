@@ -84,7 +84,7 @@ impl Fault {
         }
     }
 
-    /// The sentence on the fault in answers, empty if there is none.
+    /// The sentence on the fault in answers, empty if it has none.
     pub fn description(&self) -> &'static str
         ensures { result.now ≡ fault_description self.now }
     {
@@ -117,7 +117,7 @@ impl JsonFault {
         }
     }
 
-    /// The sentence on the fault in answers, empty if there is none.
+    /// The sentence on the fault in answers, empty if it has none.
     pub fn description(&self) -> &'static str
         ensures { result.now ≡ json_fault_description self.now }
     {
@@ -174,7 +174,7 @@ impl CollectionFault {
         }
     }
 
-    /// The sentence on the fault in answers, empty if there is none.
+    /// The sentence on the fault in answers, empty if it has none.
     pub fn description(&self) -> &'static str
         ensures { result.now ≡ collection_fault_description self.now }
     {

@@ -115,7 +115,7 @@ impl Feature {
         self.time
     }
 
-    /// The extent of the geometry, in millimetres: none if there is none.
+    /// The extent of the geometry, in millimetres; none without a geometry.
     pub fn extent(&self) -> Option<GridBox>
         ensures { option_map box_value result ≡ option_map extent_of self.now.geometry }
     {
@@ -128,7 +128,7 @@ impl Feature {
     /// What the property of that name says of the time; none without a name. Refused if the
     /// property is neither absent nor null nor a readable text.
     pub fn time_under(&self, time_property: Option<&str>) -> Result<Option<Interval>, TimeFault>
-        ensures told { IfOk result (λ t.
+        ensures reported { IfOk result (λ t.
             time_of (option_map (λ s. s.now) time_property.entry) self.now.properties
             ≡ Ok (option_map interval_value t)) }
         ensures refused { IfErr result (λ e.

@@ -7,17 +7,17 @@ ghost use Rattle.streetmap_json.specs.ExactData.{is_exact};
 ghost use Rattle.streetmap_geojson.specs.Fault.{Gives};
 ghost use Rattle.streetmap_geojson.specs.FeatureMembers.{feature_object, flat_feature};
 ghost use Rattle.streetmap_geojson.specs.FeatureMembers.{geometry_data};
-ghost use Rattle.streetmap_geojson.specs.FeatureReading.{feature, is_properties, properties_of};
+ghost use Rattle.streetmap_geojson.specs.ParsedFeatures.{feature, is_properties, properties_of};
 ghost use Rattle.streetmap_geojson.specs.FeatureView.{feature_value};
 ghost use Rattle.streetmap_geojson.specs.Id as ids;
 ghost use Rattle.streetmap_geojson.specs.IdView.{id_value};
 
 use crate::fault::{Fault, JsonFault};
 use crate::feature::Feature;
-use crate::feature_reading::{check_properties, read_feature_time};
+use crate::feature_parser::{check_properties, read_feature_time};
 use crate::geometry_member::GeometryMember;
 use crate::id::{Id, read_id};
-use crate::nesting::nests_within;
+use crate::levels::nests_within;
 use serde_json::Value;
 use std::alloc::Global;
 
@@ -58,7 +58,7 @@ fn take_properties(value: Value) -> Result<Value, JsonFault>
 impl FeatureMembers {
     /// Whether none is nested so deep that the object has more than 64 levels.
     fn are_flat(&self) -> bool
-        ensures told { IsTrue result ↔ depth (feature_object
+        ensures reported { IsTrue result ↔ depth (feature_object
             (geometry_data self.now.geometry) (view self.now.id) (view self.now.properties)) ≤ 64 }
         ensures flat { IsTrue result → depth (view self.now.properties) ≤ 63 }
     {

@@ -4,10 +4,13 @@ ghost use Rattle.serde_json.specs.Find.{as_array, get};
 ghost use Rattle.serde_json.specs.View.{view, items_view};
 ghost use Rattle.streetmap_grid.specs.Views.{simple_value, simples_value, geometry_value};
 ghost use Rattle.streetmap_geojson.specs.Fault.{Gives};
-ghost use Rattle.streetmap_geojson.specs.Reading.{coordinates_as, simple_as, array_at, kind_at};
-ghost use Rattle.streetmap_geojson.specs.Reading.{member_of_collection, members, collection};
-ghost use Rattle.streetmap_geojson.specs.Reading.{geometry, inside, max_positions, single_of};
-ghost use Rattle.streetmap_geojson.specs.Reading.{unless_empty};
+ghost use Rattle.streetmap_geojson.specs.ParsedGeometries.{coordinates_as, simple_as, array_at};
+ghost use Rattle.streetmap_geojson.specs.ParsedGeometries.{kind_at};
+ghost use Rattle.streetmap_geojson.specs.ParsedGeometries.{member_of_collection, members};
+ghost use Rattle.streetmap_geojson.specs.ParsedGeometries.{collection};
+ghost use Rattle.streetmap_geojson.specs.ParsedGeometries.{geometry, inside, max_positions};
+ghost use Rattle.streetmap_geojson.specs.ParsedGeometries.{single_of};
+ghost use Rattle.streetmap_geojson.specs.ParsedGeometries.{unless_empty};
 ghost use Rattle.streetmap_geojson.specs.FeatureMembers.{simple_object};
 ghost use Rattle.streetmap_geojson.specs.declared.fault.Fault.TheVariants.{BadGeometry};
 
@@ -21,7 +24,7 @@ use serde_json::Value;
 use std::alloc::Global;
 use streetmap_grid::{Geometry, NonEmpty, SimpleGeometry};
 
-#[tactic(auto, unfolding(crate::specs::Reading::coordinates_as))]
+#[tactic(auto, unfolding(crate::specs::ParsedGeometries::coordinates_as))]
 fn read_coordinates(
     alloc: Global,
     kind: SimpleKind,
@@ -94,7 +97,7 @@ fn read_elements(
 }
 
 // The geometry of a kind, or none if its array is empty.
-#[tactic(auto, unfolding(crate::specs::Reading::simple_as))]
+#[tactic(auto, unfolding(crate::specs::ParsedGeometries::simple_as))]
 fn read_simple(
     alloc: Global,
     kind: SimpleKind,
@@ -111,7 +114,7 @@ fn read_simple(
 }
 
 // A member of `geometries`.
-#[tactic(auto, unfolding(crate::specs::Reading::member_of_collection))]
+#[tactic(auto, unfolding(crate::specs::ParsedGeometries::member_of_collection))]
 fn read_member(
     alloc: Global,
     value: &Value,
@@ -155,7 +158,7 @@ fn read_members(
     Ok(read)
 }
 
-#[tactic(auto, unfolding(crate::specs::Reading::collection))]
+#[tactic(auto, unfolding(crate::specs::ParsedGeometries::collection))]
 fn read_geometry_collection(
     alloc: Global,
     value: &Value,
@@ -185,7 +188,7 @@ fn single(simple: Option<SimpleGeometry>) -> Option<Geometry>
 }
 
 /// The geometry of a value, or none. `seen` counts the positions of the feature.
-#[tactic(auto, unfolding(crate::specs::Reading::geometry))]
+#[tactic(auto, unfolding(crate::specs::ParsedGeometries::geometry))]
 pub(crate) fn read_geometry(
     alloc: Global,
     value: &Value,
@@ -207,7 +210,7 @@ pub(crate) fn read_geometry(
 }
 
 // The geometry of a kind whose `coordinates` have that value, or none if its array is empty.
-#[tactic(auto, unfolding(crate::specs::Reading::inside))]
+#[tactic(auto, unfolding(crate::specs::ParsedGeometries::inside))]
 fn read_coordinates_value(
     alloc: Global,
     kind: SimpleKind,

@@ -7,13 +7,13 @@ ghost use Rattle.streetmap_geojson.specs.Fault.{Gives};
 ghost use Rattle.streetmap_geojson.specs.FeatureInvariant.{is_oriented_if};
 ghost use Rattle.streetmap_geojson.specs.FeatureMembers.{geometry_data, simple_object};
 ghost use Rattle.streetmap_geojson.specs.Meaning.{count_if, position_count};
-ghost use Rattle.streetmap_geojson.specs.Reading.{geometry, max_positions, value_of};
+ghost use Rattle.streetmap_geojson.specs.ParsedGeometries.{geometry, max_positions, value_of};
 
 use crate::fault::JsonFault;
-use crate::feature_reading::read_counted;
+use crate::feature_parser::read_counted;
 use crate::geometry::read_simple_object;
 use crate::kind::SimpleKind;
-use crate::nesting::nests_within;
+use crate::levels::nests_within;
 use serde_json::Value;
 use std::alloc::Global;
 use streetmap_grid::Geometry;

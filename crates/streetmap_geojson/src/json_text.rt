@@ -13,7 +13,7 @@ use serde_json::Value;
 use std::alloc::Global;
 
 /// The value of the bytes of a JSON text (RFC 8259) in UTF-8, read by
-/// [`streetmap_json::read_json`]. A number with a fraction of only zeros and no exponent, as
+/// [`streetmap_json::read_json`]. A number with a fraction of only zeros and no exponent, such as
 /// `1200.0`, is read as the whole number, and `-0` as `0`.
 ///
 /// # Errors

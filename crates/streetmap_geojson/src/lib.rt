@@ -10,7 +10,7 @@
 //! crate.
 //!
 //! Modules, in the order of reading: `fault`, `json_text`, `id`, `kind`, `feature`, `times`,
-//! `coordinates`, `geometry`, `nesting`, `exact_numbers`, `feature_reading`, `geometry_member`,
+//! `coordinates`, `geometry`, `levels`, `exact_numbers`, `feature_parser`, `geometry_member`,
 //! `feature_members`, `collection`, `copy`.
 #![tactic(auto)]
 
@@ -21,20 +21,20 @@ mod exact_numbers;
 mod fault;
 mod feature;
 mod feature_members;
-mod feature_reading;
+mod feature_parser;
 mod geometry;
 mod geometry_member;
 mod id;
 mod json_text;
 mod kind;
-mod nesting;
+mod levels;
 mod times;
 
 pub use collection::read_collection;
 pub use fault::{CollectionFault, Fault, JsonFault};
 pub use feature::Feature;
 pub use feature_members::{FeatureMembers, read_members};
-pub use feature_reading::read_feature;
+pub use feature_parser::read_feature;
 pub use geometry_member::GeometryMember;
 pub use id::{Id, has_no_controls, is_id, read_id};
 pub use json_text::read_json;

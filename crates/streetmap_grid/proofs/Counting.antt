@@ -7,7 +7,7 @@ use Rattle.streetmap_grid.specs.declared.position.Position.{Position}
 use Rattle.streetmap_grid.specs.Values.{PositionValue}
 use Rattle.streetmap_grid.specs.PositionViews.{position_value, positions_value}
 use Rattle.streetmap_grid.specs.Edges.{edges}
-use Rattle.streetmap_grid.specs.Crossing.{is_crossing, crossings}
+use Rattle.streetmap_grid.specs.Crossings.{is_crossing, crossings}
 use Rattle.streetmap_grid.proofs.Walk.{edges_at, edges_left}
 
 pub crossings_at : (x y : ℤ) (ps : List Position) (i : ℕ) (a b : Position) → 1 ≤ i → i < length ps → a ≡ get_or ps (i - 1) a → b ≡ get_or ps i b → crossings x y (drop (i - 1) (positions_value ps)) ≡ cond (is_crossing x y (position_value a) (position_value b)) 1 0 + crossings x y (drop (i + 1 - 1) (positions_value ps))

@@ -1,11 +1,11 @@
--- The test of a geometry against a box is true exactly where the relation holds.
+-- The test of a geometry against a box is true exactly if the relation holds.
 use Rattle.std.specs.Prelude.{◌%◌, ◌≤ℤ◌, int_le, List}
 use Rattle.std.specs.Bool.{Decides}
 use Rattle.std.specs.List.{list_any}
 use Rattle.std.proofs.lemmas.Bool.Decides.{Decides-and, Decides-or, Decides-like, Decides-eqb}
 use Rattle.streetmap_grid.specs.Values.{PositionValue, BoxValue, SimpleValue, GeometryValue, point, multi_point, line_string, multi_line_string, polygon, multi_polygon, simple, collection}
 use Rattle.streetmap_grid.specs.Edges.{edges}
-use Rattle.streetmap_grid.specs.Crossing.{all_crossings, is_inside}
+use Rattle.streetmap_grid.specs.Crossings.{all_crossings, is_inside}
 use Rattle.streetmap_grid.specs.Meeting.{PointMeets, SegmentMeets, LineMeets, PolygonMeets, SimpleMeets, GeometryMeets, point_meets, segment_meets, line_meets, polygon_meets, simple_meets, geometry_meets}
 use Rattle.streetmap_grid.proofs.Elements.{some_decides}
 use Rattle.streetmap_grid.proofs.Signs.{le_decides, segment_decides}

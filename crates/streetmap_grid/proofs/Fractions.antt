@@ -1,4 +1,4 @@
--- Fractions of a segment: where two reflected axes are reached at one fraction.
+-- The fractions of a segment at which both reflected axes are reached.
 use Rattle.std.specs.Prelude.{ℤ, pos, neg_ℤ, ◌+ℤ◌, ◌-ℤ◌, ◌*ℤ◌, ◌<ℤ◌, ◌≤ℤ◌, ◌≡◌}
 use Rattle.std.proofs.Common.{sym, ap, ◌∙◌, arith}
 use Rattle.std.proofs.lemmas.Int.{ints, by_lt_z}
@@ -71,7 +71,7 @@ at_start : (n m d n' m' d' : ℤ) → n ≤ℤ pos 0 → n' ≤ℤ pos 0 → pos
 at_start n m d n' m' d' a b c e =
     (pos 0, (pos 1, omega (arith, ints)))
 
--- where the first span begins, which is not before the second one begins
+-- at the start of the first span, which is not before the start of the second
 at_first : (n m d n' m' d' : ℤ) → pos 0 <ℤ n → n ≤ℤ m → n ≤ℤ d → (n *ℤ d') ≤ℤ (m' *ℤ d) → (n' *ℤ d) ≤ℤ (n *ℤ d') → IsCrossed n m d n' m' d'
 at_first n m d n' m' d' hn hnm hnd h k =
     let hd : pos 0 ≤ℤ d = omega (arith, ints) in

@@ -12,7 +12,7 @@ use Rattle.streetmap_grid.specs.Values.{PositionValue, BoxValue, SimpleValue, Ge
 use Rattle.streetmap_grid.specs.Edges.{edges_from}
 use Rattle.streetmap_grid.specs.Some.{SomeOf}
 use Rattle.streetmap_grid.specs.Ring.{last_from, is_closed}
-use Rattle.streetmap_grid.specs.Crossing.{crossings, IsInside}
+use Rattle.streetmap_grid.specs.Crossings.{crossings, IsInside}
 use Rattle.streetmap_grid.specs.Meeting.{Holds, IsWithinAt, PointMeets, SegmentMeets, LineMeets, PolygonMeets, SimpleMeets, GeometryMeets}
 use Rattle.streetmap_grid.specs.Extent.{polygon_vertices, simple_vertices, vertices, Overlaps, overlaps}
 use Rattle.streetmap_grid.specs.WellFormed.{IsRing, IsPolygon, IsSimple, IsGeometry}
@@ -24,7 +24,7 @@ use Rattle.streetmap_grid.proofs.Parity.{IsEven, EndsLevel, IsOutside, rings_eve
 abbrev pub HoldsPosition : BoxValue → PositionValue → Type 0
 HoldsPosition e p = Holds e p.x p.y
 
--- none ends before the other begins, in either direction
+-- neither ends before the other begins, in either direction
 abbrev pub Reach : BoxValue → BoxValue → Type 0
 Reach e g = (e.x0 ≤ℤ g.x1) × (g.x0 ≤ℤ e.x1) × (e.y0 ≤ℤ g.y1) × (g.y0 ≤ℤ e.y1)
 
@@ -99,7 +99,7 @@ weaken V W f (x ∷ xs) h = (f x h.0, weaken V W f xs h.1)
 not_both : (n : ℕ) → IsEven n → n % 2 ≡ 1 → ⊥
 not_both n (k, e) o = omega arith
 
--- a closed ring ends at the northing where it began
+-- a closed ring ends at the northing at which it began
 pub closed_level : (ps : List PositionValue) → IsTrue (is_closed ps) → EndsLevel ps
 closed_level [] h = tt
 closed_level (a ∷ bs) h = ap (λ (p : PositionValue). p.y) (sym (same_equal a (last_from a bs) h))

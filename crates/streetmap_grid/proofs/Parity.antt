@@ -8,7 +8,7 @@ use lib.IntN.{*ℤ_comm}
 use Rattle.streetmap_grid.specs.Values.{PositionValue}
 use Rattle.streetmap_grid.specs.Edges.{edges_from}
 use Rattle.streetmap_grid.specs.Ring.{last_from}
-use Rattle.streetmap_grid.specs.Crossing.{is_above, is_straddling, side, is_crossing, crossings}
+use Rattle.streetmap_grid.specs.Crossings.{is_above, is_straddling, side, is_crossing, crossings}
 use Rattle.streetmap_grid.proofs.Whole.{mul_nonneg, mul_pos, mul_sub}
 
 abbrev pub IsEven : ℕ → Type 0

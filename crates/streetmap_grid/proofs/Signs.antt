@@ -1,4 +1,4 @@
--- The test of a segment against a box, by signs, is true exactly where a fraction of the segment lies in the box.
+-- The test of a segment by signs is true exactly if some fraction of it lies in the box.
 use Rattle.std.specs.Prelude.{ℤ, pos, neg_ℤ, ◌-ℤ◌, ◌*ℤ◌, ◌<ℤ◌, ◌≤ℤ◌, int_le, ◌≡◌}
 use Rattle.std.specs.Bool.{Decides}
 use Rattle.std.specs.List.{list_any}
@@ -9,7 +9,7 @@ use Rattle.std.proofs.lemmas.Int.{ints, clamps, by_lt_z}
 use lib.IntN.{*ℤ_comm}
 use Rattle.streetmap_grid.specs.Values.{PositionValue, BoxValue}
 use Rattle.streetmap_grid.specs.Some.{SomeOf}
-use Rattle.streetmap_grid.specs.Crossing.{side}
+use Rattle.streetmap_grid.specs.Crossings.{side}
 use Rattle.streetmap_grid.specs.Meeting.{IsWithinAt, SegmentMeets, segment_meets, reaches, corners}
 use Rattle.streetmap_grid.specs.Slab.{IsReachedAt, AreBothReached}
 use Rattle.streetmap_grid.proofs.Whole.{mul_mono, mul-neg}

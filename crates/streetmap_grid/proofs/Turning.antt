@@ -12,7 +12,7 @@ use Rattle.streetmap_grid.specs.Ring.{edge_area, double_area, is_wrong, turned, 
 use Rattle.streetmap_grid.proofs.Closing.{reverse-cons}
 use Rattle.streetmap_grid.proofs.Booleans.{and_true}
 
--- ---- to reverse negates the area
+-- ---- reversal negates the area
 swap_area : (a b : PositionValue) → edge_area (b, a) ≡ neg_ℤ (edge_area (a, b))
 swap_area a b = omega (arith, ints)
 
@@ -64,8 +64,8 @@ pub turned_kept : (hole : Bool) (ps : List PositionValue) → is_right hole ps �
 turned_kept hole ps h = kept_by ps (is_wrong hole (double_area ps)) h
 
 -- ---- rings that were turned one by one
-behind : (k : ℕ) → nat_lt 0 (suc k) ≡ true
-behind k = lt-ltb 0 (suc k) (omega arith)
+following : (k : ℕ) → nat_lt 0 (suc k) ≡ true
+following k = lt-ltb 0 (suc k) (omega arith)
 
 holes_too : (rs qs : List Ring) → length rs ≡ length qs → ((k : ℕ) (d : Ring) → k < length qs → ring_value (slice_index_or rs k d) ≡ turned true (ring_value (slice_index_or qs k d))) → rings_value rs ≡ map (turned true) (rings_value qs)
 holes_too [] [] same each = refl
@@ -80,5 +80,5 @@ turned_each [] [] same each = refl
 turned_each [] (q ∷ qs) same each = absurd (omega arith)
 turned_each (r ∷ rs) [] same each = absurd (omega arith)
 turned_each (r ∷ rs) (q ∷ qs) same each =
-    let rest = holes_too rs qs (omega arith) (λ k d lt. each (suc k) d (omega arith) ∙ ap (λ (b : Bool). turned b (ring_value (slice_index_or qs k d))) (behind k)) in
+    let rest = holes_too rs qs (omega arith) (λ k d lt. each (suc k) d (omega arith) ∙ ap (λ (b : Bool). turned b (ring_value (slice_index_or qs k d))) (following k)) in
     rw (each 0 r (omega arith), rest) refl

@@ -45,7 +45,7 @@ edges_at ps i a b low h ea eb =
     (ap position_value ea ∙ sym (get_or-map position_value ps (i - 1) a (position_value a) before))
     (ap position_value eb ∙ sym (get_or-map position_value ps i b (position_value b) h))
 
--- none is left where the loop ends
+-- no edge is left when the loop ends
 pub edges_left : (ps : List Position) (i : ℕ) → length ps ≤ i → edges (drop (i - 1) (positions_value ps)) ≡ []
 edges_left ps i h =
     let n : length (positions_value ps) ≡ length ps = length-map ps position_value in

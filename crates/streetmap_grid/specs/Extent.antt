@@ -63,7 +63,7 @@ union a b = record {
 abbrev pub Overlaps : BoxValue → BoxValue → Type 0
 Overlaps a b = (x : ℤ) × ((y : ℤ) × (Holds a x y × Holds b x y))
 
--- none ends before the other begins, in either direction
+-- neither ends before the other begins, in either direction
 abbrev pub overlaps : BoxValue → BoxValue → Bool
 overlaps a b = int_le a.x0 b.x1 && (int_le b.x0 a.x1 && (int_le a.y0 b.y1 && int_le b.y0 a.y1))
 

@@ -8,7 +8,7 @@ use Rattle.streetmap_grid.specs.Values.{PositionValue, BoxValue}
 use Rattle.streetmap_grid.specs.Range.{is_coordinate, is_bound}
 use Rattle.streetmap_grid.specs.Ring.{is_closed}
 
--- the height, if there is one, is a coordinate
+-- the height, if given, is a coordinate
 abbrev pub is_height : Option ℤ → Bool
 is_height None = true
 is_height (Some z) = is_coordinate z

@@ -3,7 +3,7 @@ use Rattle.std.specs.Prelude.{◌%◌, ◌≡◌, ◌↔◌, ℤ, List, All, IsT
 use Rattle.streetmap_grid.specs.Values.{PositionValue, BoxValue, GeometryValue}
 use Rattle.streetmap_grid.specs.WellFormed.{IsBox, IsGeometry}
 use Rattle.streetmap_grid.specs.Ring.{is_closed, oriented, is_oriented_polygon}
-use Rattle.streetmap_grid.specs.Crossing.{straddles, IsInside}
+use Rattle.streetmap_grid.specs.Crossings.{straddles, IsInside}
 use Rattle.streetmap_grid.specs.Meeting.{Holds, GeometryMeets, geometry_meets}
 use Rattle.streetmap_grid.specs.Extent.{IsExtent, vertices, polygon_vertices, extent_of, Overlaps}
 use Rattle.streetmap_grid.specs.Extent.{overlaps, IsWithin, is_within}

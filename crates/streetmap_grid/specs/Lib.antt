@@ -1,5 +1,5 @@
 pub mod Bounds
-pub mod Crossing
+pub mod Crossings
 pub mod Edges
 pub mod Extent
 pub mod Faults

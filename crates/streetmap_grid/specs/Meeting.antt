@@ -8,7 +8,7 @@ use Rattle.streetmap_grid.specs.Values.{multi_point, line_string, multi_line_str
 use Rattle.streetmap_grid.specs.Values.{multi_polygon, simple, collection}
 use Rattle.streetmap_grid.specs.Edges.{edges}
 use Rattle.streetmap_grid.specs.Some.{SomeOf}
-use Rattle.streetmap_grid.specs.Crossing.{side, IsInside, is_inside}
+use Rattle.streetmap_grid.specs.Crossings.{side, IsInside, is_inside}
 
 -- ---- the relation
 

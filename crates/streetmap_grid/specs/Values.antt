@@ -1,7 +1,7 @@
 -- The plain values that the clauses speak of: numbers, lists and cases.
 use Rattle.std.specs.Prelude.{ℤ, List, Option}
 
--- RFC 7946 3.1.1: easting, northing and, if there is one, height, in millimetres
+-- RFC 7946 3.1.1: easting, northing and an optional height, in millimetres
 pub record PositionValue : Type 0 where
   pub x : ℤ
   pub y : ℤ

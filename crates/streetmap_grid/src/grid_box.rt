@@ -31,7 +31,7 @@ fn ranges_meet(low: i64, high: i64, from: i64, to: i64) -> bool
     low <= to && from <= high
 }
 
-/// Whether the range from `low` to `high` reaches beyond that from `from` to `to` at neither end.
+/// Whether the range from `low` to `high` lies within that from `from` to `to`.
 fn range_within(low: i64, high: i64, from: i64, to: i64) -> bool
     ensures { result ≡ (int_le from low && int_le high to) }
 {

@@ -12,12 +12,12 @@
 //! No call allocates memory: the caller passes vectors in.
 //!
 //! Modules, in the order of reading: `fault`, `position`, `grid_box`, `line`, `ring`, `polygon`,
-//! `non_empty`, `geometry`, `laws`; after them `range`, `area`, `segment`, `crossing`, `meeting`,
+//! `non_empty`, `geometry`, `laws`; after them `range`, `area`, `segment`, `crossings`, `meeting`,
 //! `extent`.
 #![tactic(auto)]
 
 mod area;
-mod crossing;
+mod crossings;
 mod extent;
 mod fault;
 mod geometry;

@@ -7,7 +7,7 @@ ghost use Rattle.streetmap_grid.specs.Some.{SomeOf};
 ghost use Rattle.streetmap_grid.specs.Meeting.{PointMeets, LineMeets, PolygonMeets, SimpleMeets};
 ghost use Rattle.streetmap_grid.specs.Meeting.{GeometryMeets};
 
-use crate::crossing::holds_corner;
+use crate::crossings::holds_corner;
 use crate::geometry::{Geometry, SimpleGeometry};
 use crate::grid_box::GridBox;
 use crate::line::Line;

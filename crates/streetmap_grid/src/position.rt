@@ -5,8 +5,8 @@ ghost use Rattle.streetmap_grid.specs.Range.{IsCoordinate};
 use crate::fault::GridFault;
 use crate::range::{is_coordinate, is_height};
 
-/// A position on the grid, in millimetres (RFC 7946, section 3.1.1): easting, northing and, if
-/// there is one, height, each from -1,000,000,000 to 1,000,000,000.
+/// A position on the grid, in millimetres (RFC 7946, section 3.1.1): easting, northing and an
+/// optional height, each from -1,000,000,000 to 1,000,000,000.
 #[derive(Clone, Copy, PartialEq, Eq, Drop)]
 pub struct Position {
     /// The easting, in millimetres.

@@ -20,7 +20,7 @@ pub fn is_bound(n: i64) -> bool
     -GREATEST_BOUND <= n && n <= GREATEST_BOUND
 }
 
-/// Whether a height, if there is one, is a coordinate of the grid.
+/// Whether a height, if given, is a coordinate of the grid.
 pub fn is_height(z: Option<i64>) -> bool
     ensures { result ≡ faults.is_height z }
 {

@@ -9,9 +9,9 @@ use Rattle.streetmap_connections.specs.Clients as clients
 use Rattle.streetmap_connections.specs.History.{Exchange, Refusal}
 use Rattle.streetmap_connections.specs.Interleaving as interleaving
 use Rattle.streetmap_connections.specs.Interleaving.{IsInterleaving, GoesOnAs}
-use Rattle.streetmap_connections.specs.Refusing.{AreRefused}
+use Rattle.streetmap_connections.specs.RefusedRequests.{AreRefused}
 use Rattle.streetmap_connections.specs.Slots.{client_history, clients_in, refusals_in}
-use Rattle.streetmap_web.specs.Refusing.{IsRefusal}
+use Rattle.streetmap_web.specs.Refusals.{IsRefusal}
 use Rattle.streetmap_guarantee.specs.Guarantee.{IsInOrder, RefusesForMemory, exchanges_of}
 
 module _ {A : Type 0} (P : A → Type 0) where
@@ -23,7 +23,7 @@ module _ {A : Type 0} (P : A → Type 0) where
   all_back [] ys all = all
   all_back (x ∷ xs) ys all = all_back xs ys (All-tail P x (xs ++ ys) all)
 
-  -- what is so of lists put together is so of each
+  -- what holds of all items of the joined lists holds of the items of each list
   all_parts : {X : Type 0} (f : X → List A) (xs : List X) → All P (flat_map f xs) → All (λ x. All P (f x)) xs
   all_parts f [] all = All-nil (λ x. All P (f x))
   all_parts f (x ∷ xs) all = All-cons (λ x. All P (f x)) x xs (all_front (f x) (flat_map f xs) all) (all_parts f xs (all_back (f x) (flat_map f xs) all))
@@ -38,7 +38,7 @@ module _ {S : Type 0} where
   pub all_in_order : (cs : List (Client S)) → All clients.IsOrderly cs → All IsInOrder (map client_history cs)
   all_in_order cs h = All-map IsInOrder client_history cs h
 
-  -- if there was none before, what was answered is an interleaving of theirs
+  -- if no client came before, what was answered is an interleaving of the clients' lists
   pub all_interleaved : (before after : List (Client S)) (es : List Exchange) → before ≡ [] → GoesOnAs (map clients.exchanges_of before) es (map clients.exchanges_of after)
       → IsInterleaving (map exchanges_of (map client_history after)) es
   all_interleaved before after es none goes =
@@ -50,7 +50,7 @@ module _ {S : Type 0} where
   refusals_are [] = refl
   refusals_are (s ∷ slots) = ap (λ (rs : List Refusal). refusals_in s ++ rs) (refusals_are slots) ∙ sym (flat_map-append clients.refusals_of (clients_in s) (flat_map clients_in slots))
 
-  -- if there was none before, all that was refused is
+  -- if no client came before, each refusal is for lack of memory
   pub all_refused : (before after : List (Slot S)) → flat_map clients_in before ≡ []
       → (AreRefused IsRefusal (flat_map refusals_in before) → AreRefused IsRefusal (flat_map refusals_in after))
       → All RefusesForMemory (map client_history (flat_map clients_in after))

@@ -6,10 +6,10 @@ use Rattle.streetmap_ledger.specs.State.{State}
 use Rattle.streetmap_ledger.specs.Model.{Model}
 use Rattle.streetmap_connections.specs.History.{History, Exchange}
 use Rattle.streetmap_connections.specs.Interleaving.{IsInterleaving}
-use Rattle.streetmap_web.specs.Standing.{of_state}
+use Rattle.streetmap_web.specs.Conditions.{of_state}
 use Rattle.streetmap_web.specs.Exchanges as web
-use Rattle.streetmap_web.specs.Coming.{ComesAll}
-use Rattle.streetmap_web.specs.ServingClients.{AnsweredInTurn}
+use Rattle.streetmap_web.specs.Transitions.{ComesAll}
+use Rattle.streetmap_web.specs.ServedClients.{AnsweredInTurn}
 use Rattle.streetmap_guarantee.specs.Server.{serving}
 use Rattle.streetmap_guarantee.specs.Histories.{Event, IsSequential}
 use Rattle.streetmap_guarantee.specs.Guarantee.{Guarantee, IsInOrder, RefusesForMemory, exchanges_of}
@@ -23,7 +23,7 @@ abbrev pub LeavesStates : {Image : Type 0} → (Image → State → Type 0) → 
 LeavesStates {Image} holds leaves may_leave = (image : Image) → leaves image → (t : State) × holds image t × may_leave (Some t)
 
 module _ {K Image : Type 0} (model : Model K) (holds : Image → State → Type 0) (leaves : Image → Type 0) (root : Text) (s : State) (old new : K)
-    (stands : model.represents old s) (states : LeavesStates holds leaves (model.may_leave new)) where
+    (represented : model.represents old s) (states : LeavesStates holds leaves (model.may_leave new)) where
   pub is_guaranteed : (connections : List History) (es : List Exchange) (ws : List web.HttpExchange) → All IsInOrder connections
       → All RefusesForMemory connections
       → IsInterleaving (map exchanges_of connections) es → AnsweredInTurn root (of_state s) es ws → ComesAll model root (of_state s) old ws new
@@ -32,7 +32,7 @@ module _ {K Image : Type 0} (model : Model K) (holds : Image → State → Type 
       let history : List Event = history_of root (serving s) es ws in
       let server = last_server (serving s) ws in
       let sequential : IsSequential root (serving s) history server = is_sequential root (serving s) es ws answered in
-      let keeper = keeper_after_all model root (serving s) old new ws comes stands in
+      let keeper = keeper_after_all model root (serving s) old new ws comes represented in
       record {
         history = history;
         in_order = in_order;
@@ -40,9 +40,9 @@ module _ {K Image : Type 0} (model : Model K) (holds : Image → State → Type 
         interleaved = subst (IsInterleaving (map exchanges_of connections)) (sym (exchanges_are root (serving s) es ws answered)) interleaved;
         server = server;
         sequential = sequential;
-        pages = λ before later e name q is asks ok.
+        pages = λ before later e name q is has_request ok.
             page_of_state root (serving s) server before later e name q (subst (λ (l : List Event). IsSequential root (serving s) l server) is sequential)
-            asks ok;
+            has_request ok;
         acts = history_acts root (serving s) server history sequential;
         survives = λ image left.
             let it = states image left in

@@ -1,11 +1,11 @@
--- Runs go on from each other.
+-- Runs continue from each other.
 use Rattle.std.proofs.Common.{◌≡◌, ◌≤◌, inl, inr, List, [], ◌∷◌, ◌++◌, length, refl, sym, ap, subst, ◌∙◌, arith}
 use Rattle.std.proofs.lemmas.List.{append-nil}
 use Rattle.streetmap_batch.specs.Text.{Text}
 use Rattle.streetmap_batch.specs.BatchValue.{BatchValue}
 use Rattle.streetmap_ledger.specs.State.{State}
 use Rattle.streetmap_ledger.specs.Batches.{act, after_all}
-use Rattle.streetmap_routes.specs.Ask.{AskValue, faulty, landing_page, api_text, conformance_classes, all_collections, one_collection, page, feature, batch}
+use Rattle.streetmap_routes.specs.Operations.{OperationValue, faulty, landing_page, api_text, conformance_classes, all_collections, one_collection, page, feature, batch}
 use Rattle.streetmap_web.specs.Response.{state_in}
 use Rattle.streetmap_guarantee.specs.Server.{Server, serving, failed, state_of, HasKept}
 use Rattle.streetmap_guarantee.specs.Histories as seq
@@ -15,10 +15,10 @@ use Rattle.streetmap_guarantee.specs.Restarts.Runs.{none, more}
 
 -- ---- at which request a store failed
 
--- the state after the failure is that after what was asked
+-- the state after the failure is that after the request that failed
 abbrev FailedAt : Server → Type 0
 FailedAt y = (before after : State) → y ≡ failed before after
-    → (ask : AskValue) × (after ≡ state_in before ask)
+    → (operation : OperationValue) × (after ≡ state_in before operation)
 
 serving_is_not_failed : (s before after : State) → serving s ≡ failed before after → ⊥
 serving_is_not_failed s before after e = cc
@@ -34,17 +34,17 @@ serving_failed_nowhere y s is before after e =
     absurd (serving_is_not_failed s before after (sym is ∙ e))
 
 step_failed : (root : Text) (e : Event) (x y : Server)
-    → Step root e.request.ask e.response x y → FailedAt x → FailedAt y
+    → Step root e.request.operation e.response x y → FailedAt x → FailedAt y
 step_failed root e x y (seq.answered s was is now) at =
-    serving_failed_nowhere y (state_in s e.request.ask) now
+    serving_failed_nowhere y (state_in s e.request.operation) now
 step_failed root e x y (seq.out_of_memory is now) at =
     subst (λ (z : Server). FailedAt z) (sym now) at
-step_failed root e x y (seq.store_failed s was asks is now) at = λ before after there.
+step_failed root e x y (seq.store_failed s was has_request is now) at = λ before after there.
     let same = sym now ∙ there in (
-      e.request.ask,
-      sym (same_after s (state_in s e.request.ask) before after same)
-          ∙ ap (λ (t : State). state_in t e.request.ask)
-          (same_before s (state_in s e.request.ask) before after same),
+      e.request.operation,
+      sym (same_after s (state_in s e.request.operation) before after same)
+          ∙ ap (λ (t : State). state_in t e.request.operation)
+          (same_before s (state_in s e.request.operation) before after same),
     )
 step_failed root e x y (seq.still_failed before after was is now) at =
     subst (λ (z : Server). FailedAt z) (sym now) at
@@ -74,29 +74,29 @@ no_more s t bs is = record {
   is = is ∙ ap (λ (l : List BatchValue). after_all s l) (sym (append-nil bs));
 }
 
-by_ask : (s u t : State) (bs : List BatchValue) (ask : AskValue) → u ≡ after_all s bs
-    → t ≡ state_in u ask → OneMore s t bs
-by_ask s u t bs (batch b) was is = record {
+by_operation : (s u t : State) (bs : List BatchValue) (operation : OperationValue) → u ≡ after_all s bs
+    → t ≡ state_in u operation → OneMore s t bs
+by_operation s u t bs (batch b) was is = record {
   extra = b ∷ [];
   few = omega arith;
   is = is ∙ (ap (λ (x : State). (act x b).state) was ∙ sym (after_append s bs (b ∷ [])));
 }
-by_ask s u t bs (faulty fault) was is = no_more s t bs (is ∙ was)
-by_ask s u t bs landing_page was is = no_more s t bs (is ∙ was)
-by_ask s u t bs api_text was is = no_more s t bs (is ∙ was)
-by_ask s u t bs conformance_classes was is = no_more s t bs (is ∙ was)
-by_ask s u t bs all_collections was is = no_more s t bs (is ∙ was)
-by_ask s u t bs (one_collection name) was is = no_more s t bs (is ∙ was)
-by_ask s u t bs (page name q) was is = no_more s t bs (is ∙ was)
-by_ask s u t bs (feature name id) was is = no_more s t bs (is ∙ was)
+by_operation s u t bs (faulty fault) was is = no_more s t bs (is ∙ was)
+by_operation s u t bs landing_page was is = no_more s t bs (is ∙ was)
+by_operation s u t bs api_text was is = no_more s t bs (is ∙ was)
+by_operation s u t bs conformance_classes was is = no_more s t bs (is ∙ was)
+by_operation s u t bs all_collections was is = no_more s t bs (is ∙ was)
+by_operation s u t bs (one_collection name) was is = no_more s t bs (is ∙ was)
+by_operation s u t bs (page name q) was is = no_more s t bs (is ∙ was)
+by_operation s u t bs (feature name id) was is = no_more s t bs (is ∙ was)
 
 kept_by : (s t : State) (bs : List BatchValue) (y : Server) → state_of y ≡ after_all s bs
     → FailedAt y → HasKept y t → OneMore s t bs
 kept_by s t bs (serving u) acts at kept = no_more s t bs (kept ∙ acts)
 kept_by s t bs (failed before after) acts at (inl kept) = no_more s t bs (kept ∙ acts)
 kept_by s t bs (failed before after) acts at (inr kept) =
-    let asked = at before after refl in
-    by_ask s before t bs asked.0 acts (kept ∙ asked.1)
+    let requested = at before after refl in
+    by_operation s before t bs requested.0 acts (kept ∙ requested.1)
 
 -- ---- all runs
 

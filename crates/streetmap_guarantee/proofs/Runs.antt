@@ -11,7 +11,7 @@ use Rattle.streetmap_guarantee.specs.Server.{Server, serving, failed}
 use Rattle.streetmap_guarantee.specs.Runs.{EndsAs}
 use Rattle.streetmap_guarantee.proofs.Crashes.{IsKeeperOf}
 
--- a server that the run ended as, of which the second keeper is the keeper
+-- a server as the run ended, and the second keeper is its keeper
 pub record Kept {K : Type 0} (model : Model K) (new : K) (s : State) (bs : List BatchValue) (k : ℕ) (fault : Option Fault) : Type 0 where
   pub server : Server
   pub ends : EndsAs s bs k fault server

@@ -11,43 +11,43 @@ use Rattle.streetmap_ledger.specs.Model.{Model}
 use Rattle.streetmap_connections.specs.History.{History, Exchange, FitsStream, LeavesOpen, requests_of, texts_of}
 use Rattle.streetmap_connections.specs.Interleaving as interleaving
 use Rattle.streetmap_connections.specs.Interleaving.{IsInterleaving, Merges}
-use Rattle.streetmap_web.specs.Standing.{Standing, of_state}
+use Rattle.streetmap_web.specs.Conditions.{Condition, of_state}
 use Rattle.streetmap_web.specs.Exchanges as web
 use Rattle.streetmap_web.specs.Exchanges.{HttpExchange, GoOn}
 use Rattle.streetmap_web.specs.ServedStream.{around, ServesExchanges, last_of}
-use Rattle.streetmap_web.specs.Refusing.{IsRefusal}
-use Rattle.streetmap_web.specs.ServingClients.{AnsweredInTurn}
+use Rattle.streetmap_web.specs.Refusals.{IsRefusal}
+use Rattle.streetmap_web.specs.ServedClients.{AnsweredInTurn}
 use Rattle.streetmap_web.specs.StreamEnds.{EndsSo}
 use Rattle.streetmap_web.specs.Turns.{end_of}
-use Rattle.streetmap_web.specs.declared.serving.End.{End}
+use Rattle.streetmap_web.specs.declared.turns.End.{End}
 use Rattle.streetmap_web.proofs.LastRequests.{exchange_at, exchanges_at, is_answer, closes_last, IsLast, is_last}
 use Rattle.streetmap_guarantee.specs.Guarantee.{IsInOrder, RefusesForMemory}
 use Rattle.streetmap_guarantee.specs.Streams.{GuaranteeOfStream}
 use Rattle.streetmap_guarantee.proofs.Guarantees.{LeavesStates, is_guaranteed}
 
-answered_all : (root : Text) (x : Standing) (ws last : List HttpExchange) → GoOn root x ws
-    → (let y = web.standing_after_all x ws in AnsweredInTurn root y (exchanges_at root y last) last)
+answered_all : (root : Text) (x : Condition) (ws last : List HttpExchange) → GoOn root x ws
+    → (let y = web.condition_after_all x ws in AnsweredInTurn root y (exchanges_at root y last) last)
     → AnsweredInTurn root x (exchanges_at root x (ws ++ last)) (ws ++ last)
 answered_all root x [] last go h = h
-answered_all root x (w ∷ ws) last go h = (is_answer root x w go.0, answered_all root (web.standing_after x w) ws last go.2 h)
+answered_all root x (w ∷ ws) last go h = (is_answer root x w go.0, answered_all root (web.condition_after x w) ws last go.2 h)
 
-exchanges-append : (root : Text) (x : Standing) (ws last : List HttpExchange)
-    → exchanges_at root x (ws ++ last) ≡ exchanges_at root x ws ++ exchanges_at root (web.standing_after_all x ws) last
+exchanges-append : (root : Text) (x : Condition) (ws last : List HttpExchange)
+    → exchanges_at root x (ws ++ last) ≡ exchanges_at root x ws ++ exchanges_at root (web.condition_after_all x ws) last
 exchanges-append root x [] last = refl
-exchanges-append root x (w ∷ ws) last = ap (λ (es : List Exchange). exchange_at root x w ∷ es) (exchanges-append root (web.standing_after x w) ws last)
+exchanges-append root x (w ∷ ws) last = ap (λ (es : List Exchange). exchange_at root x w ∷ es) (exchanges-append root (web.condition_after x w) ws last)
 
-requests_are : (root : Text) (x : Standing) (ws : List HttpExchange) → requests_of (exchanges_at root x ws) ≡ web.all_requests ws
+requests_are : (root : Text) (x : Condition) (ws : List HttpExchange) → requests_of (exchanges_at root x ws) ≡ web.all_requests ws
 requests_are root x [] = refl
-requests_are root x (w ∷ ws) = ap (λ (t : Text). w.bytes ++ t) (requests_are root (web.standing_after x w) ws)
+requests_are root x (w ∷ ws) = ap (λ (t : Text). w.bytes ++ t) (requests_are root (web.condition_after x w) ws)
 
-texts_are : (root : Text) (x : Standing) (ws : List HttpExchange) → texts_of (exchanges_at root x ws) ≡ web.all_answers root x ws
+texts_are : (root : Text) (x : Condition) (ws : List HttpExchange) → texts_of (exchanges_at root x ws) ≡ web.all_answers root x ws
 texts_are root x [] = refl
-texts_are root x (w ∷ ws) = ap (λ (t : Text). web.answer_bytes root x w ++ t) (texts_are root (web.standing_after x w) ws)
+texts_are root x (w ∷ ws) = ap (λ (t : Text). web.answer_bytes root x w ++ t) (texts_are root (web.condition_after x w) ws)
 
-all_open : (root : Text) (x : Standing) (ws : List HttpExchange) → GoOn root x ws → All LeavesOpen (exchanges_at root x ws)
+all_open : (root : Text) (x : Condition) (ws : List HttpExchange) → GoOn root x ws → All LeavesOpen (exchanges_at root x ws)
 all_open root x [] go = All-nil LeavesOpen
 all_open root x (w ∷ ws) go =
-    All-cons LeavesOpen (exchange_at root x w) (exchanges_at root (web.standing_after x w) ws) go.1 (all_open root (web.standing_after x w) ws go.2)
+    All-cons LeavesOpen (exchange_at root x w) (exchanges_at root (web.condition_after x w) ws) go.1 (all_open root (web.condition_after x w) ws go.2)
 
 -- one list alone
 merges_alone : {A : Type 0} (xs : List A) → Merges xs [] xs
@@ -60,14 +60,14 @@ interleaves_alone xs = interleaving.more (merges_alone xs) interleaving.none
 -- ---- the whole stream
 
 module _ {K Image : Type 0} (model : Model K) (holds : Image → State → Type 0) (leaves : Image → Type 0) (root : Text) (s : State) (old new : K)
-    (stands : model.represents old s) (states : LeavesStates holds leaves (model.may_leave new)) where
+    (represented : model.represents old s) (states : LeavesStates holds leaves (model.may_leave new)) where
   pub stream_is_guaranteed : (input rest before now : Option Text) (end : End) (count : ℕ)
       → ServesExchanges model root end count (of_state s) (around input rest before now) old new
       → GuaranteeOfStream holds leaves root s end input rest before now
   stream_is_guaranteed input rest before now end count it =
       let x = of_state s in
       let ws = it.exchanges in
-      let y = web.standing_after_all x ws in
+      let y = web.condition_after_all x ws in
       let last = last_of model it.turn root y _ new it.ends in
       let ending : IsLast root y _ (end_of it.turn) last = is_last root y _ model new it.turn it.ends it.closed in
       let front = exchanges_at root x ws in
@@ -105,7 +105,7 @@ module _ {K Image : Type 0} (model : Model K) (holds : Image → State → Type 
         read = subst (Consumes input ending.left) (sym requests) (Consumes-trans input it.middle ending.left _ _ it.read ending.read);
         written = Appends-trans before it.written now _ _ it.answered ending.written;
         ends = subst (λ (e : End). EndsSo e (closes_last root y last) ending.unsent ending.left rest) (sym it.end_is) ending.ends;
-        guarantee = is_guaranteed model holds leaves root s old new stands states (h ∷ []) es (ws ++ last)
+        guarantee = is_guaranteed model holds leaves root s old new represented states (h ∷ []) es (ws ++ last)
             (All-cons IsInOrder h [] ∣ fits ∣₁ (All-nil IsInOrder)) (All-cons RefusesForMemory h [] (All-nil (λ r. IsRefusal r.bytes r.text)) (All-nil RefusesForMemory)) (interleaves_alone es)
             (answered_all root x ws last it.go_on ending.answered) it.comes;
       }

@@ -8,12 +8,12 @@ use Rattle.streetmap_batch.specs.Text.{Text}
 use Rattle.streetmap_ledger.specs.State.{State}
 use Rattle.streetmap_ledger.specs.Batches.{after_all}
 use Rattle.streetmap_ledger.specs.Pages.{PageValue, page_in}
-use Rattle.streetmap_routes.specs.Ask.{page}
+use Rattle.streetmap_routes.specs.Operations.{page}
 use Rattle.streetmap_bodies.specs.Bodies.{page_data}
 use Rattle.streetmap_connections.specs.History.{History, Exchange, FitsStream}
 use Rattle.streetmap_connections.specs.Interleaving.{IsInterleaving}
-use Rattle.streetmap_connections.specs.Refusing.{AreRefused}
-use Rattle.streetmap_web.specs.Refusing.{IsRefusal}
+use Rattle.streetmap_connections.specs.RefusedRequests.{AreRefused}
+use Rattle.streetmap_web.specs.Refusals.{IsRefusal}
 use Rattle.streetmap_web.specs.Response.{ResponseValue, found}
 use Rattle.streetmap_guarantee.specs.Server.{Server, serving, state_of, HasKept}
 use Rattle.streetmap_guarantee.specs.Histories.{Event, IsSequential, acknowledged}
@@ -51,7 +51,7 @@ pub record Guarantee {Image : Type 0} (holds : Image → State → Type 0) (leav
   -- each page is the page of the state that the batches acknowledged before it made
   pub pages :
       (before later : List Event) (e : Event) (name : Text) (q : QueryValue)
-      → history ≡ before ++ e ∷ later → e.request.ask ≡ page name q → e.response.status ≡ 200
+      → history ≡ before ++ e ∷ later → e.request.operation ≡ page name q → e.response.status ≡ 200
       → ShowsPage root (after_all s (acknowledged before)) name q e.response
   -- the server has acted on the acknowledged batches, and on no other
   pub acts : state_of server ≡ after_all s (acknowledged history)

@@ -7,30 +7,31 @@ use Rattle.streetmap_batch.specs.Text.{Text}
 use Rattle.streetmap_batch.specs.BatchValue.{BatchValue}
 use Rattle.streetmap_ledger.specs.State.{State}
 use Rattle.streetmap_ledger.specs.declared.reply.Fault.TheVariants.{Memory, Device}
-use Rattle.streetmap_routes.specs.Ask.{AskValue, batch}
+use Rattle.streetmap_routes.specs.Operations.{OperationValue, batch}
 use Rattle.streetmap_bodies.specs.declared.request_fault.RequestFault.TheVariants.{Keeper}
 use Rattle.streetmap_connections.specs.History.{Exchange}
 use Rattle.streetmap_web.specs.Response.{ResponseValue, RequestValue, request_of, broken_request}
 use Rattle.streetmap_web.specs.Response.{response_in, response_shut, fault_response, state_in}
-use Rattle.streetmap_web.specs.Response.{asks_state, closes_with, response_text}
+use Rattle.streetmap_web.specs.Response.{needs_state, closes_with, response_text}
 use Rattle.streetmap_guarantee.specs.Server.{Server, serving, failed}
 
 -- a request gets the response, and leads from one server to the other
-pub data Step (root : Text) (ask : AskValue) (response : ResponseValue) (old new : Server)
+pub data Step (root : Text) (operation : OperationValue) (response : ResponseValue)
+    (old new : Server)
     : Type 0 where
   -- the response of the state, which a batch changes
-  answered : (s : State) → old ≡ serving s → response ≡ response_in root s ask
-      → new ≡ serving (state_in s ask) → Step root ask response old new
+  answered : (s : State) → old ≡ serving s → response ≡ response_in root s operation
+      → new ≡ serving (state_in s operation) → Step root operation response old new
   -- out of memory: 503, and nothing has changed
   out_of_memory : response ≡ fault_response (Keeper Memory) → new ≡ old
-      → Step root ask response old new
+      → Step root operation response old new
   -- the store failed: 500
-  store_failed : (s : State) → old ≡ serving s → asks_state ask ≡ true
-      → response ≡ fault_response (Keeper Device) → new ≡ failed s (state_in s ask)
-      → Step root ask response old new
+  store_failed : (s : State) → old ≡ serving s → needs_state operation ≡ true
+      → response ≡ fault_response (Keeper Device) → new ≡ failed s (state_in s operation)
+      → Step root operation response old new
   -- after that: 500 to each request that needs the state
   still_failed : (before after : State) → old ≡ failed before after
-      → response ≡ response_shut root ask → new ≡ old → Step root ask response old new
+      → response ≡ response_shut root operation → new ≡ old → Step root operation response old new
 
 -- a request with its response: their bytes, and what these say
 pub record Event : Type 0 where
@@ -38,19 +39,19 @@ pub record Event : Type 0 where
   pub request : RequestValue
   pub response : ResponseValue
 
--- the bytes that came say this: a head with its body, or bytes that break a rule of HTTP; or only a
--- head, if there was no memory for its body
-pub data Asks (e : Event) : Type 0 where
+-- the bytes received say this: a head with its body, or bytes that break a rule of HTTP; or only a
+-- head, if memory ran out for its body
+pub data HasRequest (e : Event) : Type 0 where
   whole : (h : HeadValue) (body : Text) → IsRequest e.exchange.request h body
-      → e.request ≡ request_of h body → Asks e
+      → e.request ≡ request_of h body → HasRequest e
   broken : (bare : Bool) (fault : FramingFault) → Breaks e.exchange.request bare fault
-      → e.request ≡ broken_request bare fault → Asks e
+      → e.request ≡ broken_request bare fault → HasRequest e
   no_room : (h : HeadValue) → IsHead e.exchange.request → Frames e.exchange.request (sized h)
-      → e.request ≡ request_of h [] → e.response ≡ fault_response (Keeper Memory) → Asks e
+      → e.request ≡ request_of h [] → e.response ≡ fault_response (Keeper Memory) → HasRequest e
 
 -- both texts say so, and the connection closes if the request says so or something failed
 pub record IsHttp (e : Event) : Type 0 where
-  pub asks : Asks e
+  pub has_request : HasRequest e
   pub closes : e.exchange.closes ≡ closes_with e.request.closes e.response
   pub answers : e.exchange.text ≡ response_text e.exchange.closes e.request.bare e.response
 
@@ -58,15 +59,15 @@ pub record IsHttp (e : Event) : Type 0 where
 abbrev pub IsSequential : Text → Server → List Event → Server → Type 0
 IsSequential root old [] new = new ≡ old
 IsSequential root old (e ∷ es) new =
-    IsHttp e × (next : Server) × Step root e.request.ask e.response old next
+    IsHttp e × (next : Server) × Step root e.request.operation e.response old next
     × IsSequential root next es new
 
 -- a batch before others, if it was acknowledged
-abbrev pub with_acknowledged : AskValue → ResponseValue → List BatchValue → List BatchValue
+abbrev pub with_acknowledged : OperationValue → ResponseValue → List BatchValue → List BatchValue
 with_acknowledged (batch b) response others = if response.status == 200 then b ∷ others else others
 with_acknowledged _ response others = others
 
 -- the batches of a history that were acknowledged: answered with status 200
 abbrev pub acknowledged : List Event → List BatchValue
 acknowledged [] = []
-acknowledged (e ∷ es) = with_acknowledged e.request.ask e.response (acknowledged es)
+acknowledged (e ∷ es) = with_acknowledged e.request.operation e.response (acknowledged es)

@@ -9,7 +9,7 @@ use Rattle.streetmap_guarantee.specs.Guarantee.{Guarantee}
 use Rattle.streetmap_guarantee.specs.Histories.{acknowledged}
 
 -- One run: an image is opened, and connections are served from the state that it holds, whichever
--- that is. Then there is a crash, which leaves an image.
+-- that is. Then a crash follows, which leaves an image.
 pub record Run {Image : Type 0} (holds : Image → State → Type 0) (root : Text)
     (opened left : Image) : Type 1 where
   pub leaves : Image → Type 0

@@ -18,7 +18,7 @@ EndsAs s bs k (Some Device) server =
 EndsAs s bs k (Some Damaged) server = ⊥
 EndsAs s bs k (Some Reopen) server = ⊥
 
--- The replies are those of the first batches, of all if there was no fault. Whatever a crash leaves
+-- The replies are those of the first batches, of all if no fault occurred. Whatever a crash leaves
 -- holds the state after these, or, if the store failed, after one more.
 pub record GuaranteeOfRun {Image : Type 0} (holds : Image → State → Type 0)
     (leaves : Image → Type 0) (s : State) (batches : List BatchValue) (replies : List Reply)

@@ -5,7 +5,7 @@ use Rattle.streetmap_batch.specs.Text.{Text}
 use Rattle.streetmap_ledger.specs.State.{State}
 use Rattle.streetmap_connections.specs.History.{History, requests_of}
 use Rattle.streetmap_web.specs.StreamEnds.{EndsSo}
-use Rattle.streetmap_web.specs.declared.serving.End.{End}
+use Rattle.streetmap_web.specs.declared.turns.End.{End}
 use Rattle.streetmap_guarantee.specs.Guarantee.{Guarantee}
 
 -- A stream was served as one connection: the reader gave its requests, in order, the writer got

@@ -15,8 +15,8 @@ pub record GuaranteeOfTown {Image : Type 0} (holds : Image → State → Type 0)
   pub guarantee : Guarantee holds leaves root s connections
   pub timeline : Timeline [] (map (λ e. e.exchange) guarantee.history) connections
 
--- A moment of a timeline: the connections as they were, what had been answered by then, and what was
--- answered later.
+-- A moment of a timeline: the connections as they were, what had been answered by then, and what
+-- was answered later.
 pub record Moment (answered : List Exchange) (connections : List History) : Type 0 where
   pub then : List History
   pub before : List Exchange

@@ -3,7 +3,7 @@ ghost use Rattle.std.specs.Prelude.{◌≡◌, Some, map};
 ghost use Rattle.streetmap_batch.specs.BatchView.{batch_value};
 ghost use Rattle.streetmap_ledger.specs.State.{State};
 ghost use Rattle.streetmap_ledger.specs.declared.reply.Fault.{Fault};
-ghost use Rattle.streetmap_web.specs.Standing.{ByCalls};
+ghost use Rattle.streetmap_web.specs.Conditions.{ByCalls};
 ghost use Rattle.streetmap_guarantee.specs.Runs.{GuaranteeOfRun};
 
 use std::alloc::Global;

@@ -7,17 +7,17 @@
 //!
 //! The program's keepers are such ones (`streetmap_ledger::Durable`): what a crash leaves of two
 //! files is said for `streetmap_store::TableKeeper`, and an index in memory and a journal change
-//! nothing of it. `warm` has an index learn before it is asked.
+//! nothing of it. `warm` has an index learn before the first request.
 //!
-//! Modules, in the order of reading: `town`, `stream`, `batches`; `warming`.
+//! Modules, in the order of reading: `town`, `stream`, `batches`; `warm_up`.
 #![tactic(auto)]
 
 mod batches;
 mod stream;
 mod town;
-mod warming;
+mod warm_up;
 
 pub use batches::run_batches;
 pub use stream::pipe;
 pub use town::serve_town;
-pub use warming::warm;
+pub use warm_up::warm;

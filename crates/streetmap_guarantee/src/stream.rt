@@ -1,7 +1,7 @@
 //! A stream of requests.
 ghost use Rattle.streetmap_ledger.specs.State.{State};
 ghost use Rattle.streetmap_routes.specs.BaseView.{root_of};
-ghost use Rattle.streetmap_web.specs.Standing.{ByCalls};
+ghost use Rattle.streetmap_web.specs.Conditions.{ByCalls};
 ghost use Rattle.streetmap_guarantee.specs.Streams.{GuaranteeOfStream};
 
 use std::alloc::Global;

@@ -4,7 +4,7 @@ ghost use Rattle.streetmap_ledger.specs.State.{State};
 ghost use Rattle.streetmap_routes.specs.BaseView.{root_of};
 ghost use Rattle.streetmap_connections.specs.AllClients.{clients_of, ended_of};
 ghost use Rattle.streetmap_connections.specs.SlotClients.{client_history};
-ghost use Rattle.streetmap_web.specs.Watching.{IsOver};
+ghost use Rattle.streetmap_web.specs.StoreWatch.{IsOver};
 ghost use Rattle.streetmap_guarantee.specs.Town.{GuaranteeOfTown};
 
 use mio::net::TcpStream;
@@ -20,8 +20,8 @@ use streetmap_web::{KeeperService, serve_clients};
 ///
 /// # Errors
 ///
-/// `Net` if no client can be accepted while there is none, or sockets cannot be waited for;
-/// `Memory` if there is no room for what is waited for; `Over` once the store failed, if the
+/// `Net` if no client can be accepted while none is served, or sockets cannot be waited for;
+/// `Memory` if memory runs out for what is waited for; `Over` once the store failed, if the
 /// service ends then.
 pub fn serve_town<R: Net + Clock, K: Durable, W: Write>(
     rt: &R,
@@ -38,7 +38,7 @@ pub fn serve_town<R: Net + Clock, K: Durable, W: Write>(
     ensures counted { IsOk result → count ≤ length (ended_of clients.new) }
     ensures few { length (clients_of clients.new) ≤ count }
     ensures over { IsErrOf result ServeFault.Over → IsOver service.new.watch }
-    ensures spared { K.model.spares service.old.keeper service.new.keeper }
+    ensures preserved { K.model.preserves service.old.keeper service.new.keeper }
     ensures began_clean { K.model.is_clean service.new.keeper →
         K.model.is_clean service.old.keeper }
 {

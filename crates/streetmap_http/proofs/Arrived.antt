@@ -1,4 +1,4 @@
--- What bytes that came hold of a request is one thing.
+-- What received bytes hold of a request is one thing.
 use Rattle.std.proofs.Common.{◌≡◌, ◌≤◌, ◌<◌, ◌+◌, ◌-◌, ◌∙◌, ◌++◌, ℕ, List, Bool, true, false, length, take, drop, sym, ap, subst, refl, arith, take-append-drop, append_assoc, append-nil, [], length-append, length-take-le, length-drop, inl, inr}
 use Rattle.std.proofs.lemmas.List.{take-append-le}
 use Rattle.std.proofs.Math.Seq.{take-add, take-append-add}
@@ -11,22 +11,22 @@ use Rattle.streetmap_http.specs.declared.arrival.Arrival.{Arrival}
 use Rattle.streetmap_http.specs.declared.arrival.Arrival.TheVariants.{Request, Head, Body}
 use Rattle.streetmap_http.specs.declared.arrival.HeadScan.{HeadScan}
 use Rattle.streetmap_http.specs.Head.{IsHead, HasNoHead}
-use Rattle.streetmap_http.specs.Progress.{StandsAt}
+use Rattle.streetmap_http.specs.Progress.{HasReached}
 use Rattle.streetmap_http.specs.Framing.{HeadValue, Framing, broken, sized, Frames, Breaks, no_end, rule, IsRequest}
 use Rattle.streetmap_http.specs.Streams.{LacksOfBody}
 use Rattle.streetmap_http.specs.Arrivals.{IsAnswered, HoldsOf, HasScanned, SplitsAs}
 use Rattle.streetmap_http.proofs.OneHead.{head_unique}
-use Rattle.streetmap_http.proofs.Fronts.{Shape, framed, large, short, shape_unique, le_true, le_false, behind_same, frames_unique, no_head_at, no_head_within}
+use Rattle.streetmap_http.proofs.Fronts.{Shape, framed, large, short, shape_unique, le_true, le_false, after_same, frames_unique, no_head_at, no_head_within}
 
 -- ---- one thing
 
 abbrev pub arrival_sized : List ℕ → List ℕ → HeadValue → Bool → Arrival
-arrival_sized head behind h true = Request (length head + h.len)
-arrival_sized head behind h false = Body (h.len - length behind)
+arrival_sized head following h true = Request (length head + h.len)
+arrival_sized head following h false = Body (h.len - length following)
 
 abbrev pub arrival_by_head : List ℕ → List ℕ → Framing → Arrival
-arrival_by_head head behind (broken bare fault) = Request (length head)
-arrival_by_head head behind (sized h) = arrival_sized head behind h (nat_le h.len (length behind))
+arrival_by_head head following (broken bare fault) = Request (length head)
+arrival_by_head head following (sized h) = arrival_sized head following h (nat_le h.len (length following))
 
 abbrev pub arrival_by_limit : List ℕ → Arrival
 arrival_by_limit bytes = Request HEAD_LIMIT
@@ -39,11 +39,11 @@ ArrivalShape bytes arrival = Shape arrival_by_head arrival_by_limit arrival_by_p
 
 whole_shape : (bytes : List ℕ) (n : ℕ) (h : HeadValue) (body : List ℕ) → n ≤ length bytes → IsRequest (take n bytes) h body → ArrivalShape bytes (Request n)
 whole_shape bytes n h body within r =
-    let behind : List ℕ = body ++ drop n bytes in
-    let joined : bytes ≡ r.head ++ behind = sym (take-append-drop n bytes) ∙ ap (λ l. l ++ drop n bytes) r.parts ∙ append_assoc r.head body (drop n bytes) in
-    let enough : nat_le h.len (length behind) ≡ true = le_true h.len (length behind) (omega (arith, length-append body (drop n bytes), r.len)) in
+    let following : List ℕ = body ++ drop n bytes in
+    let joined : bytes ≡ r.head ++ following = sym (take-append-drop n bytes) ∙ ap (λ l. l ++ drop n bytes) r.parts ∙ append_assoc r.head body (drop n bytes) in
+    let enough : nat_le h.len (length following) ≡ true = le_true h.len (length following) (omega (arith, length-append body (drop n bytes), r.len)) in
     let size : n ≡ length r.head + h.len = omega (arith, length-take-le n bytes within, ap length r.parts, length-append r.head body, r.len) in
-    framed r.head behind (sized h) joined r.cut r.framed (ap Request size ∙ ap (arrival_sized r.head behind h) (sym enough))
+    framed r.head following (sized h) joined r.cut r.framed (ap Request size ∙ ap (arrival_sized r.head following h) (sym enough))
 
 refused_shape : (bytes : List ℕ) (n : ℕ) (bare : Bool) (fault : FramingFault) → n ≤ length bytes → Breaks (take n bytes) bare fault → ArrivalShape bytes (Request n)
 refused_shape bytes n bare fault within (no_end long none bared is) =
@@ -92,13 +92,13 @@ lacking_held bytes n h within cut says less = (
   },
 )
 
--- ---- more bytes behind those that came
+-- ---- more bytes after the received ones
 
 pub scans_go_on : (scan : HeadScan) (bytes more : List ℕ) → HasScanned scan bytes → HasScanned scan (bytes ++ more)
 scans_go_on scan bytes more s = record {
   within = omega (arith, length-append bytes more, s.within);
   short = s.short;
-  progress = subst (StandsAt scan.progress) (sym (take-append-le scan.scanned bytes more s.within)) s.progress;
+  progress = subst (HasReached scan.progress) (sym (take-append-le scan.scanned bytes more s.within)) s.progress;
   unfinished = s.unfinished;
 }
 
@@ -144,18 +144,18 @@ pub splits : (bytes : List ℕ) (n : ℕ) (f : Framing) → n ≤ length bytes �
 splits bytes n f within cut says (inl (h, body, r)) =
     let streams : take n bytes ++ drop n bytes ≡ r.head ++ body = take-append-drop n bytes ∙ r.parts in
     let heads : take n bytes ≡ r.head = head_unique (take n bytes) r.head (drop n bytes) body cut r.cut streams in
-    let bodies : drop n bytes ≡ body = behind_same (take n bytes) r.head (drop n bytes) body heads streams in
+    let bodies : drop n bytes ≡ body = after_same (take n bytes) r.head (drop n bytes) body heads streams in
     let same : f ≡ sized h = frames_unique r.head f (sized h) (subst (λ l. Frames l f) heads says) r.framed in
     subst (λ g. SplitsAs g (drop n bytes) bytes) (sym same) (subst (λ l. IsRequest bytes h l) (sym bodies) r)
 splits bytes n f within cut says (inr (bare, fault, no_end long none bared is)) = absurd (no_head_at bytes (take n bytes) (drop n bytes) (sym (take-append-drop n bytes)) cut none)
 splits bytes n f within cut says (inr (bare, fault, rule whole framing)) =
     let streams : take n bytes ++ drop n bytes ≡ bytes ++ [] = take-append-drop n bytes ∙ sym (append-nil bytes) in
     let heads : take n bytes ≡ bytes = head_unique (take n bytes) bytes (drop n bytes) [] cut whole streams in
-    let bodies : drop n bytes ≡ [] = behind_same (take n bytes) bytes (drop n bytes) [] heads streams in
+    let bodies : drop n bytes ≡ [] = after_same (take n bytes) bytes (drop n bytes) [] heads streams in
     let same : f ≡ broken bare fault = frames_unique bytes f (broken bare fault) (subst (λ l. Frames l f) heads says) framing in
     subst (λ g. SplitsAs g (drop n bytes) bytes) (sym same) (rule whole framing, bodies)
 
--- they are as many as a head may have, and none ends in them
+-- they are as many as a head may have, and no head ends in them
 pub splits_none : (bytes : List ℕ) → HasNoHead (take HEAD_LIMIT bytes) → IsAnswered bytes → Breaks bytes false HeadTooLarge
 splits_none bytes none (inl (h, body, r)) = absurd (no_head_within bytes r.head body r.parts r.cut none)
 splits_none bytes none (inr (bare, fault, no_end long headless bared is)) = no_end long headless refl refl

@@ -1,4 +1,4 @@
--- Where bytes stand in a head, by their lines.
+-- How far a head has come, by the lines of its bytes.
 use Rattle.std.proofs.Common.{◌≡◌, ◌≢◌, ◌<◌, ◌∙◌, ◌++◌, ◌∷◌, [], ℕ, List, false, length, sym, ap, subst, refl, arith, append_assoc, append-nil, inl, inr, ◌⊎◌}
 use Rattle.std.proofs.lemmas.Bool.{cases_order}
 use Rattle.std.proofs.lemmas.Grind.{common_steps}
@@ -8,7 +8,7 @@ use Rattle.std.specs.Prelude.{All, ⊤, ◌==◌}
 use Rattle.streetmap_http.specs.declared.head.HeadProgress.{HeadProgress}
 use Rattle.streetmap_http.specs.declared.head.HeadProgress.TheVariants.{Blank, BlankCr, Text, Start, StartCr, Done}
 use Rattle.streetmap_http.specs.Head.{HasNoLineFeed, IsEmptyText, nothing, carriage_return, IsLineText, lines_of, AreEmptyLines, IsLinesOfHead}
-use Rattle.streetmap_http.specs.Progress.{BeginsHead, BreaksOffInLine, StandsAt, step}
+use Rattle.streetmap_http.specs.Progress.{BeginsHead, BreaksOffInLine, HasReached, step}
 use Rattle.streetmap_http.proofs.Heads.{progress_after, progress_after_more, progress_append, done_stays}
 
 -- a byte is a line feed, a carriage return, or another
@@ -38,7 +38,7 @@ AtStart Text = ⊥
 AtStart StartCr = ⊥
 AtStart Done = ⊥
 
--- behind a carriage return there
+-- after a carriage return at the start of a line
 begins_with_return : (p : HeadProgress) (b : ℕ) → AtStart p → b ≢ 10 → step (step p 13) b ≡ Text
 begins_with_return Blank b at h = rw (other_than b 10 h) refl
 begins_with_return Start b at h = rw (other_than b 10 h) refl
@@ -55,7 +55,7 @@ begins Text b at h k = absurd at
 begins StartCr b at h k = absurd at
 begins Done b at h k = absurd at
 
--- a line that is not empty leads into it
+-- a line that is not empty leads into its text
 into_line : (p : HeadProgress) (text : List ℕ) → AtStart p → IsLineText text → progress_after p text ≡ Text
 into_line p [] at line = absurd (line.not_empty (nothing refl))
 into_line p (b ∷ []) at line =
@@ -70,7 +70,7 @@ into_line p (b ∷ (c ∷ cs)) at line =
       | inr apart ↦ ap (λ q. progress_after q (c ∷ cs)) (begins p b at first (λ e. elim apart [ inl h ↦ omega (arith, e) | inr h ↦ omega (arith, e) ])) ∙ in_line (c ∷ cs) others
     ]
 
--- and behind its end a line starts
+-- and after its end a new line starts
 past_line : (p : HeadProgress) (text rest : List ℕ) → AtStart p → IsLineText text → progress_after p ((text ++ 10 ∷ []) ++ rest) ≡ progress_after Start rest
 past_line p text rest at line =
     ap (progress_after p) (append_assoc text (10 ∷ []) rest) ∙ progress_append p text (10 ∷ rest) ∙ ap (λ q. progress_after q (10 ∷ rest)) (into_line p text at line)
@@ -100,7 +100,7 @@ past_blank (l ∷ ls) rest h =
     ∙ past_empty l (lines_of ls ++ rest) (All-head IsEmptyText l ls h)
     ∙ past_blank ls rest (All-tail IsEmptyText l ls h)
 
--- ---- where the bytes stand is how far the head has come
+-- ---- the bytes of a head determine how far it has come
 
 into_text : (lines : List (List ℕ)) (text : List ℕ) → All IsLineText lines → IsLineText text → progress_after Blank (lines_of lines ++ text) ≡ Text
 into_text [] text h line = into_line Blank text tt line
@@ -115,7 +115,7 @@ blank_is xs s = ap (progress_after Blank) s.joined ∙ alone Blank (lines_of s.l
 start_is : (xs : List ℕ) → BeginsHead xs → progress_after Blank xs ≡ Start
 start_is xs s = ap (progress_after Blank) s.joined ∙ past_blank s.blank (lines_of s.lines) s.skipped ∙ alone Blank (lines_of s.lines) ∙ past_all s.lines [] s.some s.full
 
--- one byte behind bytes that lead there
+-- one byte after bytes that lead to this point
 one_more : (xs front : List ℕ) (b : ℕ) (p : HeadProgress) → xs ≡ front ++ b ∷ [] → progress_after Blank front ≡ p → progress_after Blank xs ≡ step p b
 one_more xs front b p e leads = ap (progress_after Blank) e ∙ progress_after_more Blank front b ∙ ap (λ q. step q b) leads
 
@@ -128,16 +128,16 @@ head_is head lines h =
     ap (progress_after Blank) h.joined ∙ past_blank h.blank (lines_of lines ++ (h.last ++ 10 ∷ [])) h.skipped
     ∙ past_all lines (h.last ++ 10 ∷ []) h.some h.full ∙ ended_is h.last h.ends
 
-pub stands_is : (p : HeadProgress) (xs : List ℕ) → StandsAt p xs → progress_after Blank xs ≡ p
-stands_is Blank xs s = blank_is xs s
-stands_is BlankCr xs (front, s, e) = one_more xs front 13 Blank e (blank_is front s)
-stands_is Text xs s = ap (progress_after Blank) s.joined ∙ past_blank s.blank (lines_of s.lines ++ s.text) s.skipped ∙ into_text s.lines s.text s.full s.line
-stands_is Start xs s = start_is xs s
-stands_is StartCr xs (front, s, e) = one_more xs front 13 Start e (start_is front s)
-stands_is Done xs (head, rest, lines, h, e) =
+pub reached_is : (p : HeadProgress) (xs : List ℕ) → HasReached p xs → progress_after Blank xs ≡ p
+reached_is Blank xs s = blank_is xs s
+reached_is BlankCr xs (front, s, e) = one_more xs front 13 Blank e (blank_is front s)
+reached_is Text xs s = ap (progress_after Blank) s.joined ∙ past_blank s.blank (lines_of s.lines ++ s.text) s.skipped ∙ into_text s.lines s.text s.full s.line
+reached_is Start xs s = start_is xs s
+reached_is StartCr xs (front, s, e) = one_more xs front 13 Start e (start_is front s)
+reached_is Done xs (head, rest, lines, h, e) =
     ap (progress_after Blank) e ∙ progress_append Blank head rest ∙ ap (λ q. progress_after q rest) (head_is head lines h) ∙ done_stays rest
 
--- ---- with one more byte
+-- ---- one more byte
 
 lines_more : (lines : List (List ℕ)) (text : List ℕ) → lines_of (lines ++ text ∷ []) ≡ lines_of lines ++ (text ++ 10 ∷ [])
 lines_more [] text = append-nil (text ++ 10 ∷ [])
@@ -150,7 +150,7 @@ not_empty : (b : ℕ) (text : List ℕ) → b ≢ 13 → IsEmptyText (b ∷ text
 not_empty b text k (nothing e) = cc
 not_empty b text k (carriage_return e) = k (same_head b 13 text [] e)
 
--- a line whose text begins with another byte than a carriage return, or with two bytes
+-- a line whose text begins with a byte other than a carriage return, or has two bytes
 pub full_by_first : (b : ℕ) (text : List ℕ) → b ≢ 10 → b ≢ 13 → HasNoLineFeed text → IsLineText (b ∷ text)
 full_by_first b text h k one_line = record { one_line = All-cons (λ x. x ≢ 10) b text h one_line; not_empty = not_empty b text k }
 
@@ -175,7 +175,7 @@ no_feed = All-nil (λ b. b ≢ 10)
 no_lines : All IsLineText []
 no_lines = All-nil IsLineText
 
--- one empty line more
+-- one more empty line
 empty_line : (xs front text : List ℕ) → xs ≡ front ++ (text ++ 10 ∷ []) → AreEmptyLines front → IsEmptyText text → AreEmptyLines xs
 empty_line xs front text e s empty = record {
   lines = s.lines ++ text ∷ [];
@@ -183,7 +183,7 @@ empty_line xs front text e s empty = record {
   joined = e ∙ ap (λ l. l ++ (text ++ 10 ∷ [])) s.joined ∙ sym (lines_more s.lines text);
 }
 
--- a line that is not empty begins behind empty lines
+-- a line that is not empty begins after empty lines
 first_text : (xs front text : List ℕ) → xs ≡ front ++ text → AreEmptyLines front → IsLineText text → BreaksOffInLine xs
 first_text xs front text e s line = record {
   blank = s.lines;
@@ -195,7 +195,7 @@ first_text xs front text e s line = record {
   joined = e ∙ ap (λ l. l ++ text) s.joined;
 }
 
--- or behind others
+-- or after other lines
 next_text : (xs front text : List ℕ) → xs ≡ front ++ text → BeginsHead front → IsLineText text → BreaksOffInLine xs
 next_text xs front text e s line = record {
   blank = s.blank;
@@ -207,9 +207,9 @@ next_text xs front text e s line = record {
   joined = e ∙ ap (λ l. l ++ text) s.joined ∙ append_assoc (lines_of s.blank) (lines_of s.lines) text;
 }
 
--- it goes on, or ends
-behind_text : (a b text more : List ℕ) → (a ++ (b ++ text)) ++ more ≡ a ++ (b ++ (text ++ more))
-behind_text a b text more = append_assoc a (b ++ text) more ∙ ap (λ l. a ++ l) (append_assoc b text more)
+-- the line goes on, or ends
+after_text : (a b text more : List ℕ) → (a ++ (b ++ text)) ++ more ≡ a ++ (b ++ (text ++ more))
+after_text a b text more = append_assoc a (b ++ text) more ∙ ap (λ l. a ++ l) (append_assoc b text more)
 
 text_goes_on : (xs : List ℕ) (b : ℕ) → b ≢ 10 → BreaksOffInLine xs → BreaksOffInLine (xs ++ b ∷ [])
 text_goes_on xs b other s = record {
@@ -219,7 +219,7 @@ text_goes_on xs b other s = record {
   skipped = s.skipped;
   full = s.full;
   line = record { one_line = All-push (λ x. x ≢ 10) s.text b s.line.one_line other; not_empty = longer_not_empty s.text b s.line.not_empty };
-  joined = ap (λ l. l ++ b ∷ []) s.joined ∙ behind_text (lines_of s.blank) (lines_of s.lines) s.text (b ∷ []);
+  joined = ap (λ l. l ++ b ∷ []) s.joined ∙ after_text (lines_of s.blank) (lines_of s.lines) s.text (b ∷ []);
 }
 
 text_ends : (xs : List ℕ) → BreaksOffInLine xs → BeginsHead (xs ++ 10 ∷ [])
@@ -229,10 +229,10 @@ text_ends xs s = record {
   skipped = s.skipped;
   some = omega (arith, length_push s.lines s.text);
   full = All-push IsLineText s.lines s.text s.full s.line;
-  joined = ap (λ l. l ++ 10 ∷ []) s.joined ∙ behind_text (lines_of s.blank) (lines_of s.lines) s.text (10 ∷ []) ∙ ap (λ l. lines_of s.blank ++ l) (sym (lines_more s.lines s.text));
+  joined = ap (λ l. l ++ 10 ∷ []) s.joined ∙ after_text (lines_of s.blank) (lines_of s.lines) s.text (10 ∷ []) ∙ ap (λ l. lines_of s.blank ++ l) (sym (lines_more s.lines s.text));
 }
 
--- the empty line behind the field lines ends the head
+-- the empty line after the field lines ends the head
 empty_line_ends : (xs front text : List ℕ) → xs ≡ front ++ (text ++ 10 ∷ []) → IsEmptyText text → (s : BeginsHead front) → IsLinesOfHead xs s.lines
 empty_line_ends xs front text e empty s = record {
   blank = s.blank;
@@ -244,11 +244,11 @@ empty_line_ends xs front text e empty s = record {
   joined = e ∙ ap (λ l. l ++ (text ++ 10 ∷ [])) s.joined ∙ append_assoc (lines_of s.blank) (lines_of s.lines) (text ++ 10 ∷ []);
 }
 
--- a carriage return and one byte more
+-- a carriage return and one more byte
 return_more : (xs front : List ℕ) (b : ℕ) → xs ≡ front ++ 13 ∷ [] → xs ++ b ∷ [] ≡ front ++ 13 ∷ (b ∷ [])
 return_more xs front b e = ap (λ l. l ++ b ∷ []) e ∙ append_assoc front (13 ∷ []) (b ∷ [])
 
--- at the start of a line, behind a carriage return or not
+-- at the start of a line after the field lines, or after a carriage return there
 abbrev pub AtLast : HeadProgress → Type 0
 AtLast Blank = ⊥
 AtLast BlankCr = ⊥
@@ -257,8 +257,8 @@ AtLast Start = ⊤
 AtLast StartCr = ⊤
 AtLast Done = ⊥
 
--- a line feed at the start of a line behind the field lines, or behind a carriage return there
-pub lines_end : (p : HeadProgress) (xs : List ℕ) → AtLast p → StandsAt p xs → (lines : List (List ℕ)) × IsLinesOfHead (xs ++ 10 ∷ []) lines
+-- a line feed at the start of a line after the field lines, or after a carriage return there
+pub lines_end : (p : HeadProgress) (xs : List ℕ) → AtLast p → HasReached p xs → (lines : List (List ℕ)) × IsLinesOfHead (xs ++ 10 ∷ []) lines
 lines_end Blank xs at s = absurd at
 lines_end BlankCr xs at s = absurd at
 lines_end Text xs at s = absurd at
@@ -266,8 +266,8 @@ lines_end Start xs at s = (s.lines, empty_line_ends (xs ++ 10 ∷ []) xs [] refl
 lines_end StartCr xs at (front, s, e) = (s.lines, empty_line_ends (xs ++ 10 ∷ []) front (13 ∷ []) (return_more xs front 10 e) (carriage_return refl) s)
 lines_end Done xs at s = absurd at
 
-behind_none : (xs : List ℕ) → ((lines : List (List ℕ)) × IsLinesOfHead xs lines) → StandsAt Done xs
-behind_none xs (lines, h) = (xs, [], lines, h, sym (append-nil xs))
+after_none : (xs : List ℕ) → ((lines : List (List ℕ)) × IsLinesOfHead xs lines) → HasReached Done xs
+after_none xs (lines, h) = (xs, [], lines, h, sym (append-nil xs))
 
 apart_of : (b n : ℕ) → (b < n) ⊎ (n < b) → b ≢ n
 apart_of b n (inl h) = λ e. omega (arith, e)
@@ -279,44 +279,44 @@ by_feed P feed other b = elim (cases_order b 10) [ inl same ↦ subst P (sym sam
 within : (b : ℕ) → b ≢ 10 → step Text b ≡ Text
 within b h = rw (other_than b 10 h) refl
 
--- the bytes with one more stand where the head has come with it
-pub step_stands : (p : HeadProgress) (xs : List ℕ) (b : ℕ) → StandsAt p xs → StandsAt (step p b) (xs ++ b ∷ [])
-step_stands Blank xs b s = on_byte (λ c. StandsAt (step Blank c) (xs ++ c ∷ []))
+-- one more byte takes the head one step further
+pub step_reached : (p : HeadProgress) (xs : List ℕ) (b : ℕ) → HasReached p xs → HasReached (step p b) (xs ++ b ∷ [])
+step_reached Blank xs b s = on_byte (λ c. HasReached (step Blank c) (xs ++ c ∷ []))
     (empty_line (xs ++ 10 ∷ []) xs [] refl s (nothing refl))
     (xs, s, refl)
-    (λ c feed return. subst (λ q. StandsAt q (xs ++ c ∷ [])) (sym (begins Blank c tt feed return)) (first_text (xs ++ c ∷ []) xs (c ∷ []) refl s (full_by_first c [] feed return no_feed)))
+    (λ c feed return. subst (λ q. HasReached q (xs ++ c ∷ [])) (sym (begins Blank c tt feed return)) (first_text (xs ++ c ∷ []) xs (c ∷ []) refl s (full_by_first c [] feed return no_feed)))
     b
-step_stands BlankCr xs b (front, s, e) = by_feed (λ c. StandsAt (step BlankCr c) (xs ++ c ∷ []))
+step_reached BlankCr xs b (front, s, e) = by_feed (λ c. HasReached (step BlankCr c) (xs ++ c ∷ []))
     (empty_line (xs ++ 10 ∷ []) front (13 ∷ []) (return_more xs front 10 e) s (carriage_return refl))
-    (λ c feed. subst (λ q. StandsAt q (xs ++ c ∷ [])) (sym (begins_with_return Blank c tt feed)) (first_text (xs ++ c ∷ []) front (13 ∷ (c ∷ [])) (return_more xs front c e) s (full_by_two c [] feed no_feed)))
+    (λ c feed. subst (λ q. HasReached q (xs ++ c ∷ [])) (sym (begins_with_return Blank c tt feed)) (first_text (xs ++ c ∷ []) front (13 ∷ (c ∷ [])) (return_more xs front c e) s (full_by_two c [] feed no_feed)))
     b
-step_stands Text xs b s = by_feed (λ c. StandsAt (step Text c) (xs ++ c ∷ []))
+step_reached Text xs b s = by_feed (λ c. HasReached (step Text c) (xs ++ c ∷ []))
     (text_ends xs s)
-    (λ c feed. subst (λ q. StandsAt q (xs ++ c ∷ [])) (sym (within c feed)) (text_goes_on xs c feed s))
+    (λ c feed. subst (λ q. HasReached q (xs ++ c ∷ [])) (sym (within c feed)) (text_goes_on xs c feed s))
     b
-step_stands Start xs b s = on_byte (λ c. StandsAt (step Start c) (xs ++ c ∷ []))
-    (behind_none (xs ++ 10 ∷ []) (lines_end Start xs tt s))
+step_reached Start xs b s = on_byte (λ c. HasReached (step Start c) (xs ++ c ∷ []))
+    (after_none (xs ++ 10 ∷ []) (lines_end Start xs tt s))
     (xs, s, refl)
-    (λ c feed return. subst (λ q. StandsAt q (xs ++ c ∷ [])) (sym (begins Start c tt feed return)) (next_text (xs ++ c ∷ []) xs (c ∷ []) refl s (full_by_first c [] feed return no_feed)))
+    (λ c feed return. subst (λ q. HasReached q (xs ++ c ∷ [])) (sym (begins Start c tt feed return)) (next_text (xs ++ c ∷ []) xs (c ∷ []) refl s (full_by_first c [] feed return no_feed)))
     b
-step_stands StartCr xs b (front, s, e) = by_feed (λ c. StandsAt (step StartCr c) (xs ++ c ∷ []))
-    (behind_none (xs ++ 10 ∷ []) (lines_end StartCr xs tt (front, s, e)))
-    (λ c feed. subst (λ q. StandsAt q (xs ++ c ∷ [])) (sym (begins_with_return Start c tt feed)) (next_text (xs ++ c ∷ []) front (13 ∷ (c ∷ [])) (return_more xs front c e) s (full_by_two c [] feed no_feed)))
+step_reached StartCr xs b (front, s, e) = by_feed (λ c. HasReached (step StartCr c) (xs ++ c ∷ []))
+    (after_none (xs ++ 10 ∷ []) (lines_end StartCr xs tt (front, s, e)))
+    (λ c feed. subst (λ q. HasReached q (xs ++ c ∷ [])) (sym (begins_with_return Start c tt feed)) (next_text (xs ++ c ∷ []) front (13 ∷ (c ∷ [])) (return_more xs front c e) s (full_by_two c [] feed no_feed)))
     b
-step_stands Done xs b (head, rest, lines, h, e) = (head, rest ++ b ∷ [], lines, h, ap (λ l. l ++ b ∷ []) e ∙ append_assoc head rest (b ∷ []))
+step_reached Done xs b (head, rest, lines, h, e) = (head, rest ++ b ∷ [], lines, h, ap (λ l. l ++ b ∷ []) e ∙ append_assoc head rest (b ∷ []))
 
-pub stands_first : StandsAt Blank []
-stands_first = record { lines = []; empty = All-nil IsEmptyText; joined = refl }
+pub reached_first : HasReached Blank []
+reached_first = record { lines = []; empty = All-nil IsEmptyText; joined = refl }
 
-stands_behind : (p : HeadProgress) (front bytes : List ℕ) → StandsAt p front → StandsAt (progress_after p bytes) (front ++ bytes)
-stands_behind p front [] s = subst (StandsAt p) (sym (append-nil front)) s
-stands_behind p front (b ∷ bs) s = subst (StandsAt (progress_after (step p b) bs)) (append_assoc front (b ∷ []) bs) (stands_behind (step p b) (front ++ b ∷ []) bs (step_stands p front b s))
+reached_after : (p : HeadProgress) (front bytes : List ℕ) → HasReached p front → HasReached (progress_after p bytes) (front ++ bytes)
+reached_after p front [] s = subst (HasReached p) (sym (append-nil front)) s
+reached_after p front (b ∷ bs) s = subst (HasReached (progress_after (step p b) bs)) (append_assoc front (b ∷ []) bs) (reached_after (step p b) (front ++ b ∷ []) bs (step_reached p front b s))
 
--- all bytes stand somewhere
-pub stands : (bytes : List ℕ) → StandsAt (progress_after Blank bytes) bytes
-stands bytes = stands_behind Blank [] bytes stands_first
+-- any bytes are those of a head that has come this far
+pub reached : (bytes : List ℕ) → HasReached (progress_after Blank bytes) bytes
+reached bytes = reached_after Blank [] bytes reached_first
 
--- what ends a head is a line feed at the start of a line, behind a carriage return or not
+-- a head ends with a line feed at the start of a line, or after a carriage return there
 abbrev pub EndsThere : HeadProgress → ℕ → Type 0
 EndsThere p b = AtLast p × (b ≡ 10)
 

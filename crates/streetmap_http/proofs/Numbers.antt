@@ -1,4 +1,4 @@
--- Numbers of any length are the same where their digits behind the zeros at the front are.
+-- Numbers of any length are equal if their digits after the leading zeros are the same.
 use Rattle.std.proofs.Common.{◌≡◌, ◌≢◌, ℕ, ◌+◌, ◌*◌, ◌-◌, ◌<◌, ◌≤◌, ◌∙◌, List, [], ◌∷◌, ◌++◌, length, take, get_or, Bool, true, false, refl, sym, ap, subst, arith, suc, zero, length-append, inl, inr}
 use Rattle.std.proofs.lemmas.Bool.{cases_order}
 use Rattle.std.proofs.lemmas.Bool.Decides.{nat_tests, same_from_decides}
@@ -9,11 +9,11 @@ use Rattle.std.specs.Prelude.{IsTrue, ◌==◌, ◌&&◌}
 use Rattle.std.specs.Char.{is_ascii_digit}
 use Rattle.std.specs.Str.{all_ascii_digits, bytes_eq}
 use Rattle.std.specs.Str.Parse.{digits_value}
-use Rattle.streetmap_http.specs.Lengths.{is_number, number_of, behind_zeros, is_same_number}
+use Rattle.streetmap_http.specs.Lengths.{is_number, number_of, after_zeros, is_same_number}
 use Rattle.streetmap_http.proofs.Digits.{digit_counts}
 use Rattle.streetmap_http.proofs.ByLines.{other_than}
 
--- bytes that are not empty, by their last
+-- bytes that are not empty, split before the last one
 by_last : (bytes : List ℕ) → 0 < length bytes → bytes ≡ take (length bytes - 1) bytes ++ get_or bytes (length bytes - 1) 0 ∷ []
 by_last bytes some =
     let all : take (length bytes - 1 + 1) bytes ≡ bytes = take_all (length bytes - 1 + 1) bytes (omega arith) in
@@ -22,7 +22,7 @@ by_last bytes some =
 abbrev AreDigits : List ℕ → Type 0
 AreDigits text = all_ascii_digits text ≡ true
 
--- the first digit is no zero
+-- the first digit is not zero
 abbrev BeginsAboveZero : List ℕ → Type 0
 BeginsAboveZero text = 0 < length text → get_or text 0 0 ≢ 48
 
@@ -43,7 +43,7 @@ last_digit (x ∷ xs) c h = last_digit xs c (both_true (is_ascii_digit x) (all_a
 digit_range : (c : ℕ) → is_ascii_digit c ≡ true → (48 ≤ c) × (c ≤ 57)
 digit_range c h = (grind (arith, nat_tests), grind (arith, nat_tests))
 
--- the number by its last digit
+-- the number, computed from its last digit and the digits before it
 by_last_digit : (text front : List ℕ) (c : ℕ) → text ≡ front ++ c ∷ [] → AreDigits text → (digits_value 10 text ≡ digits_value 10 front * 10 + (c - 48)) × (48 ≤ c) × (c ≤ 57)
 by_last_digit text front c e all =
     let last : is_ascii_digit c ≡ true = last_digit front c (subst AreDigits e all) in
@@ -59,7 +59,7 @@ first_alone text front c e none h is_zero =
     let whole : text ≡ c ∷ [] = e ∙ ap (λ l. l ++ c ∷ []) none in
     h (omega (arith, ap length whole)) (ap (λ l. get_or l 0 0) whole ∙ is_zero)
 
--- no digits but zeros make nothing
+-- digits with the value 0 and without a leading zero are none
 none_by_zero : (n : ℕ) (text : List ℕ) → length text ≤ n → AreDigits text → BeginsAboveZero text → digits_value 10 text ≡ 0 → text ≡ []
 none_by_zero n [] short all begins none = refl
 none_by_zero zero (x ∷ xs) short all begins none = absurd (omega arith)
@@ -74,7 +74,7 @@ none_by_zero (suc n) (x ∷ xs) short all begins none =
     let nothing : front ≡ [] = none_by_zero n front less digits (front_begins text front c e begins) (omega (arith, by.0, none)) in
     absurd (first_alone text front c e nothing begins (omega (arith, by.0, by.1, none)))
 
--- digits that write one number, the first no zero, are the same
+-- digits that write the same number without leading zeros are the same
 same_digits : (n : ℕ) (a b : List ℕ) → length a ≤ n → AreDigits a → AreDigits b → BeginsAboveZero a → BeginsAboveZero b → digits_value 10 a ≡ digits_value 10 b → a ≡ b
 same_digits n [] b short da db za zb same = sym (none_by_zero (length b) b (omega arith) db zb (sym same))
 same_digits n (x ∷ xs) [] short da db za zb same = none_by_zero (length (x ∷ xs)) (x ∷ xs) (omega arith) da za same
@@ -97,21 +97,21 @@ same_digits (suc n) (x ∷ xs) (y ∷ ys) short da db za zb same =
     let lasts : c ≡ d = omega (arith, pa.0, pb.0, same, pa.1, pa.2, pb.1, pb.2) in
     ea ∙ ap (λ l. l ++ c ∷ []) fronts ∙ ap (λ k. fb ++ k ∷ []) lasts ∙ sym eb
 
--- what is behind the zeros
+-- the digits after the leading zeros
 pub record Stripped (text : List ℕ) : Type 0 where
-  pub digits : AreDigits (behind_zeros text)
-  pub begins : BeginsAboveZero (behind_zeros text)
-  pub same : digits_value 10 (behind_zeros text) ≡ digits_value 10 text
+  pub digits : AreDigits (after_zeros text)
+  pub begins : BeginsAboveZero (after_zeros text)
+  pub same : digits_value 10 (after_zeros text) ≡ digits_value 10 text
 
 stripped : (text : List ℕ) → AreDigits text → Stripped text
-unfolding behind_zeros
+unfolding after_zeros
 stripped [] all = record { digits = refl; begins = λ some. absurd (omega arith); same = refl }
 stripped (x ∷ xs) all = elim (cases_order x 48) [
   | inl zero_first ↦ subst (λ c. Stripped (c ∷ xs)) (sym zero_first)
       (let s = stripped xs (both_true (is_ascii_digit x) (all_ascii_digits xs) all).1 in record { digits = s.digits; begins = s.begins; same = s.same })
   | inr apart ↦
       let h : x ≢ 48 = λ e. elim apart [ inl k ↦ omega (arith, e) | inr k ↦ omega (arith, e) ] in
-      let kept : behind_zeros (x ∷ xs) ≡ x ∷ xs = rw (other_than x 48 h) refl in
+      let kept : after_zeros (x ∷ xs) ≡ x ∷ xs = rw (other_than x 48 h) refl in
       record { digits = subst AreDigits (sym kept) all; begins = subst BeginsAboveZero (sym kept) (λ some e. h e); same = ap (digits_value 10) kept }
 ]
 
@@ -121,12 +121,12 @@ equal_test m n h = grind (arith, nat_tests)
 test_equal : (m n : ℕ) → m ≡ n → IsTrue (m == n)
 test_equal m n h = grind (arith, nat_tests)
 
-compared : (a b : List ℕ) → AreDigits a → AreDigits b → bytes_eq (behind_zeros a) (behind_zeros b) ≡ (number_of a == number_of b)
+compared : (a b : List ℕ) → AreDigits a → AreDigits b → bytes_eq (after_zeros a) (after_zeros b) ≡ (number_of a == number_of b)
 compared a b da db =
     let sa = stripped a da in
     let sb = stripped b db in
-    same_from_decides (bytes_eq (behind_zeros a) (behind_zeros b)) (number_of a == number_of b) (bytes_eq-Decides (behind_zeros a) (behind_zeros b)) (
-      λ t. same_digits (length (behind_zeros a)) (behind_zeros a) (behind_zeros b) (omega arith) sa.digits sb.digits sa.begins sb.begins
+    same_from_decides (bytes_eq (after_zeros a) (after_zeros b)) (number_of a == number_of b) (bytes_eq-Decides (after_zeros a) (after_zeros b)) (
+      λ t. same_digits (length (after_zeros a)) (after_zeros a) (after_zeros b) (omega arith) sa.digits sb.digits sa.begins sb.begins
           (sa.same ∙ equal_test (number_of a) (number_of b) t ∙ sym sb.same),
       λ e. test_equal (number_of a) (number_of b) (sym sa.same ∙ ap (digits_value 10) e ∙ sb.same),
     )
@@ -134,7 +134,7 @@ compared a b da db =
 digits_of_number : (text : List ℕ) → IsTrue (is_number text) → AreDigits text
 digits_of_number text h = (both_true _ (all_ascii_digits text) h).1
 
--- the test of the code is that of the numbers
-pub same_number : (a b : List ℕ) (n : Bool) → n ≡ is_number a → IsTrue (is_number b) → (n && bytes_eq (behind_zeros a) (behind_zeros b)) ≡ is_same_number a b
+-- the test in the code is the comparison of the numbers
+pub same_number : (a b : List ℕ) (n : Bool) → n ≡ is_number a → IsTrue (is_number b) → (n && bytes_eq (after_zeros a) (after_zeros b)) ≡ is_same_number a b
 same_number a b true e hb = compared a b (digits_of_number a (sym e)) (digits_of_number b hb) ∙ ap (λ t. t && (number_of a == number_of b)) e
 same_number a b false e hb = ap (λ t. t && (number_of a == number_of b)) e

@@ -1,4 +1,4 @@
--- Where a head ends, and that a stream begins with at most one.
+-- Where a head ends; and a stream begins with at most one head.
 use Rattle.std.proofs.Common.{◌≡◌, ◌≢◌, ◌<◌, ◌+◌, ◌-◌, ◌∙◌, ◌++◌, ◌∷◌, [], ℕ, List, length, take, set, sym, ap, subst, arith, append_assoc, length-take, take-append-drop, drop, inl, inr, get_or}
 use Rattle.std.proofs.lemmas.Bool.{cases_order}
 use Rattle.std.proofs.lemmas.List.{take_more, take_more_set, length_push, take-take, take-append-le}
@@ -7,53 +7,53 @@ use Rattle.streetmap_http.specs.declared.limits.TheConstants.{HEAD_LIMIT}
 use Rattle.streetmap_http.specs.declared.head.HeadProgress.{HeadProgress}
 use Rattle.streetmap_http.specs.declared.head.HeadProgress.TheVariants.{Blank, BlankCr, Text, Start, StartCr, Done}
 use Rattle.streetmap_http.specs.Head.{IsEmptyText, nothing, carriage_return, lines_of, IsLinesOfHead, IsHead, HasNoHead, IsBlank}
-use Rattle.streetmap_http.specs.Progress.{StandsAt, step}
+use Rattle.streetmap_http.specs.Progress.{HasReached, step}
 use Rattle.streetmap_http.proofs.Heads.{progress_after, front_of_more, done_stays, progress_append}
-use Rattle.streetmap_http.proofs.ByLines.{AtLast, past_blank, past_all, head_is, stands_is, lines_end, step_stands, EndsThere, ends_there}
+use Rattle.streetmap_http.proofs.ByLines.{AtLast, past_blank, past_all, head_is, reached_is, lines_end, step_reached, EndsThere, ends_there}
 
 -- ---- one more byte
 
 -- the next byte ends a head
-head_more : (xs : List ℕ) (b : ℕ) (p : HeadProgress) → length xs < HEAD_LIMIT → StandsAt p xs → p ≢ Done → step p b ≡ Done → IsHead (xs ++ b ∷ [])
+head_more : (xs : List ℕ) (b : ℕ) (p : HeadProgress) → length xs < HEAD_LIMIT → HasReached p xs → p ≢ Done → step p b ≡ Done → IsHead (xs ++ b ∷ [])
 head_more xs b p room here not_yet ends =
     let there : EndsThere p b = ends_there p b not_yet ends in
     let found = lines_end p xs there.0 here in
     record { short = omega (arith, length_push xs b); lines = found.0; are = subst (λ c. IsLinesOfHead (xs ++ c ∷ []) found.0) (sym there.1) found.1 }
 
--- of bytes that are read to a buffer
-pub head_set : (buf : List ℕ) (i b : ℕ) (p : HeadProgress) → i < HEAD_LIMIT → length buf ≡ HEAD_LIMIT → StandsAt p (take i buf) → p ≢ Done → step p b ≡ Done → IsHead (take (i + 1) (set buf i b))
+-- the same for bytes that are read into a buffer
+pub head_set : (buf : List ℕ) (i b : ℕ) (p : HeadProgress) → i < HEAD_LIMIT → length buf ≡ HEAD_LIMIT → HasReached p (take i buf) → p ≢ Done → step p b ≡ Done → IsHead (take (i + 1) (set buf i b))
 head_set buf i b p small room here not_yet ends =
     let fits : i < length buf = omega arith in
     let front : length (take i buf) < HEAD_LIMIT = simp length-take (omega arith) in
     subst IsHead (sym (take_more_set buf i b fits)) (head_more (take i buf) b p front here not_yet ends)
 
-pub stands_set : (buf : List ℕ) (i b : ℕ) (p : HeadProgress) → i < HEAD_LIMIT → length buf ≡ HEAD_LIMIT → StandsAt p (take i buf) → StandsAt (step p b) (take (i + 1) (set buf i b))
-stands_set buf i b p small room here =
+pub reached_set : (buf : List ℕ) (i b : ℕ) (p : HeadProgress) → i < HEAD_LIMIT → length buf ≡ HEAD_LIMIT → HasReached p (take i buf) → HasReached (step p b) (take (i + 1) (set buf i b))
+reached_set buf i b p small room here =
     let fits : i < length buf = omega arith in
-    subst (StandsAt (step p b)) (sym (take_more_set buf i b fits)) (step_stands p (take i buf) b here)
+    subst (HasReached (step p b)) (sym (take_more_set buf i b fits)) (step_reached p (take i buf) b here)
 
--- of bytes that came
-pub head_take : (bytes : List ℕ) (i : ℕ) (p : HeadProgress) → i < length bytes → i < HEAD_LIMIT → StandsAt p (take i bytes) → p ≢ Done → step p (get_or bytes i 0) ≡ Done → IsHead (take (i + 1) bytes)
+-- the same for bytes that were received
+pub head_take : (bytes : List ℕ) (i : ℕ) (p : HeadProgress) → i < length bytes → i < HEAD_LIMIT → HasReached p (take i bytes) → p ≢ Done → step p (get_or bytes i 0) ≡ Done → IsHead (take (i + 1) bytes)
 head_take bytes i p more small here not_yet ends =
     let front : length (take i bytes) < HEAD_LIMIT = simp length-take (omega arith) in
     subst IsHead (sym (take_more bytes i 0 more)) (head_more (take i bytes) (get_or bytes i 0) p front here not_yet ends)
 
-pub stands_take : (bytes : List ℕ) (i : ℕ) (p : HeadProgress) → i < length bytes → StandsAt p (take i bytes) → StandsAt (step p (get_or bytes i 0)) (take (i + 1) bytes)
-stands_take bytes i p more here = subst (StandsAt (step p (get_or bytes i 0))) (sym (take_more bytes i 0 more)) (step_stands p (take i bytes) (get_or bytes i 0) here)
+pub reached_take : (bytes : List ℕ) (i : ℕ) (p : HeadProgress) → i < length bytes → HasReached p (take i bytes) → HasReached (step p (get_or bytes i 0)) (take (i + 1) bytes)
+reached_take bytes i p more here = subst (HasReached (step p (get_or bytes i 0))) (sym (take_more bytes i 0 more)) (step_reached p (take i bytes) (get_or bytes i 0) here)
 
--- ---- where no head is
+-- ---- bytes without a head
 
 head_done : (head : List ℕ) → IsHead head → progress_after Blank head ≡ Done
 head_done head h = head_is head h.lines h.are
 
--- bytes that stand before the end of a head begin with none
-pub not_ended : (p : HeadProgress) (xs : List ℕ) → StandsAt p xs → p ≢ Done → HasNoHead xs
+-- bytes of a head that has not ended begin with no head
+pub not_ended : (p : HeadProgress) (xs : List ℕ) → HasReached p xs → p ≢ Done → HasNoHead xs
 not_ended p xs here not_yet = λ head rest e h.
-    not_yet (sym (stands_is p xs here) ∙ ap (progress_after Blank) e ∙ progress_append Blank head rest ∙ ap (λ q. progress_after q rest) (head_done head h) ∙ done_stays rest)
+    not_yet (sym (reached_is p xs here) ∙ ap (progress_after Blank) e ∙ progress_append Blank head rest ∙ ap (λ q. progress_after q rest) (head_done head h) ∙ done_stays rest)
 
--- and are blank only at a start behind empty lines
-pub not_blank : (p : HeadProgress) (xs : List ℕ) → StandsAt p xs → p ≢ Blank → IsBlank xs → ⊥
-not_blank p xs here other blank = other (sym (stands_is p xs here) ∙ stands_is Blank xs blank.blank)
+-- and they are blank only if the head has come no further than empty lines
+pub not_blank : (p : HeadProgress) (xs : List ℕ) → HasReached p xs → p ≢ Blank → IsBlank xs → ⊥
+not_blank p xs here other blank = other (sym (reached_is p xs here) ∙ reached_is Blank xs blank.blank)
 
 -- ---- a stream begins with at most one head
 

@@ -76,11 +76,11 @@ phrases_are_short n =
     is_short (n == 511) (codes "Network Authentication Required") _ (lit≤ tt) (
     short tt))))))))))))))))))))))))))))))))))))))))))))))))))))))))))))))
 
--- a phrase behind a reference, or none
-pub told : {B : Type 0} (view : B → List ℕ) (found : Option B) (other : B) (phrase : Option (List ℕ)) → option_map view found ≡ phrase → view other ≡ [] → view (unwrap_or found other) ≡ unwrap_or phrase []
-told view None other phrase e none = none ∙ ap (λ p. unwrap_or p []) e
-told view (Some b) other phrase e none = ap (λ p. unwrap_or p []) e
+-- a phrase by reference; empty if none is known
+pub stated : {B : Type 0} (view : B → List ℕ) (found : Option B) (other : B) (phrase : Option (List ℕ)) → option_map view found ≡ phrase → view other ≡ [] → view (unwrap_or found other) ≡ unwrap_or phrase []
+stated view None other phrase e none = none ∙ ap (λ p. unwrap_or p []) e
+stated view (Some b) other phrase e none = ap (λ p. unwrap_or p []) e
 
-pub told_short : (phrase : Option (List ℕ)) → Short phrase → length (unwrap_or phrase []) ≤ 40
-told_short None (short h) = lit≤ tt
-told_short (Some p) (short h) = h
+pub stated_short : (phrase : Option (List ℕ)) → Short phrase → length (unwrap_or phrase []) ≤ 40
+stated_short None (short h) = lit≤ tt
+stated_short (Some p) (short h) = h

@@ -1,4 +1,4 @@
--- What is read, and what came, is the front of the stream.
+-- The bytes read, or received, are the front of the stream.
 use Rattle.std.proofs.Common.{◌≡◌, ◌<◌, ◌-◌, ◌∙◌, ◌++◌, [], ℕ, List, length, take, drop, sym, ap, subst, refl, arith, take-append-drop, append_assoc, append-nil, length-append, inl, inr, ◌⊎◌}
 use Rattle.std.specs.Prelude.{Some, IfSome}
 use Rattle.streetmap_http.specs.declared.limits.TheConstants.{HEAD_LIMIT}
@@ -11,14 +11,14 @@ use Rattle.streetmap_http.specs.declared.body.BodyEnd.TheVariants as bodies
 use Rattle.streetmap_http.specs.declared.arrival.Arrival.{Arrival}
 use Rattle.streetmap_http.specs.declared.arrival.Arrival.TheVariants.{Request, Head, Body}
 use Rattle.streetmap_http.specs.Head.{IsHead, HasNoHead, IsBlank, HeadSays}
-use Rattle.streetmap_http.specs.Progress.{StandsAt}
+use Rattle.streetmap_http.specs.Progress.{HasReached}
 use Rattle.streetmap_http.specs.Framing.{HeadValue, Frames, sized, no_end}
 use Rattle.streetmap_http.specs.Body.{BodySays}
 use Rattle.streetmap_http.specs.Streams.{IsUnfinished, in_head, in_body, refused, ended, truncated, EndsAs, Front, request, stops, IsFront}
 use Rattle.streetmap_http.specs.Arrivals.{HoldsOf}
 use Rattle.streetmap_http.specs.Laws.{end_by, front_by, IsOfArrival}
 use Rattle.streetmap_http.proofs.Heads.{progress_after}
-use Rattle.streetmap_http.proofs.ByLines.{stands}
+use Rattle.streetmap_http.proofs.ByLines.{reached}
 use Rattle.streetmap_http.proofs.OneHead.{not_blank}
 
 -- all that is left was read
@@ -44,8 +44,8 @@ bodies_read_are_fronts stream head came left h bodies.Truncated e cut says read 
     lacks_is stream head came h (e ∙ ap (λ l. head ++ (came ++ l)) read.1 ∙ ap (λ l. head ++ l) (append-nil came)) cut says read.0
 bodies_read_are_fronts stream head came left h bodies.Failed e cut says read = tt
 
--- no head ends in the bytes, and may yet
-waits : (bytes : List ℕ) (p : HeadProgress) → StandsAt p bytes → length bytes < HEAD_LIMIT → HasNoHead bytes → (front : Front) × IsFront bytes front × ((front ≡ stops ended) ⊎ (front ≡ stops truncated))
+-- no head ends in the bytes, but one may yet
+waits : (bytes : List ℕ) (p : HeadProgress) → HasReached p bytes → length bytes < HEAD_LIMIT → HasNoHead bytes → (front : Front) × IsFront bytes front × ((front ≡ stops ended) ⊎ (front ≡ stops truncated))
 waits bytes Blank s less none = (stops ended, record { short = less; blank = s }, inl refl)
 waits bytes BlankCr s less none = (stops truncated, in_head less none (not_blank BlankCr bytes s (λ e. cc)), inr refl)
 waits bytes Text s less none = (stops truncated, in_head less none (not_blank Text bytes s (λ e. cc)), inr refl)
@@ -59,5 +59,5 @@ arrivals_are_fronts bytes (Request n) (within, inl (h, body, r)) =
     (request (record { bytes = take n bytes; head = h; body = body }), (r, (drop n bytes, sym (take-append-drop n bytes))), refl)
 arrivals_are_fronts bytes (Request n) (within, inr (bare, fault, breaks)) =
     (stops (refused (take n bytes) bare fault), (breaks, (drop n bytes, sym (take-append-drop n bytes))), (bare, fault, refl))
-arrivals_are_fronts bytes Head (less, none) = waits bytes (progress_after Blank bytes) (stands bytes) less none
+arrivals_are_fronts bytes Head (less, none) = waits bytes (progress_after Blank bytes) (reached bytes) less none
 arrivals_are_fronts bytes (Body missing) (some, lacks) = (stops truncated, in_body missing some lacks, refl)

@@ -1,7 +1,7 @@
 -- What received bytes hold of a request, and how far they were scanned for the end of its head.
 use Rattle.std.specs.Prelude.{◌≡◌, ◌≢◌, ◌⊎◌, ℕ, ◌<◌, ◌≤◌, List, [], length, take, Bool}
 use Rattle.streetmap_http.specs.Head.{HasNoHead}
-use Rattle.streetmap_http.specs.Progress.{StandsAt}
+use Rattle.streetmap_http.specs.Progress.{HasReached}
 use Rattle.streetmap_http.specs.Framing.{HeadValue, Framing, broken, sized, Breaks, IsRequest}
 use Rattle.streetmap_http.specs.Streams.{LacksOfBody}
 use Rattle.streetmap_http.specs.declared.limits.TheConstants.{HEAD_LIMIT}
@@ -32,5 +32,5 @@ SplitsAs (sized h) body bytes = IsRequest bytes h body
 pub record HasScanned (scan : HeadScan) (bytes : List ℕ) : Type 0 where
   pub within : scan.scanned ≤ length bytes
   pub short : scan.scanned ≤ HEAD_LIMIT
-  pub progress : StandsAt scan.progress (take scan.scanned bytes)
+  pub progress : HasReached scan.progress (take scan.scanned bytes)
   pub unfinished : scan.progress ≢ Done

@@ -26,22 +26,22 @@ pub record BreaksOffInLine (bytes : List ℕ) : Type 0 where
   pub joined : bytes ≡ lines_of blank ++ (lines_of lines ++ text)
 
 -- such bytes, and a carriage return
-abbrev pub BehindReturn : (List ℕ → Type 0) → List ℕ → Type 0
-BehindReturn P bytes = (front : List ℕ) × P front × (bytes ≡ front ++ 13 ∷ [])
+abbrev pub FollowsReturn : (List ℕ → Type 0) → List ℕ → Type 0
+FollowsReturn P bytes = (front : List ℕ) × P front × (bytes ≡ front ++ 13 ∷ [])
 
 -- the lines of a head, and any bytes
-abbrev pub BehindHead : List ℕ → Type 0
-BehindHead bytes = (head : List ℕ) × (rest : List ℕ) × (lines : List (List ℕ))
+abbrev pub FollowsHead : List ℕ → Type 0
+FollowsHead bytes = (head : List ℕ) × (rest : List ℕ) × (lines : List (List ℕ))
     × IsLinesOfHead head lines × (bytes ≡ head ++ rest)
 
 -- the bytes are those of a head that has come this far
-abbrev pub StandsAt : HeadProgress → List ℕ → Type 0
-StandsAt Blank bytes = AreEmptyLines bytes
-StandsAt BlankCr bytes = BehindReturn AreEmptyLines bytes
-StandsAt Text bytes = BreaksOffInLine bytes
-StandsAt Start bytes = BeginsHead bytes
-StandsAt StartCr bytes = BehindReturn BeginsHead bytes
-StandsAt Done bytes = BehindHead bytes
+abbrev pub HasReached : HeadProgress → List ℕ → Type 0
+HasReached Blank bytes = AreEmptyLines bytes
+HasReached BlankCr bytes = FollowsReturn AreEmptyLines bytes
+HasReached Text bytes = BreaksOffInLine bytes
+HasReached Start bytes = BeginsHead bytes
+HasReached StartCr bytes = FollowsReturn BeginsHead bytes
+HasReached Done bytes = FollowsHead bytes
 
 -- how far it has come with one more byte
 abbrev pub step : HeadProgress → ℕ → HeadProgress

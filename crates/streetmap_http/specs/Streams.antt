@@ -36,7 +36,7 @@ pub data IsUnfinished (bytes : List ℕ) : Type 0 where
   in_head : length bytes < HEAD_LIMIT → HasNoHead bytes → (IsBlank bytes → ⊥) → IsUnfinished bytes
   in_body : (missing : ℕ) → 0 < missing → LacksOfBody missing bytes → IsUnfinished bytes
 
--- how a stream goes on if there is no further request: bytes that break a rule of framing (with
+-- how a stream goes on if no further request follows: bytes that break a rule of framing (with
 -- whether the answer has no body), its end, or a request without its end
 pub data StreamEnd : Type 0 where
   refused : List ℕ → Bool → FramingFault → StreamEnd

@@ -65,7 +65,7 @@ impl HeadScan {
 }
 
 /// What bytes hold of a request whose head is this number of bytes at their front.
-fn arrival_behind(bytes: &[u8], head: usize) -> Arrival
+fn arrival_past_head(bytes: &[u8], head: usize) -> Arrival
     requires within { head ≤ length bytes.now }
     requires cut { IsHead (take head bytes.now) }
     ensures { HoldsOf result bytes.now }
@@ -92,7 +92,7 @@ fn arrival_by(bytes: &[u8], head: Option<usize>) -> Arrival
     ensures { HoldsOf result bytes.now }
 {
     match head {
-        Some(len) => arrival_behind(bytes, len),
+        Some(len) => arrival_past_head(bytes, len),
         None => {
             if bytes.len() < HEAD_LIMIT {
                 Arrival::Head

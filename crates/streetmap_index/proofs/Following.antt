@@ -47,7 +47,7 @@ follows_put : {E : Type 0} (o p : OutlinedCollection) (s t : State) (name : Text
     → IsOutlinedIf o (get s.collections name) → OnOk r (IsOutlinedIf p (get t.collections name))
 follows_put o p s t name f r d says known =
     let after = record d.found { features = insert d.found.features d.kept.id d.kept } in
-    subst (λ x. OnOk r (IsOutlinedIf p x)) (sym (left s t name after d.is)) (says d.found d.kept (subst (IsOutlinedIf o) d.there known) d.told)
+    subst (λ x. OnOk r (IsOutlinedIf p x)) (sym (left s t name after d.is)) (says d.found d.kept (subst (IsOutlinedIf o) d.there known) d.reported)
 
 follows_cut : (o p : OutlinedCollection) (s t : State) (name id : Text) → Cuts s t name id
     → ((c : Collection) → IsOutlined o c → IsOutlined p (record c { features = remove c.features id }))
@@ -78,6 +78,6 @@ module _ (o p : OutlinedCollection) (s t : State) (name : Text) (e : EditValue) 
       subst (λ x. step s x ≡ Ok t → IsOutlinedIf o (get s.collections (collection_of x)) → IsOutlinedIf p (get t.collections (collection_of x))) (sym is)
       (λ done known. follows_cut o p s t name id (did s t (edit.delete name id) done) says known)
 
--- the feature with the time that its collection's property tells
-pub told_time : (property : Option Text) (f g : FeatureValue) (t : Option IntervalValue) → time_of property f.properties ≡ Ok t → timed property f ≡ Ok g → retimed f t ≡ g
-told_time property f g t told h = let e = rw told at h in cc
+-- the feature with the time that its collection's property gives
+pub reported_time : (property : Option Text) (f g : FeatureValue) (t : Option IntervalValue) → time_of property f.properties ≡ Ok t → timed property f ≡ Ok g → retimed f t ≡ g
+reported_time property f g t reported h = let e = rw reported at h in cc

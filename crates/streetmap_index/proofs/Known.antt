@@ -48,7 +48,7 @@ known_after es fs s t name keeps known same here other o there = by (text_cmp ot
       let is = one_text other name e in
       subst (λ k. IsOutlinedIf o (get t.collections k)) (sym is) (here o (ap (λ k. known_under k fs) (sym is) ∙ there))
 
--- where all were known, and what changed is known, all are known
+-- if all were known, and what changed is known, all are known
 pub all_known_after : (es fs : Known) (s t : State) (name : Text) → KeepsOthers (eq_by_cmp string_cmp) (at_text name) es fs
     → ((other : Text) → is_eq (text_cmp other name) ≡ false → get t.collections other ≡ get s.collections other)
     → IsSome (known_under name fs) → KnowsAll es s → KnowsAll fs t

@@ -4,5 +4,5 @@ pub mod Steps
 pub mod Following
 pub mod Listing
 pub mod Runs
-pub mod Told
+pub mod KnownSummaries
 pub mod Over

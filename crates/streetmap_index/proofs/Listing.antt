@@ -1,4 +1,4 @@
--- What is told of all collections, from what is known of them.
+-- The summaries of all collections, from what is known of them.
 use Rattle.std.proofs.Common.{◌≡◌, List, [], ◌∷◌, ◌++◌, Bool, true, false, cond, T, Option, None, Some, IsSome, String, string_bytes, map, refl, sym, ap, subst, ◌∙◌, append-nil}
 use Rattle.std.specs.Option.{option_map}
 use Rattle.std.specs.String.{string_cmp}
@@ -83,7 +83,7 @@ found_by_text : (q : Text) (es : Known) → find text_cmp q (by_text es) ≡ kno
 found_by_text q [] = refl
 found_by_text q (e ∷ es) = ap (cond (is_eq (text_cmp q (string_bytes e.0))) (Some e.1)) (found_by_text q es)
 
--- what is known is there
+-- what is known exists
 there : (o : OutlinedCollection) (c : Option Collection) → IsOutlinedIf o c → Some tt ≡ has c
 there o None h = absurd h
 there o (Some c) h = refl
@@ -93,52 +93,52 @@ has_both None None is all = refl
 has_both None (Some c) is all = let none : IsSome {T = OutlinedCollection} None = all c refl in absurd cc
 has_both (Some o) c is all = there o c (is o refl)
 
--- ---- what is told under names
+-- ---- the summaries under names
 abbrev option_list : {X : Type 0} → Option X → List X
 option_list None = []
 option_list (Some x) = x ∷ []
 
-abbrev pub told_under : State → List Text → List SummaryValue
-told_under s ks = flat_map (λ k. option_list (summary_in s k)) ks
+abbrev pub reported_under : State → List Text → List SummaryValue
+reported_under s ks = flat_map (λ k. option_list (summary_in s k)) ks
 
-told_entries : (s : State) (es : List (Text × Collection)) → AllByRecursion (λ e. get s.collections e.0 ≡ Some e.1) es → told_under s (names es) ≡ map (λ e. summary_of e.0 e.1) es
-told_entries s [] h = refl
-told_entries s (e ∷ es) h =
-    ap (λ o. option_list (option_map (summary_of e.0) o) ++ told_under s (names es)) h.0 ∙ ap (λ ss. summary_of e.0 e.1 ∷ ss) (told_entries s es h.1)
+reported_entries : (s : State) (es : List (Text × Collection)) → AllByRecursion (λ e. get s.collections e.0 ≡ Some e.1) es → reported_under s (names es) ≡ map (λ e. summary_of e.0 e.1) es
+reported_entries s [] h = refl
+reported_entries s (e ∷ es) h =
+    ap (λ o. option_list (option_map (summary_of e.0) o) ++ reported_under s (names es)) h.0 ∙ ap (λ ss. summary_of e.0 e.1 ∷ ss) (reported_entries s es h.1)
 
--- where all is known, what is told under the names known is what is told of all
-pub told_of_all : (s : State) (es : Known) → IsStrictlySortedBy string_cmp (keys_of es) → AreKnown es s → KnowsAll es s → told_under s (names (by_text es)) ≡ summaries_in s
-told_of_all s es up known all =
+-- if all is known, the summaries under the names known are those of all
+pub reported_of_all : (s : State) (es : Known) → IsStrictlySortedBy string_cmp (keys_of es) → AreKnown es s → KnowsAll es s → reported_under s (names (by_text es)) ≡ summaries_in s
+reported_of_all s es up known all =
     let cs = entries s.collections in
     let same = same_names (by_text es) cs (ascending es up) (entries_sorted s.collections) (λ q.
     ap has (found_by_text q es) ∙ (has_both (known_under q es) (get s.collections q) (λ o is. known q o is) (λ c is. all q c is) ∙ ap has (get-entries s.collections q))) in
-    ap (told_under s) same
-    ∙ told_entries s cs (each_found (λ k c. get s.collections k ≡ Some c) cs (entries_sorted s.collections) (λ k c is. get-entries s.collections k ∙ is))
+    ap (reported_under s) same
+    ∙ reported_entries s cs (each_found (λ k c. get s.collections k ≡ Some c) cs (entries_sorted s.collections) (λ k c is. get-entries s.collections k ∙ is))
 
--- what is known is so, one by one
+-- each part of what is known is true
 pub each_known : (s : State) (es : Known) → IsStrictlySortedBy string_cmp (keys_of es) → AreKnown es s → AllByRecursion (λ e. IsOutlinedIf e.1 (get s.collections e.0)) (by_text es)
 each_known s es up known = each_found (λ k o. IsOutlinedIf o (get s.collections k)) (by_text es) (ascending es up) (λ k o is. known k o (sym (found_by_text k es) ∙ is))
 
--- ---- one collection more is told
-more_told : (told : List Summary) (one : Summary) (rest : List SummaryValue) → summary_values (told ++ one ∷ []) ++ rest ≡ summary_values told ++ summary_value one ∷ rest
-more_told [] one rest = refl
-more_told (t ∷ told) one rest = ap (λ ss. summary_value t ∷ ss) (more_told told one rest)
+-- ---- one more collection is listed
+more_reported : (reported : List Summary) (one : Summary) (rest : List SummaryValue) → summary_values (reported ++ one ∷ []) ++ rest ≡ summary_values reported ++ summary_value one ∷ rest
+more_reported [] one rest = refl
+more_reported (t ∷ reported) one rest = ap (λ ss. summary_value t ∷ ss) (more_reported reported one rest)
 
--- these collections are told, and those under the names known are left
-pub record IsTelling (s : State) (told : List Summary) (left : Known) : Type 0 where
-  pub whole : summary_values told ++ told_under s (names (by_text left)) ≡ summaries_in s
+-- these collections are listed, and those under the names known are left
+pub record IsReporting (s : State) (reported : List Summary) (left : Known) : Type 0 where
+  pub whole : summary_values reported ++ reported_under s (names (by_text left)) ≡ summaries_in s
   pub known : AllByRecursion (λ e. IsOutlinedIf e.1 (get s.collections e.0)) (by_text left)
 
-pub tells_on : (s : State) (told next : List Summary) (key : String Global) (o : OutlinedCollection) (left : Known) (one : Summary) → IsTelling s told ((key, o) ∷ left) → next ≡ told ++ one ∷ []
-    → ((c : Collection) → get s.collections (string_bytes key) ≡ Some c → IsOutlinedIf o (Some c) → summary_value one ≡ summary_of (string_bytes key) c) → IsTelling s next left
-tells_on s told next key o left one telling is tells = by (get s.collections (string_bytes key)) refl telling.known.0 where
-  by : (c : Option Collection) → get s.collections (string_bytes key) ≡ c → IsOutlinedIf o c → IsTelling s next left
+pub reports_on : (s : State) (reported next : List Summary) (key : String Global) (o : OutlinedCollection) (left : Known) (one : Summary) → IsReporting s reported ((key, o) ∷ left) → next ≡ reported ++ one ∷ []
+    → ((c : Collection) → get s.collections (string_bytes key) ≡ Some c → IsOutlinedIf o (Some c) → summary_value one ≡ summary_of (string_bytes key) c) → IsReporting s next left
+reports_on s reported next key o left one telling is reports = by (get s.collections (string_bytes key)) refl telling.known.0 where
+  by : (c : Option Collection) → get s.collections (string_bytes key) ≡ c → IsOutlinedIf o c → IsReporting s next left
   by None at known = absurd known
   by (Some c) at known = record {
-    whole = ap (λ ts. summary_values ts ++ told_under s (names (by_text left))) is
-        ∙ (more_told told one (told_under s (names (by_text left)))
-        ∙ (ap (λ v. summary_values told ++ v ∷ told_under s (names (by_text left))) (tells c at known)
-        ∙ (ap (λ x. summary_values told ++ (option_list (option_map (summary_of (string_bytes key)) x) ++ told_under s (names (by_text left)))) (sym at) ∙ telling.whole)));
+    whole = ap (λ ts. summary_values ts ++ reported_under s (names (by_text left))) is
+        ∙ (more_reported reported one (reported_under s (names (by_text left)))
+        ∙ (ap (λ v. summary_values reported ++ v ∷ reported_under s (names (by_text left))) (reports c at known)
+        ∙ (ap (λ x. summary_values reported ++ (option_list (option_map (summary_of (string_bytes key)) x) ++ reported_under s (names (by_text left)))) (sym at) ∙ telling.whole)));
     known = telling.known.1;
   }
 
@@ -146,8 +146,8 @@ tells_on s told next key o left one telling is tells = by (get s.collections (st
 abbrev pub IsNamed : Known → Summary → Type 0
 IsNamed es summary = IsSome (known_under (string_bytes summary.id) es)
 
-pub all_named : (es : Known) (s : State) (told : List Summary) → summary_values told ≡ summaries_in s → AllByRecursion (IsNamed es) told → KnowsAll es s
-all_named es s told is named name c at = by (entries s.collections) told is named (sym (get-entries s.collections name) ∙ at) where
+pub all_named : (es : Known) (s : State) (reported : List Summary) → summary_values reported ≡ summaries_in s → AllByRecursion (IsNamed es) reported → KnowsAll es s
+all_named es s reported is named name c at = by (entries s.collections) reported is named (sym (get-entries s.collections name) ∙ at) where
   at_name : (k : Text) (xs : List (Text × Collection)) (d : Collection) (r : Ordering) → text_cmp name k ≡ r → IsSome (known_under k es) → (find text_cmp name xs ≡ Some c → IsSome (known_under name es)) → cond (is_eq r) (Some d) (find text_cmp name xs) ≡ Some c → IsSome (known_under name es)
   at_name k xs d Less e here later at = later at
   at_name k xs d Greater e here later at = later at
@@ -161,6 +161,6 @@ all_named es s told is named name c at = by (entries s.collections) told is name
       let tail : summary_values ts ≡ map (λ x. summary_of x.0 x.1) xs = cc in
       at_name x.0 xs x.1 (text_cmp name x.0) refl (subst (λ n. IsSome (known_under n es)) (ap (λ (v : SummaryValue). v.id) head) named.0) (by xs ts tail named.1) at
 
--- nothing is left to tell of
-pub none_left : (s : State) (told : List Summary) → IsTelling s told [] → summary_values told ≡ summaries_in s
-none_left s told telling = sym (append-nil (summary_values told)) ∙ telling.whole
+-- none is left to list
+pub none_left : (s : State) (reported : List Summary) → IsReporting s reported [] → summary_values reported ≡ summaries_in s
+none_left s reported telling = sym (append-nil (summary_values reported)) ∙ telling.whole

@@ -14,7 +14,7 @@ use Rattle.streetmap_index.specs.declared.keeper.IndexedKeeper.{IndexedKeeper}
 
 -- the model and the keepers are passed to these, as no part of them can be found in a table
 module _ {K : Type 0} (model : Model K) where
-  -- the index is of the state still
+  -- the index is still of the state
   reads_over : (T : Type 0) (a b : IndexedKeeper K) (s : State) (Is : T → Type 0) (r : Result T Fault) → Reads model a.keeper b.keeper s Is r → IsIndexOf b.index s → Reads (indexed model) a b s Is r
   reads_over T a b s Is (Ok x) h index = (h.0, (h.1, index))
   reads_over T a b s Is (Err Memory) h index = (h, index)
@@ -25,7 +25,7 @@ module _ {K : Type 0} (model : Model K) where
 module _ {K : Type 0} {model : Model K} where
   call_over : {T : Type 0} {a b : IndexedKeeper K} {r : Result T Fault} → IsCall model a.keeper b.keeper r → IsCall (indexed model) a b r
   call_over call = record {
-    spared = call.spared;
+    preserved = call.preserved;
     began_clean = call.began_clean;
     faults = call.faults;
     reopen = call.reopen;
@@ -68,7 +68,7 @@ module _ {K : Type 0} (model : Model K) where
   read_noted {T} {a} {b} {c} {fault} {Is} read same noted =
       let clean = λ (h : model.is_clean c.keeper). subst model.is_clean same h in
       let below : IsCall {T = T} model a.keeper b.keeper (Err fault) = record {
-        spared = read.call.spared;
+        preserved = read.call.preserved;
         began_clean = read.call.began_clean;
         faults = read.call.faults;
         reopen = read.call.reopen;
@@ -78,7 +78,7 @@ module _ {K : Type 0} (model : Model K) where
         reads = λ h s e. reads_noted T a b c s (Is s) fault same noted (read.reads (clean h) s e);
       }
 
-  -- the index alone changed before a read, and is of the state still
+  -- the index alone changed before a read, and is still of the state
   reads_from : (T : Type 0) (a b c : IndexedKeeper K) (s : State) (Is : T → Type 0) (r : Result T Fault) → b.keeper ≡ a.keeper → Reads (indexed model) b c s Is r → Reads (indexed model) a c s Is r
   reads_from T a b c s Is (Ok x) same h = h
   reads_from T a b c s Is (Err Memory) same h = h
@@ -90,7 +90,7 @@ module _ {K : Type 0} (model : Model K) where
   read_after_change {T} {a} {b} {c} {r} {Is} read same so =
       let from : (s : State) → model.represents a.keeper s × IsIndexOf a.index s → model.represents b.keeper s × IsIndexOf b.index s = λ s e. (subst (λ k. model.represents k s) (sym same) e.0, so s e.1) in
       let below : IsCall {T = T} model b.keeper c.keeper r = record {
-        spared = read.call.spared;
+        preserved = read.call.preserved;
         began_clean = read.call.began_clean;
         faults = read.call.faults;
         reopen = read.call.reopen;

@@ -1,4 +1,4 @@
--- What the reply to a batch tells of the state after it.
+-- What the reply to a batch says of the state after it.
 use Rattle.std.proofs.Common.{◌≡◌, ℕ, ◌+◌, List, [], ◌∷◌, Option, None, Some, Result, Ok, Err, refl, sym, subst, nat_eq, nat_lt}
 use Rattle.std.specs.Cmp.Lexicographic.{pointwise}
 use Rattle.std.specs.FinMap.{get, len}
@@ -26,33 +26,33 @@ pub record IsDone (s : State) (b : BatchValue) (after : State) : Type 0 where
   pub collections : after.collections ≡ done.collections
 
 -- an outcome that is accepted did the edits, and any other left the state
-pub record Tells (s : State) (b : BatchValue) (o : Outcome) : Type 0 where
+pub record Reports (s : State) (b : BatchValue) (o : Outcome) : Type 0 where
   pub accepted : (counts : Counts) (serial : ℕ) → o.reply ≡ Accepted counts serial → IsDone s b o.state
   pub repeated : (counts : Counts) (serial : ℕ) → o.reply ≡ Repeated counts serial → o.state ≡ s
   pub refused : (why : Refusal) (place : Option ℕ) → o.reply ≡ Refused why place → o.state ≡ s
 
-fresh_tells : (s : State) (b : BatchValue) (serial : ℕ) (r : Result State (ℕ × Refusal)) → edited 1 s b.edits ≡ r → Tells s b (fresh s b serial r)
-fresh_tells s b serial (Ok t) is = record {
+fresh_reports : (s : State) (b : BatchValue) (serial : ℕ) (r : Result State (ℕ × Refusal)) → edited 1 s b.edits ≡ r → Reports s b (fresh s b serial r)
+fresh_reports s b serial (Ok t) is = record {
   accepted = λ counts n e. record { done = t; is = is; collections = refl };
   repeated = λ counts n e. absurd cc;
   refused = λ why place e. absurd cc;
 }
-fresh_tells s b serial (Err f) is = record {
+fresh_reports s b serial (Err f) is = record {
   accepted = λ counts n e. absurd cc;
   repeated = λ counts n e. refl;
   refused = λ why place e. refl;
 }
 
-by_key_tells : (s : State) (b : BatchValue) (o : Option AcceptedBatch) → Tells s b (by_key s b o)
-by_key_tells s b (Some kept) = either (Tells s b) (pointwise nat_eq kept.text (batch_text b)) _ _
+by_key_reports : (s : State) (b : BatchValue) (o : Option AcceptedBatch) → Reports s b (by_key s b o)
+by_key_reports s b (Some kept) = either (Reports s b) (pointwise nat_eq kept.text (batch_text b)) _ _
     (record { accepted = λ counts n e. absurd cc; repeated = λ counts n e. refl; refused = λ why place e. refl })
     (record { accepted = λ counts n e. absurd cc; repeated = λ counts n e. refl; refused = λ why place e. refl })
-by_key_tells s b None = either (Tells s b) (nat_lt (len s.keys) most_batches) _ _
-    (fresh_tells s b (len s.keys + 1) (edited 1 s b.edits) refl)
+by_key_reports s b None = either (Reports s b) (nat_lt (len s.keys) most_batches) _ _
+    (fresh_reports s b (len s.keys + 1) (edited 1 s b.edits) refl)
     (record { accepted = λ counts n e. absurd cc; repeated = λ counts n e. refl; refused = λ why place e. refl })
 
-pub act_tells : (s : State) (b : BatchValue) → Tells s b (act s b)
-act_tells s b = by_key_tells s b (get s.keys b.key)
+pub act_reports : (s : State) (b : BatchValue) → Reports s b (act s b)
+act_reports s b = by_key_reports s b (get s.keys b.key)
 
 -- an index of a state is one of each state with the same collections
 same_collections : (index : Index) (s t : State) → t.collections ≡ s.collections → IsIndexOf index s → IsIndexOf index t
@@ -64,7 +64,7 @@ same_collections index s t same known = (
 -- an index that followed the edits is one of the state after the batch
 pub followed_batch : (s : State) (b : BatchValue) (counts : Counts) (serial : ℕ) (index : Index) → (act s b).reply ≡ Accepted counts serial → ((t : State) → edited 1 s b.edits ≡ Ok t → IsIndexOf index t) → IsIndexOf index (act s b).state
 followed_batch s b counts serial index is followed =
-    let done = (act_tells s b).accepted counts serial is in
+    let done = (act_reports s b).accepted counts serial is in
     same_collections index done.done (act s b).state done.collections (followed done.done done.is)
 
 -- a fault of a batch, on a keeper whose index takes note of it

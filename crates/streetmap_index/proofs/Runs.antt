@@ -1,4 +1,4 @@
--- Features with outlines that stand beside one another.
+-- Features whose outlines are next to one another.
 use Rattle.std.proofs.Common.{◌≡◌, ℕ, suc, ◌+◌, ◌-◌, ◌≤◌, ◌<◌, List, [], ◌∷◌, ◌++◌, All, Bool, true, false, cond, Some, option_map, length, take, drop, get_or, map, refl, sym, ap, ap₂, subst, length-drop, ◌∙◌, append_assoc, append-nil, arith, string_bytes}
 use Rattle.std.specs.Prelude.{filter, slice_get}
 use Rattle.std.specs.List.{AllByRecursion}
@@ -17,7 +17,7 @@ use Rattle.streetmap_ledger.specs.Folds.{IsFoldOf, HoldsCandidates}
 use Rattle.streetmap_outlines.specs.declared.kept.KeptOutline.{KeptOutline}
 use Rattle.streetmap_ledger.specs.declared.fold.PageFold.{PageFold}
 use Rattle.streetmap_outlines.specs.Outlines.{Pairs}
-use Rattle.streetmap_index.specs.Taking.{IsExamined, HaveIds, TakesRun}
+use Rattle.streetmap_index.specs.OutlinePages.{IsExamined, HaveIds, TakesRun}
 use Rattle.streetmap_outlines.proofs.Pairing.{IsThere, each_there, parted}
 
 abbrev id_of : KeptOutline → Text
@@ -31,7 +31,7 @@ named fs = map (λ (f : FeatureValue). f.id) fs
 
 -- ---- features that were taken one by one
 
--- of these features those in front were taken, which have the ids of as many outlines
+-- the first of these features were taken, which have the ids of as many outlines
 pub record TakenSoFar (run : List KeptOutline) (all rest : List FeatureValue) (old now : PageFold) (place : ℕ) : Type 0 where
   pub done : List FeatureValue
   pub whole : done ++ rest ≡ all
@@ -95,22 +95,22 @@ there_by features test (x ∷ xs) h = elim (test x.1) as (λ b. AllByRecursion (
   | false ↦ there_by features test xs h.1
 ]
 
--- each feature of a run stands under its id
+-- each feature of a run is under its id
 pub run_there : (s : State) (name first last : Text) (c : Collection) (gs : List FeatureValue) → get s.collections name ≡ Some c → HoldsFeatures c → Some gs ≡ run_in s name first last → AllByRecursion (λ g. get c.features g.id ≡ Some g) gs
 run_there s name first last c gs there holds is =
     let found : Some gs ≡ Some (filter (is_between first last) (values c.features)) = is ∙ ap (option_map (λ (d : Collection). filter (is_between first last) (values d.features))) there in
     let same : gs ≡ filter (is_between first last) (values c.features) = cc in
     subst (AllByRecursion (λ g. get c.features g.id ≡ Some g)) (sym same) (there_by c.features (is_between first last) (entries c.features) (each_there c holds))
 
--- ---- runs one behind the other
+-- ---- runs one after the other
 
-pub taken_behind : (s : State) (name : Text) (front behind : List KeptOutline) (old mid new : PageFold) → TakesRun name front old mid s true → TakesRun name behind mid new s true → TakesRun name (front ++ behind) old new s true
-taken_behind s name front behind old mid new before here t c q met fs there pairs held =
-    let parts = parted c.features front behind fs pairs in
+pub taken_after : (s : State) (name : Text) (front following : List KeptOutline) (old mid new : PageFold) → TakesRun name front old mid s true → TakesRun name following mid new s true → TakesRun name (front ++ following) old new s true
+taken_after s name front following old mid new before here t c q met fs there pairs held =
+    let parts = parted c.features front following fs pairs in
     subst (IsFoldOf q new) (append_assoc met parts.firsts parts.others ∙ ap (λ l. met ++ l) parts.whole)
     (here t c q (met ++ parts.firsts) parts.others there parts.other_pairs (before t c q met parts.firsts there parts.first_pairs held))
 
--- ---- a page with a run more
+-- ---- a page with one more run
 
 -- the outline that comes next
 pub turn : (os : List KeptOutline) (i : ℕ) (o : KeptOutline) → i < length os → o ≡ get_or os i o → drop i os ≡ o ∷ drop (i + 1) os
@@ -141,7 +141,7 @@ run_held q old new features os met fs all pairs held takes =
 pub rest_is : (os : List KeptOutline) (i : ℕ) → take (length os - i) (drop i os) ≡ drop i os
 rest_is os i = take_all (length os - i) (drop i os) (omega (arith, length-drop i os))
 
--- the outlines of a run, from this place on, and those behind it
+-- the outlines of a run, from this place on, and those after it
 pub run_whole : (os : List KeptOutline) (i n : ℕ) (o : KeptOutline) → i < length os → o ≡ get_or os i o → (o ∷ take n (drop (i + 1) os)) ++ drop (i + 1 + n) os ≡ drop i os
 run_whole os i n o low is =
     ap (λ l. o ∷ (take n (drop (i + 1) os) ++ l)) (sym (drop-drop n (i + 1) os)) ∙ ap (λ l. o ∷ l) (take-append-drop n (drop (i + 1) os)) ∙ sym (turn os i o low is)

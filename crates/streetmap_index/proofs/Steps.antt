@@ -13,18 +13,18 @@ use Rattle.streetmap_ledger.specs.declared.reply.Refusal.{Refusal}
 use Rattle.streetmap_ledger.specs.declared.reply.Refusal.TheVariants.{NoCollection, CollectionExists, FeatureExists, NoFeature}
 use Rattle.streetmap_index.specs.Index.{collection_of}
 
--- a collection that was not there was opened
+-- a collection that did not exist was opened
 pub record Opens (s t : State) (name : Text) : Type 0 where
   pub left : Collection
   pub there : get s.collections name ≡ None
   pub is : t.collections ≡ insert s.collections name left
 
--- a feature was put into its collection, with the time that the collection's property tells
+-- a feature was put into its collection, with the time that the collection's property gives
 pub record Puts (s t : State) (name : Text) (f : FeatureValue) : Type 0 where
   pub found : Collection
   pub kept : FeatureValue
   pub there : get s.collections name ≡ Some found
-  pub told : timed found.time f ≡ Ok kept
+  pub reported : timed found.time f ≡ Ok kept
   pub is : t.collections ≡ insert s.collections name (record found { features = insert found.features kept.id kept })
 
 -- a feature was taken out
@@ -43,7 +43,7 @@ put_by : (s t : State) (name : Text) (f : FeatureValue) (b : Collection) (r : Re
 put_by s t name f b (Err why) there is done = absurd cc
 put_by s t name f b (Ok g) there is done =
     let after : with_feature s name b g ≡ t = cc in
-    record { found = b; kept = g; there = there; told = is; is = ap (λ (x : State). x.collections) (sym after) }
+    record { found = b; kept = g; there = there; reported = is; is = ap (λ (x : State). x.collections) (sym after) }
 
 insert_by : (s t : State) (name : Text) (f : FeatureValue) (b : Collection) (x : Option FeatureValue) → get s.collections name ≡ Some b → (absent x FeatureExists >>= λ new. timed b.time f >>= λ g. Ok (with_feature s name b g)) ≡ Ok t → Puts s t name f
 insert_by s t name f b (Some old) there done = absurd cc

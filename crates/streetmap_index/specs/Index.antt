@@ -16,7 +16,7 @@ use Rattle.streetmap_outlines.specs.Outlines.{AreListedChunksOf}
 use Rattle.streetmap_index.specs.declared.outlined.OutlinedCollection.{OutlinedCollection}
 use Rattle.streetmap_index.specs.declared.index.Index.{Index}
 
--- what is known of a collection is so
+-- what is known of a collection is true
 pub record IsOutlined (o : OutlinedCollection) (c : Collection) : Type 0 where
   pub title : string_bytes o.title ≡ c.title
   pub time : option_map string_bytes o.time ≡ c.time
@@ -47,12 +47,12 @@ abbrev pub KnowsAll : List (String Global × OutlinedCollection) → State → T
 KnowsAll known s = (name : Text) (c : Collection) → get s.collections name ≡ Some c
     → IsSome (known_under name known)
 
--- what an index knows is so, and it knows all if it says that
+-- what an index knows is true, and it knows all collections if it says so
 abbrev pub IsIndexOf : Index → State → Type 0
 IsIndexOf index s = AreKnown index.known.entries s
     × (IsTrue index.is_whole → KnowsAll index.known.entries s)
 
--- what was learnt of a collection, if it was, is so
+-- what was learnt of a collection, if anything, is true
 abbrev pub Learns : Text → State → Option OutlinedCollection → Type 0
 Learns name s None = Unit {0}
 Learns name s (Some o) = IsOutlinedIf o (get s.collections name)

@@ -1,3 +1,3 @@
 pub mod Index
-pub mod Taking
+pub mod OutlinePages
 pub mod Indexed

@@ -16,7 +16,7 @@ use streetmap_batch::Edit;
 use streetmap_ledger::Summary;
 
 /// At how many reads nothing is learnt after memory ran out.
-const LOOKS_OFF: u8 = 63;
+const READS_OFF: u8 = 63;
 
 /// What is known of some collections.
 #[derive(Drop)]
@@ -26,7 +26,7 @@ pub struct Index {
     /// Whether these are all collections that exist; `false` if that is not known.
     pub is_whole: bool,
     /// At how many further reads nothing is learnt, since memory ran out.
-    pub looks_off: u8,
+    pub reads_off: u8,
 }
 
 /// The id of the collection that an edit changes.
@@ -50,17 +50,17 @@ impl Index {
         Index {
             known: BTreeMap::new(alloc),
             is_whole: false,
-            looks_off: 0,
+            reads_off: 0,
         }
     }
 
     /// Forgets all, since memory ran out, and learns nothing at the next reads.
     pub fn give_up(&mut self, alloc: Global)
         ensures index { (s : State) → IsIndexOf self.new s }
-        ensures off { self.new.looks_off ≡ 63 }
+        ensures off { self.new.reads_off ≡ 63 }
     {
         *self = Index::new(alloc);
-        self.looks_off = LOOKS_OFF;
+        self.reads_off = READS_OFF;
     }
 
     /// Whether a collection is to be learnt at this read: it is not known, and learning is not put
@@ -68,17 +68,17 @@ impl Index {
     pub fn is_due(&mut self, name: &str) -> bool
         ensures index { (s : State) → IsIndexOf self.old s → IsIndexOf self.new s }
         ensures due { known_under name.now self.old.known.entries ≡ None
-            → result ≡ nat_eq self.old.looks_off 0 }
+            → result ≡ nat_eq self.old.reads_off 0 }
         ensures counted { known_under name.now self.old.known.entries ≡ None
-            → self.new.looks_off ≡ self.old.looks_off - 1 }
+            → self.new.reads_off ≡ self.old.reads_off - 1 }
     {
         if self.known.contains_key(name) {
             return false;
         }
-        if self.looks_off == 0 {
+        if self.reads_off == 0 {
             return true;
         }
-        self.looks_off -= 1;
+        self.reads_off -= 1;
         false
     }
 
@@ -114,7 +114,7 @@ impl Index {
         self.is_whole = true;
     }
 
-    /// Follows an edit that was done. After an error nothing may be right any more.
+    /// Follows an edit that was done. After an error, what is known may be wrong.
     fn follow_edit(&mut self, alloc: Global, edit: &Edit) -> Result<(), AllocError>
         ensures { (s t : State) → step s (edit_value edit.now) ≡ Ok t → IsIndexOf self.old s
             → OnOk result (IsIndexOf self.new t) }

@@ -6,7 +6,7 @@ ghost use Rattle.streetmap_index.specs.Index.{IsIndexOf, IsNoted};
 ghost use Rattle.streetmap_index.specs.Indexed.{indexed};
 
 use crate::index::Index;
-use crate::learning::learn;
+use crate::knowledge::learn;
 use crate::page::page_with;
 use crate::summaries::{collection_with, collections_with};
 use std::alloc::Global;
@@ -51,7 +51,7 @@ impl<K: Outlined> IndexedKeeper<K> {
         }
     }
 
-    /// Learns a collection that is not known, if there is memory for it.
+    /// Learns a collection that is not known, if memory allows.
     fn learn(&mut self, collection: &str) -> Result<(), Fault>
         ensures { IsRead (indexed K.model) self.old self.new result (λ _ _. Unit {0}) }
     {
@@ -237,6 +237,6 @@ impl<K: Outlined + Durable> Durable for IndexedKeeper<K> {
 
     ghost holds = { K.holds };
 
-    ghost images_hold_states = { λ first last s image is spared clean left.
-        K.images_hold_states first.keeper last.keeper s image is.0 spared clean left };
+    ghost images_hold_states = { λ first last s image is preserved clean left.
+        K.images_hold_states first.keeper last.keeper s image is.0 preserved clean left };
 }

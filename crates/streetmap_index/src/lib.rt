@@ -12,13 +12,13 @@
 //! keeper answers.
 //!
 //! In the order of reading: `outlined` (what is known of a collection, and how it follows edits),
-//! `learning` (how it is learnt from a keeper), `index` (what is known of some collections),
+//! `knowledge` (how it is learnt from a keeper), `index` (what is known of some collections),
 //! `run` and `page`, `summaries`, `keeper`.
 #![tactic(auto)]
 
 mod index;
 mod keeper;
-mod learning;
+mod knowledge;
 mod outlined;
 mod page;
 mod run;

@@ -51,8 +51,8 @@ impl OutlinedCollection {
         }
     }
 
-    /// Follows an edit of the collection that was done. After an error it may not be right any
-    /// more.
+    /// Follows an edit of the collection that was done. After an error, what is known may
+    /// be wrong.
     pub fn follow(&mut self, alloc: Global, edit: &Edit) -> Result<(), AllocError>
         ensures { (s t : State) → step s (edit_value edit.now) ≡ Ok t
             → IsOutlinedIf self.old (get s.collections (collection_of (edit_value edit.now)))

@@ -9,8 +9,8 @@ ghost use Rattle.streetmap_ledger.specs.Keep.{IsRead, IsPageOf};
 ghost use Rattle.streetmap_outlines.specs.Chunks.{AreInOrder};
 ghost use Rattle.streetmap_outlines.specs.Outlines.{IsOutlineOf, IsBounded};
 ghost use Rattle.streetmap_index.specs.Index.{IfOutlined};
-ghost use Rattle.streetmap_outlines.specs.Selecting.{TakesChunk};
-ghost use Rattle.streetmap_index.specs.Taking.{TakesOutlined, IsOutlinedPage};
+ghost use Rattle.streetmap_outlines.specs.Selections.{TakesChunk};
+ghost use Rattle.streetmap_index.specs.OutlinePages.{TakesOutlined, IsOutlinedPage};
 
 use crate::outlined::OutlinedCollection;
 use crate::run::{run_length, take_run};
@@ -37,11 +37,11 @@ fn count_unread(query: &Query, fold: &mut PageFold<'_>, outline: &KeptOutline) -
     if !is_selected(query, outline) {
         return false;
     }
-    let behind = comes_after(query, outline);
-    if behind && !fold.is_full() {
+    let following = comes_after(query, outline);
+    if following && !fold.is_full() {
         return false;
     }
-    fold.count_hidden(behind);
+    fold.count_hidden(following);
     true
 }
 
@@ -61,10 +61,10 @@ fn take_unread(query: &Query, fold: &mut PageFold<'_>, outline: &KeptOutline) ->
 
 /// Whether a page shows none of the next features: those that do not come after the query's id, and
 /// those that do once the page is full.
-fn hides(fold: &PageFold<'_>, behind: bool) -> bool
-    ensures { IsTrue result → IsTrue behind → IsFull fold.now }
+fn hides(fold: &PageFold<'_>, following: bool) -> bool
+    ensures { IsTrue result → IsTrue following → IsFull fold.now }
 {
-    !behind || fold.is_full()
+    !following || fold.is_full()
 }
 
 /// Counts the next features, which are those of a chunk, if the chunk says how many the query
@@ -75,15 +75,15 @@ fn count_chunk(query: &Query, fold: &mut PageFold<'_>, chunk: &Chunk) -> bool
         TakesChunk (query_value query.now) chunk.now fold.old fold.new }
     ensures unchanged { result ≡ false → fold.new ≡ fold.old }
 {
-    let Some(behind) = all_come_after(query, chunk) else {
+    let Some(following) = all_come_after(query, chunk) else {
         return false;
     };
-    if !hides(fold, behind) {
+    if !hides(fold, following) {
         return false;
     }
     match count_selected(query, chunk) {
         Some(count) => {
-            fold.count_all_hidden(count, behind);
+            fold.count_all_hidden(count, following);
             true
         }
         None => false,
@@ -92,7 +92,7 @@ fn count_chunk(query: &Query, fold: &mut PageFold<'_>, chunk: &Chunk) -> bool
 
 /// How many features a page shows at most after the next one, if it has read this many: no fewer if
 /// each of these is shown.
-fn room_behind(query: &Query, read: usize) -> usize {
+fn room_after(query: &Query, read: usize) -> usize {
     (query.limit as usize)
         .saturating_sub(read)
         .saturating_sub(1)
@@ -131,7 +131,7 @@ fn take_outlined<K: Outlined>(
         if *read >= MOST_READ {
             return Ok(false);
         }
-        let more = run_length(query, &outlines[place + 1..], room_behind(query, *read));
+        let more = run_length(query, &outlines[place + 1..], room_after(query, *read));
         let end = place + 1 + more;
         *read = read.saturating_add(1 + more);
         match take_run(alloc, keeper, collection, &outlines[place..end], fold) {

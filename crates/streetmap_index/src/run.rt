@@ -6,7 +6,7 @@ ghost use Rattle.streetmap_query.specs.QueryValue.{QueryValue};
 ghost use Rattle.streetmap_query.specs.Views.{query_value};
 ghost use Rattle.streetmap_ledger.specs.Folds.{IsFoldOf};
 ghost use Rattle.streetmap_ledger.specs.Keep.{IsRead};
-ghost use Rattle.streetmap_index.specs.Taking.{IsExamined, HaveIds, TakesRun};
+ghost use Rattle.streetmap_index.specs.OutlinePages.{IsExamined, HaveIds, TakesRun};
 ghost use Rattle.streetmap_outlines.specs.declared.kept.KeptOutline.{KeptOutline};
 
 use std::alloc::{AllocError, Global};

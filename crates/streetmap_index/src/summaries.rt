@@ -33,7 +33,7 @@ fn extent_of(chunks: &[Chunk]) -> Option<GridBox>
     bounds
 }
 
-/// A text of its own, if there is one.
+/// An owned copy of a text, if any.
 fn owned(alloc: Global, text: Option<&str>) -> Result<Option<String>, AllocError>
     ensures { IfOk result (λ own. option_map string_bytes own ≡ option_copied text.entry) }
 {

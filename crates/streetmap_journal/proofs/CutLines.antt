@@ -1,5 +1,5 @@
--- What is next of an input where a line is due, or where none is.
-use Rattle.std.proofs.Common.{◌≡◌, ◌≤◌, ◌<◌, ◌+◌, ◌-◌, ◌^◌, ℕ, zero, suc, List, [], ◌∷◌, ◌++◌}
+-- What comes next in an input if a line is due, or if none is.
+use Rattle.std.proofs.Common.{◌≡◌, ◌≢◌, ◌≤◌, ◌<◌, ◌+◌, ◌-◌, ◌^◌, ℕ, zero, suc, List, [], ◌∷◌, ◌++◌}
 use Rattle.std.proofs.Common.{length, take, drop, Option, None, Some, Bool, true, false, refl, sym, ap}
 use Rattle.std.proofs.Common.{◌∙◌, arith, length-append, IfSome, cond, inl, inr, ◌&&◌}
 use Rattle.std.proofs.Common.{IsTrue}
@@ -13,10 +13,10 @@ use Rattle.streetmap_replay.proofs.NoControls.{is_printed, decimal_printed}
 use Rattle.streetmap_journal.specs.Front.{TakesFront, are_zeros, IsLeft}
 use Rattle.streetmap_journal.specs.declared.front.Left.{Left}
 use Rattle.streetmap_journal.specs.declared.front.Left.TheVariants.{Nothing, Zeros, Other}
-use Rattle.streetmap_journal.specs.declared.matching.MatchEnd.TheVariants as ends
-use Rattle.streetmap_journal.specs.declared.matching.MatchEnd.{MatchEnd}
-use Rattle.streetmap_journal.specs.Matching.{IsCutOf, EndsWithin, EndsAfterLast, ends_of, line_head}
-use Rattle.streetmap_journal.specs.Matching.{IsOwn, IsUnread}
+use Rattle.streetmap_journal.specs.declared.comparison.MatchEnd.TheVariants as ends
+use Rattle.streetmap_journal.specs.declared.comparison.MatchEnd.{MatchEnd}
+use Rattle.streetmap_journal.specs.Comparison.{IsCutOf, EndsWithin, EndsAfterLast, ends_of, line_head}
+use Rattle.streetmap_journal.specs.Comparison.{IsOwn, IsUnread}
 use Rattle.streetmap_journal.proofs.FrontLemmas.{get_take}
 
 -- ---- bytes
@@ -99,30 +99,36 @@ begins_same : (line rest : List ℕ) (n : ℕ) → n < length line → StartsWit
 begins_same line rest n low starts =
     sym (get_take (length line) n rest low) ∙ ap (λ (l : List ℕ). slice_get l n) starts
 
--- ---- where a line is due
+-- ---- a line is due
 
-ended : (line rest : List ℕ) (n : ℕ) → n ≤ length line → rest ≡ take n line ++ [] → (b : Bool) →
+ended : (line rest : List ℕ) (n : ℕ) → n < length line → rest ≡ take n line ++ [] →
+    (slice_get rest n ≡ slice_get line n → ⊥) → (b : Bool) →
     (n == 0) ≡ b → EndsWithin line rest (cond b ends.All ends.Cut)
-ended line rest n low is true e =
+ended line rest n few is other true e =
     let none : n ≡ 0 = grind (arith, nat_tests, e) in
     is ∙ ap (λ (m : ℕ). take m line ++ []) none
-ended line rest n low is false e =
+ended line rest n few is other false e =
+    let low : n ≤ length line = omega (arith, few) in
     let some : 0 < n = grind (arith, nat_tests, e) in
     let size = length-take-le n line low in
     let all = ap length is in
-    let count = length-append (take n line) [] in
-    is_cut line rest [] n low is refl (omega (arith, size, all, count, some))
+    let count = length-append (take n line) [] in (
+      is_cut line rest [] n low is refl (omega (arith, size, all, count, some)),
+      λ starts. other (begins_same line rest n few starts),
+    )
 
 within : (line rest more : List ℕ) (n : ℕ) (left : Left) → n < length line →
     rest ≡ take n line ++ more → (slice_get rest n ≡ slice_get line n → ⊥) → IsLeft left more →
     EndsWithin line rest (ends_of left n)
 within line rest more n Nothing few is other left =
-    ended line rest n (omega (arith, few))
-    (is ∙ ap (λ (l : List ℕ). take n line ++ l) left) (n == 0) refl
+    ended line rest n few
+    (is ∙ ap (λ (l : List ℕ). take n line ++ l) left) other (n == 0) refl
 within line rest more n Zeros few is other left =
     let all = ap length is in
-    let count = length-append (take n line) more in
-    is_cut line rest more n (omega (arith, few)) is left.1 (omega (arith, left.0, all, count))
+    let count = length-append (take n line) more in (
+      is_cut line rest more n (omega (arith, few)) is left.1 (omega (arith, left.0, all, count)),
+      λ starts. other (begins_same line rest n few starts),
+    )
 within line rest more n Other few is other left =
     let low : n ≤ length line = omega (arith, few) in (
       is_some line rest more n low is left,
@@ -254,6 +260,25 @@ unread_own ends.All h = absurd h
 unread_own ends.Cut h = absurd h
 unread_own ends.Other h = absurd h
 unread_own ends.Ahead h = absurd h
+
+-- while a line is due no end is `Ahead`
+pub unread_due : (end : MatchEnd) → IsUnread end → end ≢ ends.Ahead
+unread_due ends.NotRead h = λ same. absurd (let no : ends.NotRead ≡ ends.Ahead = same in cc)
+unread_due (ends.Stopped fault) h =
+    λ same. absurd (let no : ends.Stopped fault ≡ ends.Ahead = same in cc)
+unread_due ends.All h = absurd h
+unread_due ends.Cut h = absurd h
+unread_due ends.Other h = absurd h
+unread_due ends.Ahead h = absurd h
+
+pub left_due : (left : Left) (n : ℕ) → ends_of left n ≢ ends.Ahead
+left_due Nothing n = nothing_due (n == 0)
+  where
+    nothing_due : (b : Bool) → cond b ends.All ends.Cut ≢ ends.Ahead
+    nothing_due true = λ same. absurd (let no : ends.All ≡ ends.Ahead = same in cc)
+    nothing_due false = λ same. absurd (let no : ends.Cut ≡ ends.Ahead = same in cc)
+left_due Zeros n = λ same. absurd (let no : ends.Cut ≡ ends.Ahead = same in cc)
+left_due Other n = λ same. absurd (let no : ends.Other ≡ ends.Ahead = same in cc)
 
 pub left_own : (left : Left) (n : ℕ) → IsOwn (ends_of left n)
 left_own Nothing n = nothing_own (n == 0)

@@ -22,12 +22,12 @@ get_take (suc n) m [] low = refl
 get_take (suc n) zero (x ∷ xs) low = refl
 get_take (suc n) (suc m) (x ∷ xs) low = get_take n m xs (omega (arith, low))
 
-pub get_behind : {A : Type 0} (xs ys : List A) (m : ℕ) →
+pub get_after : {A : Type 0} (xs ys : List A) (m : ℕ) →
     slice_get (xs ++ ys) (length xs + m) ≡ slice_get ys m
-get_behind [] ys m = let same : 0 + m ≡ m = omega arith in ap (slice_get ys) same
-get_behind (x ∷ xs) ys m =
+get_after [] ys m = let same : 0 + m ≡ m = omega arith in ap (slice_get ys) same
+get_after (x ∷ xs) ys m =
     let next : length (x ∷ xs) + m ≡ suc (length xs + m) = omega arith in
-    ap (slice_get (x ∷ (xs ++ ys))) next ∙ get_behind xs ys m
+    ap (slice_get (x ∷ (xs ++ ys))) next ∙ get_after xs ys m
 
 get_dropped : {A : Type 0} (n : ℕ) (xs : List A) (m : ℕ) →
     slice_get (drop n xs) m ≡ slice_get xs (n + m)
@@ -37,7 +37,7 @@ get_dropped (suc n) (x ∷ xs) m =
     let next : suc (n + m) ≡ suc n + m = omega arith in
     get_dropped n xs m ∙ ap (slice_get (x ∷ xs)) next
 
--- ---- one more piece of the bytes expected
+-- ---- one more piece of the expected bytes
 
 pub front_more : (a b c : Option (List ℕ)) (expected : List ℕ) (n m : ℕ) →
     Consumes a b (take n expected) → Consumes b c (take m (drop n expected)) →
@@ -53,7 +53,7 @@ otherwise_later (Some xs) None expected n m low took other = absurd took
 otherwise_later (Some xs) (Some ys) expected n m low took other = λ same.
     let size = length-take n expected in
     let long : n + m ≡ length (take n expected) + m = omega (arith, size, low) in
-    other (sym (get_behind (take n expected) ys m)
+    other (sym (get_after (take n expected) ys m)
     ∙ (ap (slice_get (take n expected ++ ys)) (sym long)
     ∙ (ap (λ (l : List ℕ). slice_get l (n + m)) (sym took)
     ∙ (same ∙ sym (get_dropped n expected m)))))
@@ -134,9 +134,9 @@ zeros_end Zeros (Some xs) (Some ys) h end =
     subst (IsLeft Zeros) all (h.2, h.3)
 zeros_end Other (Some xs) b h end = absurd h
 
-behind_zeros : (xs ys : List ℕ) → are_zeros xs ≡ true → are_zeros ys ≡ false →
+after_zeros : (xs ys : List ℕ) → are_zeros xs ≡ true → are_zeros ys ≡ false →
     are_zeros (xs ++ ys) ≡ false
-behind_zeros xs ys p q =
+after_zeros xs ys p q =
     list_all-append _ xs ys ∙ (ap (λ (b : Bool). b && are_zeros ys) p ∙ q)
 
 pub zeros_other : (left : Left) (a b : Option (List ℕ)) → ZerosSoFar a b left →
@@ -147,7 +147,7 @@ zeros_other Nothing (Some xs) (Some ys) h other =
     ap are_zeros h ∙ other
 zeros_other Zeros (Some xs) None h other = absurd h.1
 zeros_other Zeros (Some xs) (Some ys) h other =
-    ap are_zeros h.1 ∙ behind_zeros h.0 ys h.3 other
+    ap are_zeros h.1 ∙ after_zeros h.0 ys h.3 other
 zeros_other Other (Some xs) b h other = absurd h
 
 pub shown_other : (a : Option (List ℕ)) (shown : List ℕ) → IfSome a (λ xs. StartsWith xs shown) →

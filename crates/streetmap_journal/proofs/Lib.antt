@@ -1,9 +1,9 @@
 pub mod OneLineFurther
-pub mod LineBehindBatch
+pub mod LineAfterBatch
 pub mod Over
 pub mod LinesSoFar
 pub mod FrontLemmas
 pub mod CutLines
 pub mod StartLemmas
 pub mod PartOfLine
-pub mod Telling
+pub mod Reports

@@ -1,4 +1,4 @@
--- Lines that are those of a journal so far.
+-- The lines so far are those of a journal.
 use Rattle.std.proofs.Common.{◌≡◌, ◌≤◌, ◌<◌, ◌+◌, ◌^◌, ℕ, List, [], ◌∷◌, ◌++◌}
 use Rattle.std.proofs.Common.{length, drop, Option, None, Some, IfSome, option_map}
 use Rattle.std.proofs.Common.{refl, sym, ap, subst, ◌∙◌, arith, length-append}
@@ -23,12 +23,12 @@ use Rattle.streetmap_replay.proofs.AllThere.{journal_is_whole}
 use Rattle.streetmap_replay.proofs.ItemsByPlace.{get_drop, get_low}
 use Rattle.streetmap_replay.proofs.TornLines.{lines-append}
 use Rattle.streetmap_journal.proofs.OneLineFurther.{get_numbered, take_one}
-use Rattle.streetmap_journal.specs.Matching.{line_of, lines_from, serial_behind, EndsBy, RestIs}
-use Rattle.streetmap_journal.specs.Matching.{InputBeginsWith, Matches, IsOwn, end_answer}
-use Rattle.streetmap_journal.specs.declared.matching.Matched.{Matched}
-use Rattle.streetmap_journal.specs.declared.matching.MatchEnd.{MatchEnd}
-use Rattle.streetmap_journal.specs.declared.matching.MatchEnd.TheVariants.{All, Cut, Other, Ahead}
-use Rattle.streetmap_journal.specs.declared.matching.MatchEnd.TheVariants.{NotRead, Stopped}
+use Rattle.streetmap_journal.specs.Comparison.{line_of, lines_from, serial_following, EndsBy, RestIs}
+use Rattle.streetmap_journal.specs.Comparison.{InputBeginsWith, Matches, IsOwn, end_answer}
+use Rattle.streetmap_journal.specs.declared.comparison.Matched.{Matched}
+use Rattle.streetmap_journal.specs.declared.comparison.MatchEnd.{MatchEnd}
+use Rattle.streetmap_journal.specs.declared.comparison.MatchEnd.TheVariants.{All, Cut, Other, Ahead}
+use Rattle.streetmap_journal.specs.declared.comparison.MatchEnd.TheVariants.{NotRead, Stopped}
 
 -- ---- one line
 
@@ -72,7 +72,7 @@ due_is s serial line (Some b) there h =
 
 -- ---- the journal's lines
 
--- a serial that is there is small
+-- the serial of a kept batch is small
 few : (s : State) → IsState s → (serial : ℕ) (text : Text) →
     option_map kept_text (batch_in s (serial + 1)) ≡ Some text →
     slice_get (journal s) serial ≡ Some text
@@ -89,10 +89,10 @@ serial_small s sound n text (Some b) e h =
     omega (arith, low, most, serial)
 
 module _ (s : State) (sound : IsState s) (after count : ℕ) (line : List ℕ)
-    (is : IsLineWith s (serial_behind after count) line) where
-  serial_is : serial_behind after count ≡ after + count + 1
+    (is : IsLineWith s (serial_following after count) line) where
+  serial_is : serial_following after count ≡ after + count + 1
   serial_is =
-      let n = serial_behind after count in
+      let n = serial_following after count in
       let small = serial_small s sound n is.0 (batch_in s n) refl is.1 in
       omega (arith, small)
 
@@ -122,7 +122,7 @@ module _ (s : State) (sound : IsState s) (after count : ℕ) (line : List ℕ)
 
 -- ---- so far
 
--- so many lines were read, which are those of the journal
+-- `count` lines were read, which are those of the journal
 pub record SoFar (s : State) (after : ℕ) (old now : Option (List ℕ)) (count bytes : ℕ) : Type 0 where
   pub within : count ≤ length (drop after (journal_lines s))
   pub taken : Consumes old now (text_of_lines (lines_from s after count))
@@ -154,7 +154,7 @@ module _ (s : State) (sound : IsState s) (after : ℕ) (old now later : Option (
   front = text_of_lines (lines_from s after count)
 
   abbrev serial : ℕ
-  serial = serial_behind after count
+  serial = serial_following after count
 
   with_body : (body line : List ℕ) (more : ℕ) → IsLineWith s serial body → line ≡ body ++ 10 ∷ [] →
       Consumes now later line → more ≡ bytes + length line → SoFar s after old later (count + 1) more
@@ -177,27 +177,45 @@ module _ (s : State) (sound : IsState s) (after : ℕ) (old now later : Option (
       let is = due_is s serial line (batch_in s serial) refl due in
       with_body is.0 line more is.1 is.2 took size
 
-  pub ended : (end : MatchEnd) → IfSome now (λ rest. EndsBy (line_of s serial) serial rest end) →
+  pub ended : (end : MatchEnd) → IfSome now (λ rest. EndsBy (line_of s serial) serial rest end)
+      × (end ≡ Ahead → batch_in s serial ≡ None) →
       Matches s after old (record { count = count; bytes = bytes; end = end })
   ended end ends = record {
     within = it.within;
     front = front_of old now front it.taken;
     size = it.size;
-    ends = rest_is old now front (λ rest. EndsBy (line_of s serial) serial rest end) it.taken ends;
+    ends = rest_is old now front (λ rest. EndsBy (line_of s serial) serial rest end) it.taken ends.0;
+    ahead = ends.1;
   }
 
--- an end that says nothing of the rest
-pub unread : (due : Option (List ℕ)) (serial : ℕ) (now : Option (List ℕ)) →
+-- an end that says nothing about the rest
+rest_unread : (due : Option (List ℕ)) (serial : ℕ) (now : Option (List ℕ)) →
     IfSome now (λ rest. EndsBy due serial rest NotRead)
-unread due _ None = tt
-unread None _ (Some rest) = tt
-unread (Some line) _ (Some rest) = tt
+rest_unread due _ None = tt
+rest_unread None _ (Some rest) = tt
+rest_unread (Some line) _ (Some rest) = tt
 
-pub stopped : (due : Option (List ℕ)) (serial : ℕ) (fault : Fault) (now : Option (List ℕ)) →
+pub unread : (s : State) (serial : ℕ) (now : Option (List ℕ)) →
+    IfSome now (λ rest. EndsBy (line_of s serial) serial rest NotRead)
+    × (NotRead ≡ Ahead → batch_in s serial ≡ None)
+unread s serial now = (
+  rest_unread (line_of s serial) serial now,
+  λ same. absurd (let no : NotRead ≡ Ahead = same in cc),
+)
+
+rest_stopped : (due : Option (List ℕ)) (serial : ℕ) (fault : Fault) (now : Option (List ℕ)) →
     IfSome now (λ rest. EndsBy due serial rest (Stopped fault))
-stopped due _ fault None = tt
-stopped None _ fault (Some rest) = tt
-stopped (Some line) _ fault (Some rest) = tt
+rest_stopped due _ fault None = tt
+rest_stopped None _ fault (Some rest) = tt
+rest_stopped (Some line) _ fault (Some rest) = tt
+
+pub stopped : (s : State) (serial : ℕ) (fault : Fault) (now : Option (List ℕ)) →
+    IfSome now (λ rest. EndsBy (line_of s serial) serial rest (Stopped fault))
+    × (Stopped fault ≡ Ahead → batch_in s serial ≡ None)
+stopped s serial fault now = (
+  rest_stopped (line_of s serial) serial fault now,
+  λ same. absurd (let no : Stopped fault ≡ Ahead = same in cc),
+)
 
 -- ---- the keeper
 
@@ -218,6 +236,7 @@ matches_kept s after None b found same h = record {
   front = tt;
   size = h.size;
   ends = tt;
+  ahead = h.ahead;
 }
 matches_kept s after (Some xs) None found same h = absurd same
 matches_kept s after (Some xs) (Some ys) found same h =
@@ -229,15 +248,17 @@ nothing_matches s after None none = record {
   front = tt;
   size = refl;
   ends = tt;
+  ahead = λ same. absurd (let no : All ≡ Ahead = same in cc);
 }
 nothing_matches s after (Some bytes) none = record {
   within = omega arith;
   front = (bytes, refl);
   size = refl;
-  ends = (bytes, refl, no_rest (line_of s (serial_behind after 0)) bytes none);
+  ends = (bytes, refl, no_rest (line_of s (serial_following after 0)) bytes none);
+  ahead = λ same. absurd (let no : All ≡ Ahead = same in cc);
 }
   where
     no_rest : (due : Option (List ℕ)) (rest : List ℕ) → rest ≡ [] →
-        EndsBy due (serial_behind after 0) rest All
+        EndsBy due (serial_following after 0) rest All
     no_rest None rest none = none
     no_rest (Some line) rest none = none

@@ -1,4 +1,4 @@
--- What is written of a journal, a line further.
+-- What is written of a journal, one line further.
 use Rattle.std.proofs.Math.ListN.{drop_of_length-le}
 use Rattle.std.proofs.Common.{◌≡◌, ◌≤◌, ◌<◌, ◌+◌, ◌-◌, ℕ, zero, suc, List, [], ◌∷◌, ◌++◌}
 use Rattle.std.proofs.Common.{length, take, drop, None, Some, option_map}
@@ -16,7 +16,7 @@ use Rattle.streetmap_replay.specs.Lines.{Line, numbered, line_bytes}
 use Rattle.streetmap_replay.proofs.AllThere.{journal_is_whole}
 use Rattle.streetmap_replay.proofs.ItemsByPlace.{get_drop, get_low, length-numbered}
 use Rattle.streetmap_replay.proofs.TornLines.{lines-append}
-use Rattle.streetmap_journal.specs.Completing.{IsKeptLine}
+use Rattle.streetmap_journal.specs.Completion.{IsKeptLine}
 use Rattle.streetmap_journal.specs.Written.{Position, Reaches, lines_between, line_at}
 
 -- ---- items of lists
@@ -68,7 +68,7 @@ line_there s sound n text h =
     let same : 0 + n + 1 ≡ n + 1 = omega arith in
     get_numbered 0 (journal s) n text there ∙ ap (λ (k : ℕ). Some (numbered k text)) same
 
--- no line is behind the last batch
+-- no line comes after that of the last batch
 pub no_line_there : (s : State) → IsState s → (n : ℕ) → batch_in s (n + 1) ≡ None →
     length (journal_lines s) ≤ n
 no_line_there s sound n h =
@@ -91,7 +91,7 @@ no_line_at s n low =
     ap (λ (ls : List Line). text_of_lines (take 1 ls))
     (drop_of_length-le (journal_lines s) {i = n - 1} (omega (arith, low)))
 
--- ---- a line of the state, put behind what is written
+-- ---- a line of the state, appended to what is written
 
 module _ (s : State) (p q : Position) (bytes later line : List ℕ) (x : Line)
     (h : Reaches p bytes s) (there : slice_get (journal_lines s) (p.next - 1) ≡ Some x)
@@ -172,7 +172,7 @@ module _ (s : State) (p q : Position) (bytes later line : List ℕ) (x : Line)
         part = omega (arith, high, long);
       }
 
--- ---- a state with a line more
+-- ---- a state with one more line
 
 torn_longer : (ls : List Line) (x : Line) (part : ℕ) → part ≤ length (text_of_lines (take 1 ls)) →
     (take part (text_of_lines (take 1 (ls ++ x ∷ []))) ≡ take part (text_of_lines (take 1 ls)))

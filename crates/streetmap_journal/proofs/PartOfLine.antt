@@ -7,11 +7,11 @@ use Rattle.std.proofs.KnownBytes.{Appends-kept}
 use Rattle.std.proofs.lemmas.List.{drop-take, length-drop}
 use Rattle.streetmap_journal.specs.Written.{Position, PutsBy}
 
-pub told_behind : (a b c : Option (List ℕ)) (bytes : List ℕ) → Appends a b bytes → Keeps b c →
+pub reported_after : (a b c : Option (List ℕ)) (bytes : List ℕ) → Appends a b bytes → Keeps b c →
     Appends a c bytes
-told_behind a b c bytes h k = Appends-kept a b c bytes h k
+reported_after a b c bytes h k = Appends-kept a b c bytes h k
 
--- a beginning of what lacks of a line
+-- a prefix of the missing bytes of a line
 pub lacking_put : (part written sum : ℕ) (line : List ℕ) (old new : Option (List ℕ)) →
     part ≤ length line → length line < 2 ^ 64 → written ≤ length (drop part line) →
     sum ≡ min (part + written) (2 ^ 64 - 1) → Appends old new (take written (drop part line)) →
@@ -25,17 +25,17 @@ lacking_put part written sum line old new low small few is puts =
           ∙ drop-take part written line)) puts,
     )
 
--- where the writer is told behind a put
-pub put_told : (whole : Bool) (p q r : Position) (a b c : Option (List ℕ)) (line : List ℕ) →
+-- if the writer is informed after a put
+pub put_reported : (whole : Bool) (p q r : Position) (a b c : Option (List ℕ)) (line : List ℕ) →
     r.after ≡ q.after → r.next ≡ q.next → r.part ≡ q.part → Keeps b c →
     PutsBy whole p q a b line → PutsBy whole p r a c line
-put_told true p q r a b c line after next part keeps h = (
+put_reported true p q r a b c line after next part keeps h = (
   after ∙ h.0,
   next ∙ h.1,
   part ∙ h.2,
   Appends-kept a b c (drop p.part line) h.3 keeps,
 )
-put_told false p q r a b c line after next part keeps h = (
+put_reported false p q r a b c line after next part keeps h = (
   after ∙ h.0,
   next ∙ h.1,
   subst (λ (n : ℕ). p.part ≤ n) (sym part) h.2,

@@ -1,6 +1,6 @@
--- A journal that is there, and goes on.
+-- An existing journal, which goes on.
 use Rattle.std.proofs.Common.{◌≡◌, ◌≤◌, ◌<◌, ◌+◌, ◌-◌, ◌^◌, ℕ, List, [], ◌∷◌, ◌++◌, length, take}
-use Rattle.std.proofs.Common.{drop, Option, None, Some, true, false, sym, ap, ◌∙◌, arith, append_assoc}
+use Rattle.std.proofs.Common.{drop, Option, None, Some, IsSome, true, false, sym, ap, ◌∙◌, arith, append_assoc}
 use Rattle.std.proofs.Common.{append-nil, length-append, length-drop, IfSome}
 use Rattle.std.proofs.Math.Seq.{take-append-add, take-append_seam}
 use Rattle.std.proofs.lemmas.Fmt.{length-decimal-le}
@@ -20,20 +20,21 @@ use Rattle.std.proofs.Common.{◌⊎◌, inl, inr, subst, Ok, Err}
 use Rattle.std.specs.Io.KnownBytes.{Keeps}
 use Rattle.streetmap_ledger.specs.Model.{Model}
 use Rattle.streetmap_ledger.specs.Keep.{IsRead}
+use Rattle.streetmap_ledger.specs.declared.reply.Cause.{Cause}
 use Rattle.streetmap_ledger.specs.declared.reply.Fault.{Fault}
 use Rattle.streetmap_replay.specs.Calls.{fails_by, AreReads}
-use Rattle.streetmap_replay.proofs.CallsInTurn.{read_of, lost_read}
+use Rattle.streetmap_replay.proofs.CallsInTurn.{answered_read, lost_read, no_fault_read, reads_then}
 use Rattle.streetmap_journal.proofs.LinesSoFar.{matches_kept}
-use Rattle.streetmap_journal.specs.Matching.{Matches, line_head, lines_from, serial_behind}
-use Rattle.streetmap_journal.specs.Matching.{end_answer}
-use Rattle.streetmap_journal.specs.declared.matching.MatchEnd.{MatchEnd}
-use Rattle.streetmap_journal.specs.declared.matching.MatchEnd.TheVariants as ends
+use Rattle.streetmap_journal.specs.Comparison.{Matches, line_head, lines_from, serial_following}
+use Rattle.streetmap_journal.specs.Comparison.{end_answer}
+use Rattle.streetmap_journal.specs.declared.comparison.MatchEnd.{MatchEnd}
+use Rattle.streetmap_journal.specs.declared.comparison.MatchEnd.TheVariants as ends
 use Rattle.streetmap_journal.specs.Place.{HasFirst}
-use Rattle.streetmap_journal.specs.Starting.{HasFirstSerial, BeginsAfter, Finds, ChecksEnd, IsOwnFault, start_answer}
-use Rattle.streetmap_journal.specs.declared.starting.StartFault.{StartFault}
-use Rattle.streetmap_journal.specs.declared.starting.StartFault.TheVariants.{Ahead, Other, NotOpened, NotRead, Stopped}
+use Rattle.streetmap_journal.specs.Starts.{HasFirstSerial, BeginsAfter, Finds, ChecksEnd, IsOwnFault, start_answer}
+use Rattle.streetmap_journal.specs.declared.starts.StartFault.{StartFault}
+use Rattle.streetmap_journal.specs.declared.starts.StartFault.TheVariants.{Ahead, Other, NotOpened, NotRead, Stopped}
 use Rattle.streetmap_journal.specs.Written.{Position, HoldsJournal, lines_between, line_at}
-use Rattle.streetmap_journal.specs.declared.matching.Matched.{Matched}
+use Rattle.streetmap_journal.specs.declared.comparison.Matched.{Matched}
 
 -- ---- the first serial
 
@@ -84,7 +85,7 @@ first_found (Some bytes) head None text first is = serial_missing bytes head fir
 first_found (Some bytes) head (Some serial) text first is =
     (serial_there bytes head text serial first is.0, is.1)
 
--- ---- what is there when it goes on
+-- ---- what exists when it goes on
 
 module _ (s : State) (sound : IsState s) (after : ℕ) (found : Matched) (bytes : List ℕ)
     (matches : Matches s after (Some bytes) found)
@@ -97,7 +98,7 @@ module _ (s : State) (sound : IsState s) (after : ℕ) (found : Matched) (bytes 
       let many = length-numbered 0 (journal s) in
       let count = (journal_is_whole s sound).0 in omega (arith, many, count)
 
-  next_is : serial_behind after found.count ≡ after + found.count + 1
+  next_is : serial_following after found.count ≡ after + found.count + 1
   next_is =
       let most = sound.not_too_many in
       let within = matches.within in
@@ -110,7 +111,7 @@ module _ (s : State) (sound : IsState s) (after : ℕ) (found : Matched) (bytes 
       ∙ (ap (take (length front)) matches.front.1
       ∙ take-append_seam front matches.front.0)
 
-  pub resumed_holds : (p : Position) → p.after ≡ after → p.next ≡ serial_behind after found.count →
+  pub resumed_holds : (p : Position) → p.after ≡ after → p.next ≡ serial_following after found.count →
       p.part ≡ 0 → p.behind ≡ true → HoldsJournal p (Some (take found.bytes bytes)) s
   resumed_holds p at next part behind =
       let here : p.next ≡ after + found.count + 1 = next ∙ next_is in
@@ -137,50 +138,64 @@ module _ (s : State) (sound : IsState s) (after : ℕ) (found : Matched) (bytes 
         whole = λ no. (let wrong : true ≡ false = sym behind ∙ no in absurd cc);
       }
 
--- ---- what its lines ended by
+-- ---- how its lines ended
 
-pub found_by : (s : State) (asked after : ℕ) (a b : Option (List ℕ)) (found : Matched) → IfSome a (λ bytes. BeginsAfter bytes asked after) → Keeps a b → Matches s after b found
-    → Finds s asked after a found
-found_by s asked after a b found first kept h = record {
+pub found_by : (s : State) (requested after : ℕ) (a b : Option (List ℕ)) (found : Matched) → IfSome a (λ bytes. BeginsAfter bytes requested after) → Keeps a b → Matches s after b found
+    → Finds s requested after a found
+found_by s requested after a b found first kept h = record {
   begins = first;
   matches = matches_kept s after a b found kept h;
 }
 
 module _ {K : Type 0} {model : Model K} {a b : K} where
-  -- they are no reason not to begin
+  -- a call that was answered, and then calls that were no fault
+  pub answered_then : {c : K} → AreReads model a b (Some (Ok tt)) → AreReads model b c None → AreReads model a c (Some (Ok tt))
+  answered_then {c} one two = record {
+    calls = record {
+      preserved = model.preserves_then a b c one.calls.preserved two.calls.preserved;
+      began_clean = λ h. one.calls.began_clean (two.calls.began_clean h);
+      faults = (one.calls.faults.0, two.calls.faults ∙ one.calls.faults.1);
+      shut = λ shut.
+          (let none : IsSome None = subst (λ (o : Option Cause). IsSome o) one.calls.faults.0 shut in
+          absurd cc);
+    };
+    stays = λ h s e. two.stays h s (one.stays (two.calls.began_clean h) s e);
+  }
+
+  -- the end is no reason not to begin
   pub whole_reads : (end : MatchEnd) → (end ≡ ends.All) ⊎ (end ≡ ends.Cut) → AreReads model a b (end_answer end) → AreReads model a b None
   whole_reads end (inl is) h = subst (λ (e : MatchEnd). AreReads model a b (end_answer e)) is h
   whole_reads end (inr is) h = subst (λ (e : MatchEnd). AreReads model a b (end_answer e)) is h
 
-  -- they are one
-  pub ended_reads : (W : Type 0) (after : ℕ) (found : Matched) (fault : StartFault) → ChecksEnd after found (Err fault) → AreReads model a b (end_answer found.end)
-      → AreReads model a b (start_answer {W = W} (Err fault))
-  ended_reads W after found (Other serial) is h = subst (λ (e : MatchEnd). AreReads model a b (end_answer e)) is.0 h
-  ended_reads W after found Ahead is h = subst (λ (e : MatchEnd). AreReads model a b (end_answer e)) is h
-  ended_reads W after found NotRead is h = subst (λ (e : MatchEnd). AreReads model a b (end_answer e)) is h
-  ended_reads W after found (Stopped fault) is h = subst (λ (e : MatchEnd). AreReads model a b (end_answer e)) is h
-  ended_reads W after found (NotOpened error) is h = absurd is
+  -- the end is a reason not to begin, after a call that was answered
+  pub ended_reads : {c : K} (W : Type 0) (after : ℕ) (found : Matched) (fault : StartFault) → ChecksEnd after found (Err fault) → AreReads model a b (Some (Ok tt)) → AreReads model b c (end_answer found.end)
+      → AreReads model a c (start_answer {W = W} (Err fault))
+  ended_reads {c} W after found (Other serial) is one h = answered_then one (subst (λ (e : MatchEnd). AreReads model b c (end_answer e)) is.0 h)
+  ended_reads {c} W after found Ahead is one h = answered_then one (subst (λ (e : MatchEnd). AreReads model b c (end_answer e)) is h)
+  ended_reads {c} W after found NotRead is one h = answered_then one (subst (λ (e : MatchEnd). AreReads model b c (end_answer e)) is h)
+  ended_reads {c} W after found (Stopped fault) is one h = reads_then (no_fault_read one) (subst (λ (e : MatchEnd). AreReads model b c (end_answer e)) is h)
+  ended_reads W after found (NotOpened error) is one h = absurd is
 
   -- the keeper answered, and was not the cause of a fault
   pub own_fault : (W : Type 0) {T : Type 0} {x : T} {Is : State → T → Type 0} (fault : StartFault) → IsOwnFault fault → IsRead model a b (Ok x) Is → AreReads model a b (start_answer {W = W} (Err fault))
   own_fault W (Stopped fault) own read = subst (λ (f : Fault). AreReads model a b (fails_by f)) (sym own) (lost_read read)
   own_fault W Ahead own read = absurd own
   own_fault W (Other serial) own read = absurd own
-  own_fault W NotRead own read = read_of read
-  own_fault W (NotOpened error) own read = read_of read
+  own_fault W NotRead own read = answered_read read
+  own_fault W (NotOpened error) own read = answered_read read
 
--- what is written after the lines that were there
-pub resumed_of : (s : State) → IsState s → (asked after : ℕ) (found : Matched)
-    (a b c w : Option (List ℕ)) → Finds s asked after a found → after ≤ batch_count s →
+-- what is written after the lines that existed
+pub resumed_of : (s : State) → IsState s → (requested after : ℕ) (found : Matched)
+    (a b c w : Option (List ℕ)) → Finds s requested after a found → after ≤ batch_count s →
     Keeps a b → Keeps b c → HasFirst c w found.bytes → (p : Position) → p.after ≡ after →
-    p.next ≡ serial_behind after found.count → p.part ≡ 0 → p.behind ≡ true →
+    p.next ≡ serial_following after found.count → p.part ≡ 0 → p.behind ≡ true →
     IfSome a (λ _. HoldsJournal p w s)
-resumed_of s sound asked after found None b c w it few one two cut p at next part behind = tt
-resumed_of s sound asked after found (Some x) None c w it few one two cut p at next part behind =
+resumed_of s sound requested after found None b c w it few one two cut p at next part behind = tt
+resumed_of s sound requested after found (Some x) None c w it few one two cut p at next part behind =
     absurd one
-resumed_of s sound asked after found (Some x) (Some y) None w it few one two cut p at next part
+resumed_of s sound requested after found (Some x) (Some y) None w it few one two cut p at next part
     behind = absurd two
-resumed_of s sound asked after found (Some x) (Some y) (Some z) w it few one two cut p at next part
+resumed_of s sound requested after found (Some x) (Some y) (Some z) w it few one two cut p at next part
     behind =
     let same : w ≡ Some (take found.bytes x) =
     cut ∙ ap (λ (bytes : List ℕ). Some (take found.bytes bytes)) (two ∙ one) in

@@ -1,8 +1,8 @@
 pub mod Written
-pub mod Telling
-pub mod Completing
+pub mod Reports
+pub mod Completion
 pub mod Place
-pub mod Starting
+pub mod Starts
 pub mod Front
-pub mod Matching
+pub mod Comparison
 pub mod Journaled

@@ -2,7 +2,7 @@
 use Rattle.std.specs.Prelude.{◌≡◌, ℕ, List, [], Option, None, Some, IfSome, take}
 use Rattle.std.specs.Io.KnownBytes.{Keeps}
 
--- it reads these bytes; there are none if there is no reader
+-- it reads these bytes; if no reader exists, they are empty
 abbrev pub IsReaderOf : {R : Type 0} → (R → Option (List ℕ)) → Option (List ℕ) → Option R → Type 0
 IsReaderOf remaining contents None = IfSome contents (λ bytes. bytes ≡ [])
 IsReaderOf remaining contents (Some reader) = Keeps contents (remaining reader)

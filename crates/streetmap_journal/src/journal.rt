@@ -7,7 +7,7 @@ ghost use Rattle.streetmap_batch.specs.BatchView.{batch_value};
 ghost use Rattle.streetmap_replay.specs.Lines.{numbered, line_bytes};
 ghost use Rattle.streetmap_text_lines.specs.Written.{AppendsFirst};
 ghost use Rattle.streetmap_journal.specs.Written.{position_of, PutsLine, KeepsLine, NotesLine};
-ghost use Rattle.streetmap_journal.specs.Telling.{WriterIsTold};
+ghost use Rattle.streetmap_journal.specs.Reports.{WriterIsInformed};
 
 use itoa::Buffer;
 use std::alloc::{AllocError, Global};
@@ -26,7 +26,7 @@ pub trait JournalWriter {
 
     /// The serial from which on it was informed that lines are missing: none if it was informed
     /// that no line is.
-    ghost told: { Self → Option ℕ };
+    ghost reported: { Self → Option ℕ };
 
     /// The device keeps all that was written, if that was requested.
     ghost is_kept: { Self → Type 0 };
@@ -46,7 +46,7 @@ pub trait JournalWriter {
         ensures written { OnOk result (Appends (contents self.old) (contents self.new) bytes.now) }
         ensures first { IfErr result (λ stopped. AppendsFirst stopped.written
             (contents self.old) (contents self.new) bytes.now) }
-        ensures told { told self.new ≡ told self.old }
+        ensures reported { reported self.new ≡ reported self.old }
         ensures goes { goes self.old self.new }
         ensures failed { IsErr result → fails self.old self.new };
 
@@ -58,7 +58,7 @@ pub trait JournalWriter {
     fn sync(&mut self) -> Result<(), Error>
         ensures bytes { Keeps (contents self.old) (contents self.new) }
         ensures kept { IsOk result → is_kept self.new }
-        ensures told { told self.new ≡ told self.old }
+        ensures reported { reported self.new ≡ reported self.old }
         ensures goes { goes self.old self.new }
         ensures failed { IsErr result → fails self.old self.new };
 
@@ -66,14 +66,14 @@ pub trait JournalWriter {
     fn behind(&mut self, serial: u64)
         ensures bytes { Keeps (contents self.old) (contents self.new) }
         ensures kept { is_kept self.old → is_kept self.new }
-        ensures told { told self.new ≡ Some serial }
+        ensures reported { reported self.new ≡ Some serial }
         ensures goes { goes self.old self.new };
 
     /// Informs it that no line is missing up to the one with this serial.
     fn whole(&mut self, serial: u64)
         ensures bytes { Keeps (contents self.old) (contents self.new) }
         ensures kept { is_kept self.old → is_kept self.new }
-        ensures told { told self.new ≡ None }
+        ensures reported { reported self.new ≡ None }
         ensures goes { goes self.old self.new };
 
     /// If it is not called, it goes on as it is.
@@ -157,7 +157,7 @@ impl<W: JournalWriter> Journal<W> {
         ensures line { PutsLine result
             (position_of self.old) (position_of self.new)
             (W.contents self.old.writer) (W.contents self.new.writer) line.now }
-        ensures told { W.told self.new.writer ≡ W.told self.old.writer }
+        ensures reported { W.reported self.new.writer ≡ W.reported self.old.writer }
         ensures goes { W.goes self.old.writer self.new.writer }
         ensures failed { result ≡ false → W.fails self.old.writer self.new.writer }
     {
@@ -181,7 +181,7 @@ impl<W: JournalWriter> Journal<W> {
         ensures line { KeepsLine result (position_of self.old) (position_of self.new)
             (W.contents self.old.writer) (W.contents self.new.writer) line.now }
         ensures kept { result ≡ true → W.is_kept self.new.writer }
-        ensures told { W.told self.new.writer ≡ W.told self.old.writer }
+        ensures reported { W.reported self.new.writer ≡ W.reported self.old.writer }
         ensures goes { W.goes self.old.writer self.new.writer }
         ensures failed { result ≡ false → W.fails self.old.writer self.new.writer }
     {
@@ -198,8 +198,8 @@ impl<W: JournalWriter> Journal<W> {
         ensures line { NotesLine
             (position_of self.old) (position_of self.new)
             (W.contents self.old.writer) (W.contents self.new.writer) line.now }
-        ensures told { WriterIsTold W.told W.is_kept self.old →
-            WriterIsTold W.told W.is_kept self.new }
+        ensures reported { WriterIsInformed W.reported W.is_kept self.old →
+            WriterIsInformed W.reported W.is_kept self.new }
         ensures goes { W.goes self.old.writer self.new.writer }
         ensures failed { self.old.is_behind ≡ false → self.new.is_behind ≡ true →
             W.fails self.old.writer self.new.writer }

@@ -4,17 +4,17 @@ ghost use Rattle.streetmap_batch.specs.BatchView.{batch_value};
 ghost use Rattle.streetmap_ledger.specs.Batches.{act};
 ghost use Rattle.streetmap_ledger.specs.Keep.{IsCall, Writes};
 ghost use Rattle.streetmap_ledger.specs.State.{State};
-ghost use Rattle.streetmap_journal.specs.Telling.{IsFor};
+ghost use Rattle.streetmap_journal.specs.Reports.{IsFor};
 ghost use Rattle.streetmap_journal.specs.Written.{OfReply};
 
-use crate::completing::{complete, refuse};
+use crate::completion::{complete, refuse};
 use crate::journal::{Journal, JournalWriter, line_of};
 use std::alloc::Global;
 use streetmap_geojson::Feature;
 use streetmap_ledger::{Batch, Durable, Fault, Keeper, KeepsBatches, Page, Reply, Summary};
 use streetmap_query::Query;
 
-/// A keeper that writes each batch that it accepts as a line of a journal, if there is one, after
+/// A keeper that writes each batch that it accepts as a line of a journal, if any, after
 /// its commit and before its answer.
 #[derive(Drop)]
 pub struct JournaledKeeper<K, W> {
@@ -38,8 +38,8 @@ fn apply_and_note<K: KeepsBatches, W: JournalWriter>(
     // No line is written of a batch that was not answered.
     ensures untouched { IsErr result → journal.new ≡ journal.old }
     ensures noted { K.model.is_clean keeper.new → (s : State) → K.model.represents keeper.old s →
-        IsFor W.contents W.told W.is_kept journal.old s → IfOk result (λ _.
-        IsFor W.contents W.told W.is_kept journal.new (act s (batch_value batch.now)).state) }
+        IsFor W.contents W.reported W.is_kept journal.old s → IfOk result (λ _.
+        IsFor W.contents W.reported W.is_kept journal.new (act s (batch_value batch.now)).state) }
     ensures goes { W.goes journal.old.writer journal.new.writer }
     ensures failed { journal.old.is_behind ≡ false → journal.new.is_behind ≡ true →
         W.fails journal.old.writer journal.new.writer }
@@ -61,7 +61,7 @@ fn apply_and_note<K: KeepsBatches, W: JournalWriter>(
 impl<K: KeepsBatches, W: JournalWriter> Keeper for JournaledKeeper<K, W> {
     ghost use Rattle.streetmap_journal.specs.Journaled.{journaled};
 
-    ghost model = { journaled K.model W.contents W.told W.is_kept W.fails };
+    ghost model = { journaled K.model W.contents W.reported W.is_kept W.fails };
 
     fn is_open(&self) -> bool {
         self.keeper.is_open()
@@ -103,6 +103,6 @@ impl<K: Durable + KeepsBatches, W: JournalWriter> Durable for JournaledKeeper<K,
 
     ghost holds = { K.holds };
 
-    ghost images_hold_states = { λ first last s image is spared clean left.
-        K.images_hold_states first.keeper last.keeper s image is.0 spared clean left };
+    ghost images_hold_states = { λ first last s image is preserved clean left.
+        K.images_hold_states first.keeper last.keeper s image is.0 preserved clean left };
 }

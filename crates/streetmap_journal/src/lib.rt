@@ -12,20 +12,20 @@
 //! that a crash leaves (`match_lines`, `specs/Matching`). All else is refused, and nothing is
 //! written.
 //!
-//! Modules, in the order of reading: `journal` (lines), `completing`, `keeper`, `front` (bytes of a
-//! reader compared with those expected), `matching`, `place`, `starting`.
+//! Modules, in the order of reading: `journal` (lines), `completion`, `keeper`, `front` (bytes of a
+//! reader compared with those expected), `comparison`, `place`, `starts`.
 #![tactic(auto)]
 
-mod completing;
+mod comparison;
+mod completion;
 mod front;
 mod journal;
 mod keeper;
-mod matching;
 mod place;
-mod starting;
+mod starts;
 
+pub use comparison::{MatchEnd, Matched, match_lines};
 pub use journal::{Journal, JournalWriter};
 pub use keeper::JournaledKeeper;
-pub use matching::{MatchEnd, Matched, match_lines};
 pub use place::JournalPlace;
-pub use starting::{StartFault, start_journal};
+pub use starts::{StartFault, start_journal};

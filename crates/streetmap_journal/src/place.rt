@@ -6,17 +6,17 @@ ghost use Rattle.streetmap_journal.specs.Place.{IsReaderOf, HasFirst};
 use crate::journal::JournalWriter;
 use std::io::{BufRead, Error};
 
-/// Where a journal is kept: a file, which may not be there yet.
+/// Where a journal is kept: a file, which may not exist yet.
 pub trait JournalPlace {
     /// Its reader.
     type Reader: BufRead + Drop;
     /// The writer of its lines.
     type Writer: JournalWriter + Drop;
 
-    /// Its bytes, if they are known: none if nothing is there.
+    /// Its bytes, if they are known: none if no file exists.
     ghost contents: { Self → Option (List ℕ) } = { λ _. None };
 
-    /// Reads it from its first byte, and changes nothing. `None` if nothing is there.
+    /// Reads it from its first byte, and changes nothing. `None` if no file exists.
     ///
     /// # Errors
     ///
@@ -25,8 +25,8 @@ pub trait JournalPlace {
         ensures kept { Keeps (contents self.old) (contents self.new) }
         ensures whole { IfOk result (IsReaderOf Self.Reader.remaining (contents self.old)) };
 
-    /// Takes off all but its first `bytes` bytes, and writes to its end from there on. It is
-    /// created if nothing is there.
+    /// Removes all but its first `bytes` bytes, and writes to its end from there on. It is created
+    /// if it does not exist.
     ///
     /// # Errors
     ///

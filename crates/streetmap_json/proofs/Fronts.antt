@@ -20,7 +20,7 @@ abbrev pick : {A : Type 0} → A → Option A → A
 pick a None = a
 pick a (Some b) = b
 
--- a converted front is that of something converted
+-- a converted front comes from a front whose value converts
 pub of_something : {A B : Type 0} (f : A → Option B) (o : Option (A × List Token)) (b : B) (left : List Token) → converted f o ≡ Some (b, left) → (a : A) × (o ≡ Some (a, left)) × (f a ≡ Some b)
 of_something f None b left e = absurd cc
 of_something {A} {B} f (Some (a, rest)) b left e = by (f a) refl e where
@@ -28,7 +28,7 @@ of_something {A} {B} f (Some (a, rest)) b left e = by (f a) refl e where
   by None is h = absurd cc
   by (Some y) is h = let same = ap (pick (y, rest)) h in (a, ap (λ q. Some (a, q.1)) same, is ∙ ap (λ q. Some q.0) same)
 
--- nothing converted, behind anything
+-- a front that converts to nothing has a value that converts to nothing
 of_nothing : {A B : Type 0} (f : A → Option B) (a : A) (rest : List Token) → converted f (Some (a, rest)) ≡ None → f a ≡ None
 of_nothing {A} {B} f a rest e = by (f a) refl e where
   by : (x : Option B) → f a ≡ x → option_map {U = B × List Token} (λ y. (y, rest)) x ≡ None → f a ≡ None
@@ -69,7 +69,7 @@ no_element more (Some q) e = by (more q.1) where
   by (Some p) = rw (of_nothing of_json q.0 q.1 e)
 
 module _ (p : Parse json.Json) where
-  -- an element stands before the bracket: it comes first, and the others behind it
+  -- an element comes before the bracket: it is the first, and the others follow it
   pub next_item : (n : ℕ) (ts rest : List Token) (d : Data) → 0 < n → after_end_array ts ≡ None → converted of_json (p ts) ≡ Some (d, rest)
       → converted of_items (items p n ts) ≡ parse_map (item d) (converted of_items (items p (n - 1) rest))
   next_item n ts rest d some going e =
@@ -86,34 +86,34 @@ module _ (p : Parse json.Json) where
   pub items_done : (n : ℕ) (ts rest : List Token) → length ts ≤ n → after_end_array ts ≡ Some rest → converted of_items (items p n ts) ≡ Some (no_items, rest)
   items_done n ts rest enough e = ap (converted of_items) (items_end p n ts rest enough e)
 
--- ---- members, behind those found before
+-- ---- members, after those found before
 
-told : (name : List ℕ) (j : json.Json) (d : Data) (found : Members) → of_json j ≡ Some d → (o : Option (json.Members × List Token))
+reported : (name : List ℕ) (j : json.Json) (d : Data) (found : Members) → of_json j ≡ Some d → (o : Option (json.Members × List Token))
     → converted (λ ms. of_members ms found) (parse_map (json.member name j) o) ≡ converted (λ ms. of_members ms (put name d found)) o
-told name j d found e None = refl
-told name j d found e (Some p) = rw e
+reported name j d found e None = refl
+reported name j d found e (Some p) = rw e
 
-not_told : (name : List ℕ) (found : Members) (more : Parse json.Members) (o : Option (json.Json × List Token)) → converted of_json o ≡ None
+not_reported : (name : List ℕ) (found : Members) (more : Parse json.Members) (o : Option (json.Json × List Token)) → converted of_json o ≡ None
     → converted (λ ms. of_members ms found) (option_and_then (λ q. parse_map (json.member name q.0) (more q.1)) o) ≡ None
-not_told name found more None e = refl
-not_told name found more (Some q) e = by (more q.1) where
+not_reported name found more None e = refl
+not_reported name found more (Some q) e = by (more q.1) where
   by : (o : Option (json.Members × List Token)) → converted (λ ms. of_members ms found) (parse_map (json.member name q.0) o) ≡ None
   by None = refl
   by (Some p) = rw (of_nothing of_json q.0 q.1 e)
 
 module _ (p : Parse json.Json) (found : Members) where
   -- a name and its value: it is put among those found
-  pub next_member : (n : ℕ) (name : List ℕ) (ts behind rest : List Token) (d : Data) → 0 < n → read_key ts ≡ Some (Some name, behind) → converted of_json (p behind) ≡ Some (d, rest)
+  pub next_member : (n : ℕ) (name : List ℕ) (ts following rest : List Token) (d : Data) → 0 < n → read_key ts ≡ Some (Some name, following) → converted of_json (p following) ≡ Some (d, rest)
       → converted (λ ms. of_members ms found) (members p n ts) ≡ converted (λ ms. of_members ms (put name d found)) (members p (n - 1) rest)
-  next_member n name ts behind rest d some key e =
-      let j = of_something of_json (p behind) d rest e in
-      ap (converted (λ ms. of_members ms found)) (members_more p n name ts behind rest j.0 some key j.1) ∙ told name j.0 d found j.2 (members p (n - 1) rest)
+  next_member n name ts following rest d some key e =
+      let j = of_something of_json (p following) d rest e in
+      ap (converted (λ ms. of_members ms found)) (members_more p n name ts following rest j.0 some key j.1) ∙ reported name j.0 d found j.2 (members p (n - 1) rest)
 
   -- a name without a value
-  pub no_member : (n : ℕ) (name : List ℕ) (ts behind : List Token) → read_key ts ≡ Some (Some name, behind) → converted of_json (p behind) ≡ None → converted (λ ms. of_members ms found) (members p n ts) ≡ None
+  pub no_member : (n : ℕ) (name : List ℕ) (ts following : List Token) → read_key ts ≡ Some (Some name, following) → converted of_json (p following) ≡ None → converted (λ ms. of_members ms found) (members p n ts) ≡ None
   unfolding members
-  no_member zero name ts behind key e = refl
-  no_member (suc n) name ts behind key e = rw key (not_told name found (members p n) (p behind) e)
+  no_member zero name ts following key e = refl
+  no_member (suc n) name ts following key e = rw key (not_reported name found (members p n) (p following) e)
 
   -- neither a name nor the brace
   pub no_name : (n : ℕ) (ts : List Token) → read_key ts ≡ None → converted (λ ms. of_members ms found) (members p n ts) ≡ None
@@ -145,9 +145,9 @@ pub none_before : (o : Option (Items × List Token)) → o ≡ parse_map (λ res
 none_before None = refl
 none_before (Some p) = refl
 
--- ---- what was answered
+-- ---- what was returned
 
--- a fault that was answered is handed on, where nothing follows from nothing
+-- a fault is passed on to a second front that is none whenever the first is none
 pub handed_on : {Y W : Type 0} (fault : ParseFault) (front : Option (Y × List Token)) (of : Option (W × List Token)) → (front ≡ None → of ≡ None) → Fails fault front → Fails fault of
 handed_on Memory front of none h = tt
 handed_on NotJson front of none h = none h
@@ -157,7 +157,7 @@ handed_on NotJson front of none h = none h
 pub whole_value : (o : Option (json.Json × List Token)) (d : Data) → converted of_json o ≡ Some (d, []) → whole o ≡ Some d
 whole_value o d e = let j = of_something of_json o d [] e in ap whole j.1 ∙ j.2
 
--- tokens behind the value
+-- tokens after the value
 pub more_than_a_value : (o : Option (json.Json × List Token)) (d : Data) (t : Token) (rest : List Token) → converted of_json o ≡ Some (d, t ∷ rest) → whole o ≡ None
 more_than_a_value o d t rest e = ap whole (of_something of_json o d (t ∷ rest) e).1
 
@@ -203,7 +203,7 @@ unfolding json.value
 empty_front zero = refl
 empty_front (suc depth) = refl
 
--- at a token that opens nothing the depth plays no part
+-- at a token that opens nothing the depth does not matter
 plain_front : (depth : ℕ) (t : Token) (ts : List Token) → value_at depth (t ∷ ts) ≡ converted of_json (value_with (nested_items depth) (nested_members depth) (t ∷ ts))
 unfolding json.value
 plain_front zero t ts = refl

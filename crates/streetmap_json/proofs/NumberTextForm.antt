@@ -32,8 +32,8 @@ dot_is_at (b ∷ w) zeros h =
     let p = and_parts (not (is_dot b)) (list_all (λ b. not (is_dot b)) w) h in
     rw (p.0, dot_is_at w zeros p.1) (omega arith)
 
-drop_behind : (w zeros : List ℕ) → drop (length w + 1) (w ++ 46 ∷ zeros) ≡ zeros
-drop_behind w zeros = rw (← drop-drop 1 (length w) (w ++ 46 ∷ zeros), drop_at w (46 ∷ zeros) (length w) refl) refl
+drop_after : (w zeros : List ℕ) → drop (length w + 1) (w ++ 46 ∷ zeros) ≡ zeros
+drop_after w zeros = rw (← drop-drop 1 (length w) (w ++ 46 ∷ zeros), drop_at w (46 ∷ zeros) (length w) refl) refl
 
 pub whole_text-fraction : (whole zeros : List ℕ) → are_signed_digits whole ≡ true → are_zeros zeros ≡ true → whole_text (whole ++ 46 ∷ zeros) ≡ unsigned_zero whole
 unfolding whole_text
@@ -41,13 +41,13 @@ whole_text-fraction whole zeros digits zero =
     let s = whole ++ 46 ∷ zeros in
     let at : position_or_len is_dot s ≡ length whole = dot_is_at whole zeros (signed_dotless whole digits) in
     let before : before_first is_dot s ≡ whole = rw at (take_at whole (46 ∷ zeros) (length whole) refl) in
-    let behind : drop (length whole + 1) s ≡ zeros = drop_behind whole zeros in
-    let after : after_first is_dot s ≡ zeros = rw at behind in
+    let following : drop (length whole + 1) s ≡ zeros = drop_after whole zeros in
+    let after : after_first is_dot s ≡ zeros = rw at following in
     rw (before, after, digits, zero) refl
 
 -- ---- and nothing else is
 
--- a text of that form is what stands before its point, the point and zeros
+-- a text of that form is what comes before its point, the point and zeros
 pub split_at_dot : (s : List ℕ) → has_zero_fraction s ≡ true → s ≡ before_first is_dot s ++ 46 ∷ after_first is_dot s
 split_at_dot s h =
     let short = fraction_is_after s h in

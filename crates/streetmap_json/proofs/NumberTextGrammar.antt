@@ -12,7 +12,7 @@ body_stays _ rest empty = refl
 body_stays _ rest (unescaped b s no_quote no_backslash more) = passes b (s ++ rest) (ne_eqb b 34 no_quote) (ne_eqb b 92 no_backslash) ∙ ap (onto_first b) (body_stays s rest more)
 body_stays _ rest (escape b s more) = ap (λ (w : List (List ℕ)). onto_first 92 (onto_first b w)) (body_stays s rest more)
 
--- a number text, behind which the text goes on with another byte or ends
+-- a number text, after which the text ends or continues with a byte of another kind
 pub with_whole_numbers-number : (s rest : List ℕ) → 0 < length s → list_all is_in_number s ≡ true → starts_number rest ≡ false → with_whole_numbers (s ++ rest) ≡ whole_text s ++ with_whole_numbers rest
 with_whole_numbers-number [] rest some run stop = absurd (omega arith)
 with_whole_numbers-number (b ∷ s) rest some run stop = rw (run_token b s rest run stop) refl
@@ -27,7 +27,7 @@ with_whole_numbers-string s rest body =
 open_token : (s : List ℕ) → tokens_from outside (34 ∷ s) ≡ (34 ∷ s) ∷ [] → with_whole_numbers (34 ∷ s) ≡ 34 ∷ s
 open_token s token = rw (token, quote_stays s) (append-nil (34 ∷ s))
 
--- a string that nothing closes
+-- a string without a closing quote
 pub with_whole_numbers-open : (s : List ℕ) → IsStringBody s → with_whole_numbers (34 ∷ s) ≡ 34 ∷ s
 unfolding tokens_from
 with_whole_numbers-open s body = open_token s (ap (λ (w : List ℕ). onto_first 34 (tokens_from within w)) (sym (append-nil s)) ∙ ap (onto_first 34) (body_stays s [] body) ∙ onto_all-nil 34 s)

@@ -28,7 +28,7 @@ then_kept s t rest p q = rw (append_assoc s t rest, p, q, append_assoc s t (with
 token_kept : (s rest : List ℕ) → tokens_from outside (s ++ rest) ≡ s ∷ tokens_from outside rest → whole_text s ≡ s → Kept s rest
 token_kept s rest e same = rw (e, same) refl
 
--- ---- tokens that are read as they stand
+-- ---- tokens that are read as they are
 
 and_false : (b : Bool) → (b && false) ≡ false
 and_false true = refl

@@ -13,16 +13,16 @@ use Rattle.streetmap_json.proofs.NumberTextTokens.{no_quote, number_first}
 use Rattle.streetmap_json.proofs.NumberTextKept.{quote_stays}
 use Rattle.streetmap_json.proofs.NumberTextForm.{split_at_dot}
 
--- ---- where such a zero is
+-- ---- the place of such a zero
 
 or_true : (a : Bool) → (a || true) ≡ true
 or_true true = refl
 or_true false = refl
 
-may_change_behind : (b : ℕ) (bs : List ℕ) → may_change (b ∷ bs) ≡ false → may_change bs ≡ false
+may_change_after : (b : ℕ) (bs : List ℕ) → may_change (b ∷ bs) ≡ false → may_change bs ≡ false
 unfolding may_change
-may_change_behind b [] h = refl
-may_change_behind b (c ∷ bs) h = (or_parts (is_changing_zero b c (starts_digit bs)) (may_change (c ∷ bs)) h).1
+may_change_after b [] h = refl
+may_change_after b (c ∷ bs) h = (or_parts (is_changing_zero b c (starts_digit bs)) (may_change (c ∷ bs)) h).1
 
 may_change_before : (b : ℕ) (bs : List ℕ) → may_change bs ≡ true → may_change (b ∷ bs) ≡ true
 unfolding may_change
@@ -57,9 +57,9 @@ short_stays [] lt = refl
 short_stays (b ∷ []) lt = refl
 short_stays (b ∷ c ∷ text) lt = absurd (omega arith)
 
-pub look_ends : (text : List ℕ) (i : ℕ) → 2 ≤ i → length text ≤ i → (2 ≤ length text → i ≤ length text)
+pub read_ends : (text : List ℕ) (i : ℕ) → 2 ≤ i → length text ≤ i → (2 ≤ length text → i ≤ length text)
     → may_change (drop (i - 2) text) ≡ may_change (drop (length text - 2) text)
-look_ends text i low high at_most = ⊎_elim
+read_ends text i low high at_most = ⊎_elim
     (λ short. short_stays (drop (i - 2) text) (omega (arith, length-drop (i - 2) text)) ∙ sym (short_stays (drop (length text - 2) text) (omega (arith, length-drop (length text - 2) text))))
     (λ long. let is : i ≡ length text = omega (arith, at_most long) in rw is refl)
     (cases_lt (length text) 2)
@@ -103,7 +103,7 @@ no_fraction_at s rest true e h =
     let no : may_change ((before_first is_dot s ++ 46 ∷ after_first is_dot s) ++ rest) ≡ false = rw (split_at_dot s e) at h in
     sym (zeros_begin (before_first is_dot s) (after_first is_dot s) rest parts.1) ∙ no
 
--- a token of a text without such a zero, behind which no number byte follows
+-- a token of a text without such a zero, if no number byte follows it
 token_stays : (s rest : List ℕ) → starts_number rest ≡ false → may_change (s ++ rest) ≡ false → whole_text s ≡ s
 unfolding whole_text
 token_stays s rest stop h =
@@ -111,7 +111,7 @@ token_stays s rest stop h =
 
 -- ---- all tokens
 
--- what tokens are read as, the first as it stands
+-- what tokens are read as, the first unchanged
 abbrev first_kept : List (List ℕ) → List ℕ
 first_kept [] = []
 first_kept (t ∷ ts) = t ++ flat_map whole_text ts
@@ -162,7 +162,7 @@ joined_kept b (d ∷ bs) true e h so_far =
     let p = and_parts (is_in_number b) (is_in_number d) e in
     let some : 0 < length (d ∷ bs) = omega arith in
     let here : with_whole_numbers (b ∷ d ∷ bs) ≡ first_kept (tokens_from outside (b ∷ d ∷ bs)) = number_kept (b ∷ d ∷ bs) (omega arith) p.0 h in
-    let later = number_kept (d ∷ bs) some p.1 (may_change_behind b (d ∷ bs) h) in
+    let later = number_kept (d ∷ bs) some p.1 (may_change_after b (d ∷ bs) h) in
     let tokens : tokens_from outside (b ∷ d ∷ bs) ≡ onto_first b (tokens_from outside (d ∷ bs)) = rw (no_quote b p.0, p.0, p.1) refl in
     (rw tokens at here) ∙ first_kept-onto b (tokens_from outside (d ∷ bs)) ∙ ap (λ (w : List ℕ). b ∷ w) (sym later ∙ so_far)
 
@@ -185,9 +185,9 @@ unfolding tokens_from
 as_it_is [] h outside = refl
 as_it_is [] h within = refl
 as_it_is [] h escaped = refl
-as_it_is (b ∷ bs) h outside = outside_is b bs (eqb b 34) refl h (as_it_is bs (may_change_behind b bs h))
-as_it_is (b ∷ bs) h within = within_is b bs (eqb b 34) (eqb b 92) refl refl (as_it_is bs (may_change_behind b bs h))
-as_it_is (b ∷ bs) h escaped = goes_on within b bs (as_it_is bs (may_change_behind b bs h) within)
+as_it_is (b ∷ bs) h outside = outside_is b bs (eqb b 34) refl h (as_it_is bs (may_change_after b bs h))
+as_it_is (b ∷ bs) h within = within_is b bs (eqb b 34) (eqb b 92) refl refl (as_it_is bs (may_change_after b bs h))
+as_it_is (b ∷ bs) h escaped = goes_on within b bs (as_it_is bs (may_change_after b bs h) within)
 
 pub text_stays : (text : List ℕ) → may_change text ≡ false → with_whole_numbers text ≡ text
 text_stays text h = as_it_is text h outside

@@ -6,7 +6,7 @@ use Rattle.std.proofs.Math.Seq.{drop-cons}
 use Rattle.std.specs.List.{onto_first, prefix_len}
 use Rattle.streetmap_json.specs.NumberText.{is_in_number, Side, outside, within, escaped, side_after, tokens_from}
 
--- where a loop over a string stands
+-- the state of a loop over a string: after a backslash, or not
 abbrev pub string_side : Bool → Side
 string_side true = escaped
 string_side false = within
@@ -53,7 +53,7 @@ string_ends rest i lt is so_far quote =
     let back : tokens_from within (drop i rest) ≡ (34 ∷ []) ∷ tokens_from outside (drop (i + 1) rest) = rw (drop-cons rest i 0 lt, is, add-one) refl in
     rw (take_more rest i 0 lt, is) (ap (onto_first quote) (sym so_far ∙ ap (onto_all (take i rest)) back ∙ onto_all-cons (take i rest) (34 ∷ []) (tokens_from outside (drop (i + 1) rest))))
 
--- a string that nothing closes is the text's last token
+-- a string without a closing quote is the last token of the text
 pub string_is_open : (rest : List ℕ) (i : ℕ) (side : Side) → length rest ≤ i
     → onto_all (take i rest) (tokens_from side (drop i rest)) ≡ tokens_from within rest
     → (quote : ℕ) → onto_first quote (tokens_from within rest) ≡ (quote ∷ take (length rest) rest) ∷ tokens_from outside (drop (length rest) rest)

@@ -16,7 +16,7 @@ use Rattle.streetmap_json.proofs.WrittenTextUtf8.{text_utf8}
 pub text_again : (d : Data) → is_exact d ≡ true → depth d ≤ max_depth → json_value (compact_text d) ≡ Some d
 text_again d h shallow = rw (text_kept d h, text_utf8 d h, text_reads d h shallow) refl
 
--- an answer on the changed bytes, where the bytes are such a text
+-- the result for the changed bytes, if the bytes are such a text
 pub reads_again : (answer : Result Value ParseFault) (bytes plain : List ℕ) → Reads answer (utf8_value plain) → plain ≡ with_whole_numbers bytes
     → (d : Data) → is_exact d ≡ true → depth d ≤ max_depth → bytes ≡ compact_text d → Reads answer (Some d)
 reads_again answer bytes plain given changed d h shallow is =

@@ -49,7 +49,7 @@ unfolding joined
 joined-member no_members k d ms = refl
 joined-member (member l e found) k d ms = ap (member l e) (joined-member found k d ms)
 
--- each name that was found stands before all of these
+-- each name that was found comes before all of these
 AllBefore : Members → Members → Type 0
 AllBefore no_members ms = Unit {0}
 AllBefore (member l e found) ms = (is_before l ms ≡ true) × AllBefore found ms
@@ -142,7 +142,7 @@ mutual
   members_depth-outline no_members = refl
   members_depth-outline (member k d ms) = ap₂ max (depth-outline d) (members_depth-outline ms)
 
--- what is read of the tokens of a value with none behind it
+-- what is read of the tokens of a value with none after it
 abbrev whole : Option (json.Json × List Token) → Option Data
 whole found = option_and_then of_json (option_and_then (λ p. json.if_last p.0 p.1) found)
 

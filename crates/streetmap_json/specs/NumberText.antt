@@ -46,8 +46,8 @@ abbrev pub is_in_number : ℕ → Bool
 is_in_number b = is_ascii_digit b || (b == ascii.plus) || (b == ascii.minus) || (b == ascii.dot)
     || (b == ascii.lower_e) || (b == ascii.upper_e)
 
--- where the text goes on after a byte: outside of strings, within a string, or within one after a
--- backslash
+-- the side on which the text continues after a byte: outside of strings, within a string, or
+-- within one after a backslash
 pub data Side : Type 0 where
   outside : Side
   within : Side
@@ -93,8 +93,8 @@ starts_digit (b ∷ bs) = is_ascii_digit b
 
 -- a zero after a point, or one after a minus with no digit after it
 abbrev pub is_changing_zero : ℕ → ℕ → Bool → Bool
-is_changing_zero before b digit_behind =
-    (b == ascii.zero) && (is_dot before || ((before == ascii.minus) && not digit_behind))
+is_changing_zero before b digit_after =
+    (b == ascii.zero) && (is_dot before || ((before == ascii.minus) && not digit_after))
 
 -- such a zero anywhere, in a string or not
 unfoldable pub may_change : List ℕ → Bool

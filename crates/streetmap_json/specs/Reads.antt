@@ -6,12 +6,12 @@ use Rattle.serde_json.specs.declared.value.Value.{Value}
 use Rattle.streetmap_json.specs.declared.fault.ParseFault.{ParseFault}
 use Rattle.streetmap_json.specs.declared.fault.ParseFault.TheVariants as errors
 
--- a fault other than memory is returned only if there is no value
+-- a fault other than memory is returned only if the bytes have no value
 abbrev pub Fails : {Y : Type 0} → ParseFault → Option Y → Type 0
 Fails errors.Memory value = Unit {0}
 Fails errors.NotJson value = value ≡ None
 
--- the result is the value if there is one, unless memory ran out
+-- the result is the value, if the bytes have one, unless memory ran out
 abbrev pub Reads : Result Value ParseFault → Option Data → Type 0
 Reads (Ok v) value = value ≡ Some (view v)
 Reads (Err e) value = Fails e value

@@ -18,7 +18,7 @@ use std::alloc::Global;
 const MAX_DEPTH: usize = 127;
 
 /// The value of the bytes of a JSON text (RFC 8259) in UTF-8. A number with a fraction of only
-/// zeros and no exponent, as `1200.0`, is read as the whole number, and `-0` as `0`.
+/// zeros and no exponent, such as `1200.0`, is read as the whole number, and `-0` as `0`.
 ///
 /// # Errors
 ///

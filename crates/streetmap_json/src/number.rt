@@ -8,14 +8,14 @@ ghost use Rattle.serde_json.specs.View.{number_view};
 use fast_float::Numeral;
 use serde_json::Number;
 
-/// The nearest float, if there is a finite one.
+/// The nearest float, if it is finite.
 fn float(is_negative: bool, numeral: &Numeral<'_>) -> Option<Number>
     ensures { option_map number_view result ≡ float_of is_negative numeral.now }
 {
     Number::from_f64(numeral.to_float::<f64>(is_negative))
 }
 
-/// The number below zero that these digits are, after a minus; `-0` is a float.
+/// The negative number of these digits after a minus; `-0` is a float.
 fn below_zero(numeral: &Numeral<'_>) -> Option<Number>
     ensures { option_map number_view result ≡ number_from true numeral.now }
 {

@@ -134,12 +134,12 @@ fn token_len(text: &[u8]) -> usize
     }
 }
 
-// Whether a byte is a zero after a point, or one after a minus with no digit after it. There is no
+// Whether a byte is a zero after a point, or one after a minus with no digit after it. It uses no
 // `&&`, and so no branch, so that a loop over it takes many bytes at a time.
-fn is_changing_zero(before: u8, byte: u8, digit_behind: bool) -> bool
-    ensures { result ≡ is_changing_zero before byte digit_behind }
+fn is_changing_zero(before: u8, byte: u8, digit_after: bool) -> bool
+    ensures { result ≡ is_changing_zero before byte digit_after }
 {
-    (byte == b'0') & ((before == b'.') | ((before == b'-') & !digit_behind))
+    (byte == b'0') & ((before == b'.') | ((before == b'-') & !digit_after))
 }
 
 // Whether the text ends with such a zero.
@@ -153,7 +153,7 @@ fn may_change_at_end(text: &[u8]) -> bool
 }
 
 // Whether the text has such a zero anywhere: a quick check, since without one no number text
-// changes. The loop does not stop when it finds one, so that it takes many bytes at a time.
+// changes. The loop does not end when it finds one, so that it takes many bytes at a time.
 fn may_change(text: &[u8]) -> bool
     ensures { result ≡ may_change text.now }
 {

@@ -45,7 +45,7 @@ again s (b ∷ bs) = again_by s b (accepted_of (act s b).state bs) (again (act s
 pub accepted_are_enough : AcceptedAreEnough
 accepted_are_enough = (enough, again)
 
--- a refusal leaves the state, and a refused edit no key
+-- a refusal leaves the state as it was, and a refused edit adds no key
 abbrev Left : State → BatchValue → Outcome → Type 0
 Left s b o = (why : Refusal) (place : Option ℕ) → o.reply ≡ Refused why place → (o.state ≡ s) × ((n : ℕ) → place ≡ Some n → get o.state.keys b.key ≡ None)
 

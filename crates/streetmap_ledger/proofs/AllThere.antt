@@ -30,7 +30,7 @@ none_by : (n : ℕ) (e : KeyedBatch) (rest : Option KeyedBatch) (later : Bool)
 none_by n e rest later more true is h = none_some e (sym h)
 none_by n e rest later more false is h = rw (other_eqb e.1.serial n is, more h) refl
 
--- where no batch is found with a serial, it is none of the serials
+-- if no batch is found with a serial, it is none of the serials
 none_any : (n : ℕ) (es : List KeyedBatch)
     → find (has_serial n) es ≡ None → list_any (eqb n) (serials_of es) ≡ false
 none_any n [] h = refl

@@ -44,7 +44,7 @@ module _ {K : Type 0} (model : Model K) where
   fault_too T U a b s Is As Damaged h = h
   fault_too T U a b s Is As Reopen h = h
 
-  -- what was found says more, and calls came before
+  -- a weaker fact about what was found, with earlier calls before
   reads_so : (T : Type 0) (a b c : K) (s : State) (Is As : T → Type 0) (r : Result T Fault) → ((x : T) → Is x → As x) → (model.fails b c → model.fails a c) → Reads model b c s Is r → Reads model a c s As r
   reads_so T a b c s Is As (Ok x) so before h = (so x h.0, h.1)
   reads_so T a b c s Is As (Err Memory) so before h = h
@@ -57,7 +57,7 @@ module _ {K : Type 0} {model : Model K} where
   pub no_read : {T : Type 0} (keeper : K) (x : T) {Is : State → T → Type 0} → model.cause keeper ≡ None → ((s : State) → model.represents keeper s → Is s x) → IsRead model keeper keeper (Ok x) Is
   no_read keeper x unshut is = record {
     call = record {
-      spared = model.spares_itself keeper;
+      preserved = model.preserves_itself keeper;
       began_clean = λ h. h;
       faults = (unshut, unshut);
       reopen = λ err. absurd cc;
@@ -69,7 +69,7 @@ module _ {K : Type 0} {model : Model K} where
   pub shut_read : {T : Type 0} (keeper : K) {Is : State → T → Type 0} → IsSome (model.cause keeper) → IsRead model keeper keeper (Err Reopen) Is
   shut_read keeper shut = record {
     call = record {
-      spared = model.spares_itself keeper;
+      preserved = model.preserves_itself keeper;
       began_clean = λ h. h;
       faults = (shut, refl);
       reopen = λ err o. (λ left. left, λ left. left);
@@ -82,7 +82,7 @@ module _ {K : Type 0} {model : Model K} where
   call_then {T} {U} {a} {b} {c} {x} {r} one two =
       let opens = one.faults in
       record {
-        spared = model.spares_then a b c one.spared two.spared;
+        preserved = model.preserves_then a b c one.preserved two.preserved;
         began_clean = λ h. one.began_clean (two.began_clean h);
         faults = subst (λ o. ShutsBy r o (model.cause c)) (opens.1 ∙ sym opens.0) two.faults;
         reopen = λ err. open_has r _ _ two.faults opens.1 err;
@@ -96,20 +96,20 @@ module _ {K : Type 0} {model : Model K} where
     call = call_then first.call second.call;
     reads = λ h s e.
         let found = first.reads (second.call.began_clean h) s e in
-        reads_so model U a b c s (As s) (Both s) r (λ y is. both s y e found.0 is) (model.fails_later a b c first.call.spared second.call.spared) (second.reads h s found.1);
+        reads_so model U a b c s (As s) (Both s) r (λ y is. both s y e found.0 is) (model.fails_later a b c first.call.preserved second.call.preserved) (second.reads h s found.1);
   }
 
-  -- what was found says more
+  -- a weaker fact about what was found
   pub read_so : {T : Type 0} {a b : K} {r : Result T Fault} {Is As : State → T → Type 0} → IsRead model a b r Is → ((s : State) (x : T) → model.represents a s → Is s x → As s x) → IsRead model a b r As
   read_so {T} {a} {b} {r} {Is} {As} read so = record {
     call = read.call;
     reads = λ h s e. reads_so model T a a b s (Is s) (As s) r (λ x is. so s x e is) (λ failed. failed) (read.reads h s e);
   }
 
-  -- an answer made of what was found
+  -- a result made from what was found
   call_made : {T U : Type 0} {a b : K} {x : T} {y : U} → IsCall model a b (Ok x) → IsCall model a b (Ok y)
   call_made call = record {
-    spared = call.spared;
+    preserved = call.preserved;
     began_clean = call.began_clean;
     faults = call.faults;
     reopen = λ err. absurd cc;
@@ -121,18 +121,18 @@ module _ {K : Type 0} {model : Model K} where
     reads = λ h s e. (so s e (read.reads h s e).0, (read.reads h s e).1);
   }
 
-  -- two reads that were both answered
+  -- two reads that both succeeded
   pub read_after : {T U V : Type 0} {a b c : K} {x : T} {y : U} {z : V} {Is : State → T → Type 0} {As : State → U → Type 0} {Both : State → V → Type 0} → IsRead model a b (Ok x) Is → IsRead model b c (Ok y) As
       → ((s : State) → model.represents a s → Is s x → As s y → Both s z)
       → IsRead model a c (Ok z) Both
   read_after {T} {U} {V} {a} {b} {c} {x} {y} {z} {Is} {As} {Both} first second both =
       read_made (read_then {Both = λ s u. Is s x × As s u} first second (λ s u e is also. (is, also))) (λ s e found. both s e found.0 found.1)
 
-  -- a read whose answer was lost as memory ran out
+  -- a read whose result was lost as memory ran out
   pub read_lost : {T U : Type 0} {a b : K} {x : T} {Is : State → T → Type 0} {As : State → U → Type 0} → IsRead model a b (Ok x) Is → IsRead model a b (Err Memory) As
   read_lost {T} {U} {a} {b} {x} {Is} {As} read = record {
     call = record {
-      spared = read.call.spared;
+      preserved = read.call.preserved;
       began_clean = read.call.began_clean;
       faults = read.call.faults;
       reopen = λ err. absurd cc;
@@ -143,7 +143,7 @@ module _ {K : Type 0} {model : Model K} where
   -- a fault that is passed on
   pub call_failed : {T U : Type 0} {a b : K} {fault : Fault} → IsCall {T = T} model a b (Err fault) → IsCall {T = U} model a b (Err fault)
   call_failed {T} {U} {a} {b} {fault} call = record {
-    spared = call.spared;
+    preserved = call.preserved;
     began_clean = call.began_clean;
     faults = shuts_too T U fault (model.cause a) (model.cause b) call.faults;
     reopen = λ err. call.reopen (same_err {T = U} {U = T} fault Reopen err);
@@ -155,11 +155,11 @@ module _ {K : Type 0} {model : Model K} where
     reads = λ h s e. fault_too model T U a b s (Is s) (As s) fault (read.reads h s e);
   }
 
-  -- an answer that needs nothing of what was to be found, as memory ran out for that
+  -- a result that does not need what a read failed to find as memory ran out
   pub read_kept : {T U : Type 0} {a b : K} {Is : State → T → Type 0} {y : U} {As : State → U → Type 0} → IsRead model a b (Err Memory) Is → ((s : State) → model.represents a s → As s y) → IsRead model a b (Ok y) As
   read_kept {T} {U} {a} {b} {Is} {y} {As} read so = record {
     call = record {
-      spared = read.call.spared;
+      preserved = read.call.preserved;
       began_clean = read.call.began_clean;
       faults = read.call.faults;
       reopen = λ err. absurd cc;

@@ -18,7 +18,7 @@ use Rattle.streetmap_query.specs.QueryValue.{QueryValue, DatetimeValue}
 use Rattle.streetmap_query.specs.Views.{query_value, datetime_value}
 use Rattle.streetmap_query.specs.declared.datetimes.Datetime.{Datetime}
 use Rattle.streetmap_query.specs.declared.queries.Query.{Query}
-use Rattle.streetmap_ledger.specs.Pages.{PageValue, passes, selects, selected, extent_overlaps, is_candidate, candidates, behind, last_id, saturated, page_of}
+use Rattle.streetmap_ledger.specs.Pages.{PageValue, passes, selects, selected, extent_overlaps, is_candidate, candidates, following, last_id, saturated, page_of}
 use Rattle.streetmap_ledger.specs.Folds.{IsFoldOf, HoldsCandidates}
 use Rattle.streetmap_ledger.specs.Laws.{SelectedAreCandidates}
 use Rattle.streetmap_ledger.specs.declared.fold.PageFold.{PageFold}
@@ -76,9 +76,9 @@ taken v fold fs f e whole held =
 -- a page of the selected features
 unfoldable paged : QueryValue → ℕ → List FeatureValue → PageValue
 paged q n shown = record {
-  features = take q.limit (behind q.after shown);
+  features = take q.limit (following q.after shown);
   matched = saturated (length shown);
-  next = if nat_lt q.limit (length (behind q.after shown)) then last_id (take q.limit (behind q.after shown)) else None;
+  next = if nat_lt q.limit (length (following q.after shown)) then last_id (take q.limit (following q.after shown)) else None;
   examined = saturated n;
 }
 
@@ -96,10 +96,10 @@ within_passes (Some v) e b is h w =
 -- the fold's own query is the one that it holds a page of
 pub left_out_of : (fold : PageFold) (q : QueryValue) (fs : List FeatureValue) (f : FeatureValue) → IsFeature f → is_candidate (query_value fold.query.now) f ≡ false → HoldsCandidates q fold fs → HoldsCandidates q fold (fs ++ f ∷ [])
 left_out_of fold q fs f made e held =
-    subst (λ v. HoldsCandidates v fold fs → HoldsCandidates v fold (fs ++ f ∷ [])) held.holds.asks (left_out fold.query.now fold fs f made e) held
+    subst (λ v. HoldsCandidates v fold fs → HoldsCandidates v fold (fs ++ f ∷ [])) held.holds.is_for (left_out fold.query.now fold fs f made e) held
 
 pub passed_on : (old new : PageFold) (q : QueryValue) (fs : List FeatureValue) (f : FeatureValue) → is_candidate (query_value old.query.now) f ≡ true → (IsFoldOf q old (candidates q fs) → IsFoldOf q new (candidates q fs ++ f ∷ [])) → HoldsCandidates q old fs → HoldsCandidates q new (fs ++ f ∷ [])
-passed_on old new q fs f e takes held = taken q new fs f (ap (λ v. is_candidate v f) (sym held.holds.asks) ∙ e) held.whole (takes held.holds)
+passed_on old new q fs f e takes held = taken q new fs f (ap (λ v. is_candidate v f) (sym held.holds.is_for) ∙ e) held.whole (takes held.holds)
 
 known : (b : Bool) → (b ≡ true) ⊎ (b ≡ false)
 known true = inl refl

@@ -7,7 +7,7 @@ use Rattle.std.proofs.lemmas.List.Elements.{filter-append, All-head, All-tail, A
 use Rattle.streetmap_geojson.specs.FeatureValue.{FeatureValue}
 use Rattle.streetmap_query.specs.QueryValue.{QueryValue}
 use Rattle.streetmap_query.specs.Views.{query_value}
-use Rattle.streetmap_ledger.specs.Pages.{selects, selected, comes_after, behind, rest_of, saturated}
+use Rattle.streetmap_ledger.specs.Pages.{selects, selected, comes_after, following, rest_of, saturated}
 use Rattle.streetmap_ledger.specs.Folds.{IsFoldOf, IsFull, AreHidden}
 use Rattle.streetmap_ledger.specs.declared.fold.PageFold.{PageFold}
 
@@ -23,7 +23,7 @@ filter_none {X} p (x ∷ xs) h =
     let P : X → Type 0 = λ y. p y ≡ false in
     rw (All-head P x xs h) (filter_none p xs (All-tail P x xs h))
 
--- which of hidden features are behind the id asked
+-- either all hidden features come after the id of the query, or none does
 filter_either : {X : Type 0} (p : X → Bool) (b : Bool) (xs : List X) → All (λ x. p x ≡ b) xs → filter p xs ≡ cond b xs []
 filter_either p true xs h = filter_all p xs h
 filter_either p false xs h = filter_none p xs h
@@ -36,7 +36,7 @@ more_selected q b fs gs h =
 more_rest : (q : QueryValue) (b : Bool) (fs gs : List FeatureValue) → AreHidden q b gs → rest_of q (fs ++ gs) ≡ rest_of q fs ++ cond b gs []
 more_rest q b fs gs h =
     let all = All-weaker (λ (f : FeatureValue). (selects q f ≡ true) × (comes_after q.after f ≡ b)) (λ f. comes_after q.after f ≡ b) (λ f k. k.1) gs h in
-    ap (behind q.after) (more_selected q b fs gs h)
+    ap (following q.after) (more_selected q b fs gs h)
     ∙ (filter-append (comes_after q.after) (selected q fs) gs ∙ ap (λ l. rest_of q fs ++ l) (filter_either (comes_after q.after) b gs all))
 
 shown_so_far : (b : Bool) (limit : ℕ) (rest gs : List FeatureValue) → (IsTrue b → limit ≤ length rest) → take limit rest ≡ take limit (rest ++ cond b gs [])
@@ -64,13 +64,13 @@ pub all_hidden : (q : QueryValue) (old new : PageFold) (b : Bool) (fs gs : List 
     → new.query ≡ old.query → new.features ≡ old.features → new.more ≡ (old.more || (b && nat_lt 0 (length gs))) → new.matched ≡ saturated (old.matched + length gs) → new.examined ≡ saturated (old.examined + length gs)
     → IsFoldOf q new (fs ++ gs)
 all_hidden q old new b fs gs held hidden full query features more matched examined =
-    let limit : old.query.now.limit ≡ q.limit = ap (λ (v : QueryValue). v.limit) held.asks in
+    let limit : old.query.now.limit ≡ q.limit = ap (λ (v : QueryValue). v.limit) held.is_for in
     let shown : length old.features.items ≤ length (rest_of q fs) =
     let e = ap length held.shown ∙ length-take q.limit (rest_of q fs) in omega (arith, e) in
     let room : IsTrue b → q.limit ≤ length (rest_of q fs) = λ t. let f = full t in omega (arith, limit, f, shown) in
     let rest = more_rest q b fs gs hidden in
     record {
-      asks = ap (λ x. query_value x.now) query ∙ held.asks;
+      is_for = ap (λ x. query_value x.now) query ∙ held.is_for;
       shown = ap (λ x. x.items) features ∙ (held.shown ∙ (shown_so_far b q.limit (rest_of q fs) gs room ∙ ap (take q.limit) (sym rest)));
       matched = matched ∙ (counted old.matched (selected q fs) gs held.matched ∙ ap (λ l. saturated (length l)) (sym (more_selected q b fs gs hidden)));
       more = more ∙ (more_follow b old.more q.limit (rest_of q fs) gs held.more room ∙ ap (λ l. nat_lt q.limit (length l)) (sym rest));

@@ -1,4 +1,4 @@
--- The batches behind a serial.
+-- The batches after a serial.
 use Rattle.std.proofs.Common.{◌≡◌, ℕ, zero, suc, ◌+◌, ◌-◌, ◌<◌, ◌≤◌, ◌^◌, min, List, [], ◌∷◌, ◌++◌}
 use Rattle.std.proofs.Common.{length, Option, None, Some, inl, inr, refl, sym, ap, ◌∙◌, arith}
 use Rattle.std.proofs.Common.{append-nil, append_assoc, length-append}
@@ -13,7 +13,7 @@ use Rattle.streetmap_ledger.specs.declared.kept_batch.KeptBatch.{KeptBatch}
 use Rattle.streetmap_ledger.proofs.Serials.{found_under}
 use Rattle.streetmap_ledger.proofs.AllThere.{kept_there}
 
--- the batch with the next serial, where there is one, as a number can tell that serial
+-- the batch with the next serial, if any; that serial is limited to 2 ^ 64 - 1
 pub next_found : (s : State) → IsState s → (after next room : ℕ)
     → next ≡ min (after + 1) (2 ^ 64 - 1)
     → (o : Option KeyedBatch) → batch_in s next ≡ o → AreNext s after room (option_to_list o)
@@ -76,7 +76,7 @@ at_most : {A : Type 0} (o : Option A) → length (option_to_list o) ≤ 1
 at_most None = omega arith
 at_most (Some x) = omega arith
 
--- as many as are asked for, or fewer
+-- no more batches than requested
 pub nexts_short : (s : State) (n k : ℕ) → length (batches_next s n k) ≤ k
 nexts_short s n zero = omega arith
 nexts_short s n (suc k) =
@@ -92,7 +92,7 @@ get_last [] x (suc n) h = absurd (omega (arith, h))
 get_last (y ∷ xs) x zero h = absurd (omega (arith, h))
 get_last (y ∷ xs) x (suc n) h = get_last xs x n (omega (arith, h))
 
--- the last of as many as were asked for
+-- the last of the requested batches, if all were found
 pub last_next : (s : State) (n j : ℕ) (b : KeyedBatch)
     → length (batches_next s n (suc j)) ≡ suc j
     → slice_get (batches_next s n (suc j)) j ≡ Some b → batch_in s (n + suc j) ≡ Some b

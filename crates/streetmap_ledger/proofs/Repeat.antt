@@ -1,4 +1,4 @@
--- A batch that comes again finds its key, and changes nothing.
+-- A repeated batch finds its key, and changes nothing.
 use Rattle.std.proofs.Common.{◌≡◌, ℕ, ◌+◌, List, [], ◌∷◌, ◌++◌, Bool, true, false, cond, Option, None, Some, Result, Ok, Err, IfOk, ok_or, refl, sym, ap, subst, ◌∙◌, nat_eq, nat_lt}
 use Rattle.std.specs.Ordering.{is_eq}
 use Rattle.std.specs.declared.cmp.Ordering.{Ordering}
@@ -21,7 +21,7 @@ pub either : {A : Type 0} (P : A → Type 0) (t : Bool) (x y : A) → P x → P 
 either P true x y p q = p
 either P false x y p q = q
 
--- an edit that is done leaves the keys
+-- an edit leaves the keys as they were
 abbrev pub KeysStay : State → Result State Refusal → Type 0
 KeysStay s r = IfOk r (λ t. t.keys ≡ s.keys)
 
@@ -50,7 +50,7 @@ edited_keys place s (e ∷ es) = then_keys s place (step s e) _ (step_keys s e) 
 none_some : {A : Type 0} {B : Type 0} (x : A) → None ≡ Some x → B
 none_some x e = cc
 
--- a key that is there stays there, whatever is accepted
+-- a key that is present stays present, whatever is accepted
 fresh_keeps : (s : State) (b : BatchValue) (k : Text) (kept : AcceptedBatch) (serial : ℕ) → get s.keys k ≡ Some kept → get s.keys b.key ≡ None → (r : Result State (ℕ × Refusal)) → IfOk r (λ t. t.keys ≡ s.keys) → get (fresh s b serial r).state.keys k ≡ Some kept
 fresh_keeps s b k kept serial h none (Err e) same = h
 fresh_keeps s b k kept serial h none (Ok t) same = get-insert nat_list_cmp_total t.keys b.key (kept_for b serial) k ∙ other (text_cmp k b.key) refl where
@@ -73,7 +73,7 @@ pub all_keep : (s : State) (bs : List BatchValue) (k : Text) (kept : AcceptedBat
 all_keep s [] k kept h = h
 all_keep s (b ∷ bs) k kept h = all_keep (act s b).state bs k kept (act_keeps s b k kept h)
 
--- the batch is there under its key, with its text
+-- the batch is present under its key, with its text
 abbrev pub IsThere : State → BatchValue → Type 0
 IsThere s b = (kept : AcceptedBatch) × (get s.keys b.key ≡ Some kept) × (pointwise nat_eq kept.text (batch_text b) ≡ true)
 
@@ -90,7 +90,7 @@ by_key_there : (s : State) (b : BatchValue) (o : Option AcceptedBatch) → get s
 by_key_there s b (Some old) e h = chosen s b (pointwise nat_eq old.text (batch_text b)) _ _ (λ same ack. (old, e, same)) (λ no. absurd no) h
 by_key_there s b None e h = chosen s b (nat_lt (len s.keys) most_batches) _ _ (λ less ack. fresh_there s b _ (edited 1 s b.edits) ack) (λ no. absurd no) h
 
--- a batch that is there changes nothing
+-- a batch that is present changes nothing
 pub again : (s : State) (b : BatchValue) → IsThere s b → (act s b).state ≡ s
 again s b there =
     ap (λ o. (by_key s b o).state) there.1 ∙ either (λ (o : Outcome). o.state ≡ s) (pointwise nat_eq there.0.text (batch_text b)) _ _ refl refl
@@ -109,7 +109,7 @@ repeat_once s before between later b ack =
     ∙ ap (λ v. after_all v later) (again (after_all u between) b later_there)
     ∙ sym (after_append s before (b ∷ (between ++ later)) ∙ after_append u between later)
 
--- an acknowledged batch is there
+-- an acknowledged batch is present
 pub acknowledged_there : (s : State) (b : BatchValue) → IsAcknowledged (act s b).reply → IsThere (act s b).state b
 acknowledged_there s b ack = by_key_there s b (get s.keys b.key) refl ack
 
@@ -117,6 +117,6 @@ chosen_ack : (t : Bool) (x y : Outcome) → t ≡ true → IsAcknowledged x.repl
 chosen_ack true x y e h = h
 chosen_ack false x y e h = cc
 
--- and is acknowledged wherever it is there
+-- and a batch that is present is acknowledged
 pub there_again : (s : State) (b : BatchValue) → IsThere s b → IsAcknowledged (act s b).reply
 there_again s b there = subst (λ (o : Option AcceptedBatch). IsAcknowledged (by_key s b o).reply) (sym there.1) (chosen_ack (pointwise nat_eq there.0.text (batch_text b)) _ _ there.2 tt)

@@ -81,7 +81,7 @@ under n (e ∷ es) b sorted h =
 abbrev FindsIn : ℕ → List KeyedBatch → Type 0
 FindsIn n es = (b : KeyedBatch) × (find (has_serial n) es ≡ Some b)
 
--- where a batch is kept under a key, one is found with its serial
+-- if a batch is kept under a key, one is found with its serial
 found_by : (key : Text) (k : AcceptedBatch) (e : KeyedBatch) (es : List KeyedBatch)
     → (find_key text_cmp key es ≡ Some k → FindsIn k.serial es)
     → (same : Bool) → cond same (Some e.1) (find_key text_cmp key es) ≡ Some k

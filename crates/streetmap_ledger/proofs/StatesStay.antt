@@ -19,7 +19,7 @@ use Rattle.streetmap_batch.specs.Text.{Text, text_cmp}
 use Rattle.streetmap_batch.specs.BatchValue as edit
 use Rattle.streetmap_batch.specs.BatchValue.{EditValue, BatchValue}
 use Rattle.streetmap_batch.specs.BatchFacts.{IsTimePropertyIf, IsTitle, IsSoundEdit, IsSoundBatch}
-use Rattle.streetmap_batch.specs.BatchReading.{most_edits}
+use Rattle.streetmap_batch.specs.ParsedBatches.{most_edits}
 use Rattle.streetmap_batch.specs.Names.{is_key, is_collection_id}
 use Rattle.streetmap_batch.specs.BatchText.{batch_text}
 use Rattle.streetmap_ledger.specs.State.{State, Collection, AcceptedBatch, opening_state, step, ◌>>=◌, absent, or_bad_time, timed}
@@ -35,7 +35,7 @@ none_some : {A : Type 0} {B : Type 0} (x : A) → None ≡ Some x → B
 none_some x e = cc
 
 module _ {X : Type 0} where
-  -- what a map has after an insertion was put in, or was there
+  -- what a map has after an insertion was put in, or was there before
   pub put_or_there : (m : FinMap text_cmp X) (k : Text) (v : X) (q : Text) (w : X) → get (insert m k v) q ≡ Some w → ((q ≡ k) × (w ≡ v)) ⊎ (get m q ≡ Some w)
   put_or_there m k v q w e = by (text_cmp q k) refl (sym (get-insert nat_list_cmp_total m k v q) ∙ e) where
     by : (r : Ordering) → text_cmp q k ≡ r → cond (is_eq r) (Some v) (get m q) ≡ Some w → ((q ≡ k) × (w ≡ v)) ⊎ (get m q ≡ Some w)
@@ -43,7 +43,7 @@ module _ {X : Type 0} where
     by Greater is h = inr h
     by Equal is h = let same : v ≡ w = cc in inl (one_text q k is, sym same)
 
-  -- what a map has after a removal was there
+  -- what a map has after a removal was there before
   pub was_there : (m : FinMap text_cmp X) (k q : Text) (w : X) → get (remove m k) q ≡ Some w → get m q ≡ Some w
   was_there m k q w e = by (is_eq (text_cmp q k)) (sym (get-remove nat_list_cmp_total m k q) ∙ e) where
     by : (b : Bool) → cond b None (get m q) ≡ Some w → get m q ≡ Some w
@@ -61,7 +61,7 @@ if_done : {A : Type 0} (r : Result A Refusal) (next : A → Result State Refusal
 if_done (Ok x) next keeps = keeps x refl
 if_done (Err why) next keeps = tt
 
--- a collection that is put in is as the rules ask, and so are the others
+-- a collection that is put in follows the rules, and so do the others
 put_collection : (s : State) (name : Text) (c : Collection) → AllMade s → IsCollection name c → AllMade (record s { collections = insert s.collections name c })
 put_collection s name c all here q d e = elim (put_or_there s.collections name c q d e) [
   | inl p ↦ subst (λ n. IsCollection n d) (sym p.0) (subst (λ x. IsCollection name x) (sym p.1) here)
@@ -88,7 +88,7 @@ found : {A : Type 0} (o : Option A) (why : Refusal) (x : A) → ok_or o why ≡ 
 found None why x e = cc
 found (Some y) why x e = let same : y ≡ x = cc in ap (λ z. Some z) same
 
--- a feature with its time is as its collection's property tells
+-- a timed feature has the time that its collection's property gives
 in_time : (property : Option Text) (f g : FeatureValue) → IsFeature f → timed property f ≡ Ok g → IsPlaced property g.id g
 in_time property f g whole e = by (time_of property f.properties) refl e where
   by : (q : Result (Option IntervalValue) TimeFault) → time_of property f.properties ≡ q → or_bad_time (with_time f q) ≡ Ok g → IsPlaced property g.id g
@@ -100,12 +100,12 @@ in_time property f g whole e = by (time_of property f.properties) refl e where
 step_made : (s : State) (e : EditValue) → IsSoundEdit e → AllMade s → KeepsMade (step s e)
 step_made s (edit.«open» name title time) h all = if_done (absent (get s.collections name) CollectionExists) _ (λ new is.
     put_collection s name _ all (record { named = h.0; titled = h.1; timed = h.2; holds = none_placed title time }))
-step_made s (edit.insert name f) h all = if_done (ok_or (get s.collections name) NoCollection) _ (λ c there. if_done (absent (get c.features f.id) FeatureExists) _ (λ new is. if_done (timed c.time f) _ (λ g told.
+step_made s (edit.insert name f) h all = if_done (ok_or (get s.collections name) NoCollection) _ (λ c there. if_done (absent (get c.features f.id) FeatureExists) _ (λ new is. if_done (timed c.time f) _ (λ g reported.
     let old = all name c (found _ NoCollection c there) in
-    put_features s name c _ all old (put_feature c g old.holds (in_time c.time f g h.1 told)))))
-step_made s (edit.replace name f) h all = if_done (ok_or (get s.collections name) NoCollection) _ (λ c there. if_done (ok_or (get c.features f.id) NoFeature) _ (λ was is. if_done (timed c.time f) _ (λ g told.
+    put_features s name c _ all old (put_feature c g old.holds (in_time c.time f g h.1 reported)))))
+step_made s (edit.replace name f) h all = if_done (ok_or (get s.collections name) NoCollection) _ (λ c there. if_done (ok_or (get c.features f.id) NoFeature) _ (λ was is. if_done (timed c.time f) _ (λ g reported.
     let old = all name c (found _ NoCollection c there) in
-    put_features s name c _ all old (put_feature c g old.holds (in_time c.time f g h.1 told)))))
+    put_features s name c _ all old (put_feature c g old.holds (in_time c.time f g h.1 reported)))))
 step_made s (edit.delete name id) h all = if_done (ok_or (get s.collections name) NoCollection) _ (λ c there. if_done (ok_or (get c.features id) NoFeature) _ (λ was is.
     let old = all name c (found _ NoCollection c there) in
     put_features s name c _ all old (cut_feature c id old.holds)))

@@ -9,7 +9,7 @@ use Rattle.std.specs.FinMap.Entries.{below_all}
 use Rattle.streetmap_geojson.specs.FeatureValue.{FeatureValue}
 use Rattle.streetmap_batch.specs.Text.{Text, text_cmp}
 
--- texts that compare alike are one
+-- texts that compare as equal are equal
 pub one_text : IsAntisymmetric text_cmp
 one_text = slice_cmp-IsAntisymmetric nat_cmp-IsAntisymmetric
 

@@ -9,7 +9,7 @@ use Rattle.streetmap_ledger.specs.declared.fold.PageFold.{PageFold}
 
 -- a fold of these features: their page, as far as it is known
 pub record IsFoldOf (q : QueryValue) (fold : PageFold) (fs : List FeatureValue) : Type 0 where
-  pub asks : query_value fold.query.now ≡ q
+  pub is_for : query_value fold.query.now ≡ q
   pub shown : fold.features.items ≡ take q.limit (rest_of q fs)
   pub matched : fold.matched ≡ saturated (length (selected q fs))
   pub more : fold.more ≡ nat_lt q.limit (length (rest_of q fs))
@@ -25,6 +25,6 @@ pub record HoldsCandidates (q : QueryValue) (fold : PageFold) (fs : List Feature
 abbrev pub IsFull : PageFold → Type 0
 IsFull fold = fold.query.now.limit ≤ length fold.features.items
 
--- features that are selected, and either all come after the query's id (`behind`) or none does
+-- features that are selected, and either all come after the query's id (`following`) or none does
 abbrev pub AreHidden : QueryValue → Bool → List FeatureValue → Type 0
-AreHidden q behind fs = All (λ f. (selects q f ≡ true) × (comes_after q.after f ≡ behind)) fs
+AreHidden q following fs = All (λ f. (selects q f ≡ true) × (comes_after q.after f ≡ following)) fs

@@ -49,7 +49,7 @@ LeavesEither left s t = (o : Option State) → left o → (o ≡ s) ⊎ (o ≡ t
 abbrev pub LeavesSame : (before after : Option State → Type 0) → Type 0
 LeavesSame before after = (o : Option State) → (after o → before o) × (before o → after o)
 
--- a read, if the keeper represented this state: what was read is so in the state, which stays; or
+-- a read, if the keeper represented this state: what was read holds in the state, which stays; or
 -- memory ran out, and the state stays; or the store failed, and a crash leaves the state
 abbrev pub Reads : {K T : Type 0} → Model K → (old new : K) → State → (T → Type 0)
     → Result T Fault → Type 0
@@ -112,16 +112,16 @@ IsBatchOf serial s batch = option_map keyed_batch batch ≡ batch_in s serial
 abbrev pub AreNextOf : ℕ → ℕ → State → Vec KeptBatch Global → Type 0
 AreNextOf after room s found = AreNext s after room (keyed_batches found.items)
 
--- each call, whatever it asks for: it spares what else the store has and takes none that failed for
--- clean; its fault says what shut the keeper; and after `Reopen` a crash leaves what it left before
+-- any call: it keeps what else the store has; a store that is clean after it was clean before it;
+-- its fault says what shut the keeper; and after `Reopen` a crash leaves what it left before
 pub record IsCall {K T : Type 0} (model : Model K) (old new : K) (result : Result T Fault)
     : Type 0 where
-  pub spared : model.spares old new
+  pub preserved : model.preserves old new
   pub began_clean : model.is_clean new → model.is_clean old
   pub faults : ShutsBy result (model.cause old) (model.cause new)
   pub reopen : IsErrOf result Reopen → LeavesSame (model.may_leave old) (model.may_leave new)
 
--- a call that reads: if the store is clean as it ends, what was found is so
+-- a call that reads: if the store is clean as it ends, what was found holds
 pub record IsRead {K T : Type 0} (model : Model K) (old new : K) (result : Result T Fault)
     (Is : State → T → Type 0) : Type 0 where
   pub call : IsCall model old new result
@@ -161,7 +161,7 @@ RunShuts (Some Reopen) old new = IsSome old × (new ≡ old)
 -- call holds of them together
 pub record AreCalls {K : Type 0} (model : Model K) (old new : K) (fault : Option Fault) : Type 0
   where
-    pub spared : model.spares old new
+    pub preserved : model.preserves old new
     pub began_clean : model.is_clean new → model.is_clean old
     pub faults : RunShuts fault (model.cause old) (model.cause new)
     pub reopen : fault ≡ Some Reopen → LeavesSame (model.may_leave old) (model.may_leave new)

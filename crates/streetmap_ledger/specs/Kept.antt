@@ -28,8 +28,8 @@ batches_next s n zero = []
 batches_next s n (suc k) = batches_next s n k ++ option_to_list (batch_in s (n + suc k))
 
 -- all batches after a serial, in order of their serials
-abbrev pub batches_behind : State → ℕ → List KeyedBatch
-batches_behind s n = batches_next s n (batch_count s - n)
+abbrev pub batches_after : State → ℕ → List KeyedBatch
+batches_after s n = batches_next s n (batch_count s - n)
 
 -- how many bytes their texts have
 abbrev pub text_bytes : List KeyedBatch → ℕ
@@ -37,7 +37,7 @@ text_bytes [] = 0
 text_bytes (b ∷ bs) = length b.1.text + text_bytes bs
 
 -- they are the batches with the next serials after one: at least one, if one is kept; and without
--- the last of them their texts have no more bytes than there is room for
+-- the last of them their texts fit into `room` bytes
 pub record AreNext (s : State) (after room : ℕ) (found : List KeyedBatch) : Type 0 where
   pub are : found ≡ batches_next s after (length found)
   pub some : found ≡ [] → batch_count s ≤ after

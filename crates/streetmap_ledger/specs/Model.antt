@@ -17,12 +17,12 @@ pub record Model (K : Type 0) : Type 1 where
   pub cause : K → Option Cause
   -- nobody else wrote to the store, and it returned what was written
   pub is_clean : K → Type 0
-  -- from the first keeper a call of `apply` with this batch led to this result and the second. Over
-  -- any keeper nothing but the call gives it, so a caller can report no other result
+  -- a call of `apply` with this batch led from the first keeper to this result and the second. In
+  -- code over any keeper only the call proves it, so a caller can report no other result
   pub applies : K → BatchValue → Result Reply Fault → K → Type 0
-  -- from the first to the second its store kept what is not the state's. Each call does; over any
-  -- keeper nothing but the calls gives it
-  pub spares : K → K → Type 0
+  -- from the first to the second its store kept what is not the state's, as in each call. In code
+  -- over any keeper only the calls prove it
+  pub preserves : K → K → Type 0
   -- its store failed between the first and the second, if `Device` shut the second
   pub fails : K → K → Type 0
   -- it represents one state at most
@@ -37,13 +37,14 @@ pub record Model (K : Type 0) : Type 1 where
   -- the states that it represents are well-formed
   pub well_formed : (k : K) (s : State) → represents k s → IsState s
   -- if no call is made all is kept
-  pub spares_itself : (k : K) → spares k k
+  pub preserves_itself : (k : K) → preserves k k
   -- what two runs of calls keep, the two together keep
-  pub spares_then : (first mid last : K) → spares first mid → spares mid last → spares first last
+  pub preserves_then : (first mid last : K) → preserves first mid → preserves mid last
+      → preserves first last
   -- if the store failed in the second of two runs of calls, it failed in the two together
-  pub fails_later : (first mid last : K) → spares first mid → spares mid last
+  pub fails_later : (first mid last : K) → preserves first mid → preserves mid last
       → fails mid last → fails first last
   -- if the store failed in the first of two runs of calls and shut the keeper, it failed in the two
   -- together
   pub fails_still : (first mid last : K) → fails first mid → IsSome (cause mid)
-      → spares mid last → fails first last
+      → preserves mid last → fails first last

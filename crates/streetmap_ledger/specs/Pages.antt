@@ -26,16 +26,16 @@ pub record PageValue : Type 0 where
 -- nothing, and a feature that lacks what the query has is excluded
 abbrev pub passes : {A B : Type 0} → (A → B → Bool) → Option A → Option B → Bool
 passes test has None = true
-passes test None (Some asked) = false
-passes test (Some x) (Some asked) = test x asked
+passes test None (Some requested) = false
+passes test (Some x) (Some requested) = test x requested
 
 -- the interval of a `datetime`
-abbrev pub interval_asked : QueryValue → Option IntervalValue
-interval_asked q = option_map (λ (d : DatetimeValue). d.interval) q.datetime
+abbrev pub requested_interval : QueryValue → Option IntervalValue
+requested_interval q = option_map (λ (d : DatetimeValue). d.interval) q.datetime
 
 -- whether the query selects the feature: its geometry meets the box, and its time the interval
 abbrev pub selects : QueryValue → FeatureValue → Bool
-selects q f = passes geometry_meets f.geometry q.bbox && passes meets f.time (interval_asked q)
+selects q f = passes geometry_meets f.geometry q.bbox && passes meets f.time (requested_interval q)
 
 -- the selected features, in order
 abbrev pub selected : QueryValue → List FeatureValue → List FeatureValue
@@ -49,7 +49,7 @@ extent_overlaps g b = overlaps (extent_of g) b
 -- interval
 abbrev pub is_candidate : QueryValue → FeatureValue → Bool
 is_candidate q f = passes extent_overlaps f.geometry q.bbox
-    && passes seconds_overlap f.time (interval_asked q)
+    && passes seconds_overlap f.time (requested_interval q)
 
 -- the features that a page examines
 abbrev pub candidates : QueryValue → List FeatureValue → List FeatureValue
@@ -61,12 +61,12 @@ comes_after None f = true
 comes_after (Some id) f = is_gt (text_cmp f.id id)
 
 -- the features whose ids come after this one
-abbrev pub behind : Option Text → List FeatureValue → List FeatureValue
-behind after fs = filter (comes_after after) fs
+abbrev pub following : Option Text → List FeatureValue → List FeatureValue
+following after fs = filter (comes_after after) fs
 
 -- the selected features after `after`
 abbrev pub rest_of : QueryValue → List FeatureValue → List FeatureValue
-rest_of q fs = behind q.after (selected q fs)
+rest_of q fs = following q.after (selected q fs)
 
 -- the last one's id
 abbrev pub last_id : List FeatureValue → Option Text

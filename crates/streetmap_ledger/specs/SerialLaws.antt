@@ -15,8 +15,8 @@ KeptBySerial =
     × ((s : State) (n : ℕ) (b : KeyedBatch) → batch_in s n ≡ Some b →
     (get s.keys b.0 ≡ Some b.1) × (b.1.serial ≡ n))
 
--- each serial from 1 to the number of batches has a batch, so that there are as many next ones as
--- their serials reach
+-- each serial from 1 to the number of batches has a batch, so that k batches follow the serial n if
+-- n + k is at most that number
 abbrev pub NoSerialIsLeftOut : Type 0
 NoSerialIsLeftOut =
     (s : State) → IsState s →

@@ -42,12 +42,12 @@ abbrev pub opening_state : State
 opening_state = record { collections = empty; keys = empty }
 
 infixl 10 ◌>>=◌
--- goes on with what was found, or is refused as before
+-- continues with what was found, or is refused as before
 abbrev pub ◌>>=◌ : {A B E : Type 0} → Result A E → (A → Result B E) → Result B E
 Ok x >>= next = next x
 Err why >>= next = Err why
 
--- refused if there is one already
+-- refused if it exists already
 abbrev pub absent : {A : Type 0} → Option A → Refusal → Result (Unit {0}) Refusal
 absent None why = Ok tt
 absent (Some x) why = Err why

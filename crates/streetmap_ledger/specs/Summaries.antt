@@ -24,7 +24,7 @@ feature_vertices f = option_map_or vertices f.geometry []
 abbrev pub all_vertices : List FeatureValue → List PositionValue
 all_vertices fs = flat_map feature_vertices fs
 
--- the extent of positions: none if there are none
+-- the extent of positions: none without positions
 abbrev pub extent_if : List PositionValue → Option BoxValue
 extent_if [] = None
 extent_if (p ∷ ps) = Some (positions_extent (p ∷ ps))

@@ -10,8 +10,8 @@ use Rattle.streetmap_ledger.specs.WellFormed.{IsState}
 use Rattle.streetmap_ledger.specs.Pages.{PageValue, selected, page_over, saturated}
 
 -- the query from after this id on
-abbrev pub from_behind : QueryValue → Option Text → QueryValue
-from_behind q after = record {
+abbrev pub from_after : QueryValue → Option Text → QueryValue
+from_after q after = record {
   bbox = q.bbox;
   datetime = q.datetime;
   limit = q.limit;
@@ -20,17 +20,17 @@ from_behind q after = record {
 }
 
 -- its page of features in order of ids
-abbrev pub page_behind : QueryValue → List FeatureValue → Option Text → PageValue
-page_behind q fs after = page_over (from_behind q after) fs
+abbrev pub page_after : QueryValue → List FeatureValue → Option Text → PageValue
+page_after q fs after = page_over (from_after q after) fs
 
 -- the pages from after an id on: each is followed from its `next`, and the last has none
 pub data IsWalk (q : QueryValue) (fs : List FeatureValue) : Option Text → List PageValue
     → Type 0 where
-  ends : (after : Option Text) → (page_behind q fs after).next ≡ None
-      → IsWalk q fs after (page_behind q fs after ∷ [])
+  ends : (after : Option Text) → (page_after q fs after).next ≡ None
+      → IsWalk q fs after (page_after q fs after ∷ [])
   goes_on : (after : Option Text) (id : Text) (pages : List PageValue)
-      → (page_behind q fs after).next ≡ Some id → IsWalk q fs (Some id) pages
-      → IsWalk q fs after (page_behind q fs after ∷ pages)
+      → (page_after q fs after).next ≡ Some id → IsWalk q fs (Some id) pages
+      → IsWalk q fs after (page_after q fs after ∷ pages)
 
 -- the features that pages show, one page after the other
 abbrev pub shown : List PageValue → List FeatureValue

@@ -6,7 +6,7 @@ use Rattle.streetmap_geojson.specs.FeatureInvariant.{IsFeature}
 use Rattle.streetmap_geojson.specs.Times.{time_of}
 use Rattle.streetmap_batch.specs.Text.{Text}
 use Rattle.streetmap_batch.specs.BatchFacts.{IsTitle, IsTimePropertyIf, IsSoundBatch}
-use Rattle.streetmap_batch.specs.BatchReading.{most_edits}
+use Rattle.streetmap_batch.specs.ParsedBatches.{most_edits}
 use Rattle.streetmap_batch.specs.BatchValue.{BatchValue}
 use Rattle.streetmap_batch.specs.Names.{is_key, is_collection_id}
 use Rattle.streetmap_ledger.specs.State.{State, Collection, AcceptedBatch, opening_state}

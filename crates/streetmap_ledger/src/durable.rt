@@ -21,7 +21,7 @@ pub trait Durable: Keeper {
     /// After calls that began at a state, if the store is clean, each image that a crash may leave
     /// holds a state, and one of those that a crash may leave.
     ghost images_hold_states: { (first last : Self) (s : State) (it : image) →
-        Self.model.represents first s → Self.model.spares first last →
+        Self.model.represents first s → Self.model.preserves first last →
         Self.model.is_clean last → leaves last it →
         (t : State) × holds it t × Self.model.may_leave last (Some t) };
 }

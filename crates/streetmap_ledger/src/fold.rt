@@ -86,7 +86,7 @@ impl<'a> PageFold<'a> {
         ensures unchanged { result ≡ false → self.new ≡ self.old }
         ensures selected { result ≡ false
             → selects_of (query_value self.old.query.now) feature.now ≡ true }
-        ensures behind { result ≡ false
+        ensures following { result ≡ false
             → comes_after_of (query_value self.old.query.now).after feature.now ≡ true }
         ensures room { result ≡ false
             → length self.old.features.items < self.old.query.now.limit }
@@ -95,11 +95,11 @@ impl<'a> PageFold<'a> {
             self.skip_unselected();
             return true;
         }
-        let behind = comes_after(self.query, feature);
-        if behind && !self.is_full() {
+        let following = comes_after(self.query, feature);
+        if following && !self.is_full() {
             return false;
         }
-        self.count_hidden(behind);
+        self.count_hidden(following);
         true
     }
 
@@ -125,13 +125,13 @@ impl<'a> PageFold<'a> {
     }
 
     /// Counts the next feature, which is selected and not shown: either it comes after the query's
-    /// id (`behind`), and the page is full, or it does not come after that id.
-    pub fn count_hidden(&mut self, behind: bool)
+    /// id (`following`), and the page is full, or it does not come after that id.
+    pub fn count_hidden(&mut self, following: bool)
         ensures { (q : QueryValue) (fs : List FeatureValue) (f : FeatureValue)
-            → IsFoldOf q self.old fs → selects_of q f ≡ true → comes_after_of q.after f ≡ behind
-            → (IsTrue behind → IsFull self.old) → IsFoldOf q self.new (fs ++ f ∷ []) }
+            → IsFoldOf q self.old fs → selects_of q f ≡ true → comes_after_of q.after f ≡ following
+            → (IsTrue following → IsFull self.old) → IsFoldOf q self.new (fs ++ f ∷ []) }
     {
-        if behind {
+        if following {
             self.more = true;
         }
         self.count(true);
@@ -150,13 +150,13 @@ impl<'a> PageFold<'a> {
     }
 
     /// Counts the next `count` features, which are selected and not shown: either all come after
-    /// the query's id (`behind`), and the page is full, or none comes after that id.
-    pub fn count_all_hidden(&mut self, count: u64, behind: bool)
+    /// the query's id (`following`), and the page is full, or none comes after that id.
+    pub fn count_all_hidden(&mut self, count: u64, following: bool)
         ensures { (q : QueryValue) (fs gs : List FeatureValue) → IsFoldOf q self.old fs →
-            AreHidden q behind gs → length gs ≡ count → (IsTrue behind → IsFull self.old) →
+            AreHidden q following gs → length gs ≡ count → (IsTrue following → IsFull self.old) →
             IsFoldOf q self.new (fs ++ gs) }
     {
-        self.more = more_after(self.more, behind, count);
+        self.more = more_after(self.more, following, count);
         self.add(count);
     }
 
@@ -184,8 +184,8 @@ impl<'a> PageFold<'a> {
                 true
             }
             Some(true) => match comes_after_unread(self.query, id) {
-                Some(behind) if !behind || self.is_full() => {
-                    self.count_hidden(behind);
+                Some(following) if !following || self.is_full() => {
+                    self.count_hidden(following);
                     true
                 }
                 _ => false,
@@ -235,10 +235,10 @@ impl<'a> PageFold<'a> {
 }
 
 /// Whether more features follow what a page shows, once `count` more hidden ones were met.
-fn more_after(more: bool, behind: bool, count: u64) -> bool
-    ensures { result ≡ (more || (behind && nat_lt 0 count)) }
+fn more_after(more: bool, following: bool, count: u64) -> bool
+    ensures { result ≡ (more || (following && nat_lt 0 count)) }
 {
-    more || (behind && count > 0)
+    more || (following && count > 0)
 }
 
 /// The id of the last feature.

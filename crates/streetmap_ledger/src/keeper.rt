@@ -17,14 +17,14 @@ use streetmap_query::Query;
 /// Represents a state, answers reads of it, and acts on it by batches.
 ///
 /// An implementer gives its model: which states it represents, what a crash may leave, what shut
-/// it, whether its store is clean, and the laws that it owes. If its store was clean as a call
-/// ends, the call answered what the definitions give for the state before, and the keeper
-/// represents the state that they give after. `Memory` changes nothing, and the call may be made
-/// again. `Device` and `Damaged` shut the keeper, and a shut keeper answers `Reopen` and changes
-/// nothing. Of a keeper that represents a state a crash leaves that state alone. After `Device` a
-/// crash leaves the state before, or of a batch the state after it. What else its store has each
-/// call spares, and `Device` comes only if the store failed in that call; the model says what both
-/// mean for its store.
+/// it, whether its store is clean, and the laws that it must satisfy. If its store is clean when a
+/// call ends, the call returned what the definitions give for the state before, and the keeper
+/// represents the state that they give after it. `Memory` changes nothing, and the call may be made
+/// again. `Device` and `Damaged` shut the keeper; a shut keeper answers `Reopen`, changing nothing.
+/// A crash of a keeper that represents a state leaves exactly that state. After `Device` a crash
+/// leaves the state before the call or, for a batch, the state after it. Each call keeps everything
+/// else in its store, and returns `Device` only if the store failed in that call; the model says
+/// what both mean for its store.
 pub trait Keeper {
     /// Which states it represents, and what it owes.
     ghost model: { Model Self };
@@ -37,15 +37,15 @@ pub trait Keeper {
     fn apply(&mut self, batch: &Batch) -> Result<Reply, Fault>
         ensures { IsWrite model self.old self.new (batch_value batch.now) result };
 
-    /// A page of a collection; none if there is no such collection.
+    /// A page of a collection; none if the collection does not exist.
     fn page(&mut self, collection: &str, query: &Query) -> Result<Option<Page>, Fault>
         ensures { IsRead model self.old self.new result (IsPageOf collection.now query.now) };
 
-    /// A feature; none if there is no such collection, or no such feature in it.
+    /// A feature; none if the collection does not exist, or has no such feature.
     fn feature(&mut self, collection: &str, id: &str) -> Result<Option<Feature>, Fault>
         ensures { IsRead model self.old self.new result (IsFeatureOf collection.now id.now) };
 
-    /// The summary of a collection; none if there is no such collection.
+    /// The summary of a collection; none if the collection does not exist.
     fn collection(&mut self, id: &str) -> Result<Option<Summary>, Fault>
         ensures { IsRead model self.old self.new result (IsSummaryOf id.now) };
 
@@ -54,13 +54,13 @@ pub trait Keeper {
         ensures { IsRead model self.old self.new result AreSummaries };
 }
 
-/// Applies the batches in order, up to the first fault. If there is no memory for the replies, no
-/// call is made.
+/// Applies the batches in order, up to the first fault. If memory for the replies cannot be
+/// allocated, no call is made.
 pub fn run<K: Keeper>(alloc: Global, keeper: &mut K, batches: &[Batch]) -> Run
     ensures count { length result.replies.items ≤ length batches.now }
     ensures all { IsNone result.fault → length result.replies.items ≡ length batches.now }
     ensures some { IsSome result.fault → length result.replies.items < length batches.now }
-    ensures spared { K.model.spares keeper.old keeper.new }
+    ensures preserved { K.model.preserves keeper.old keeper.new }
     ensures began_clean { K.model.is_clean keeper.new → K.model.is_clean keeper.old }
     ensures faults { RunShuts result.fault (K.model.cause keeper.old) (K.model.cause keeper.new) }
     ensures replies { K.model.is_clean keeper.new → (s : State) →

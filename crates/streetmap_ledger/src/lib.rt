@@ -8,20 +8,20 @@
 //! `Durable` keeper has a store that can be opened again after a crash.
 //!
 //! A keeper that represents a state keeps a batch for each accepted key: its text, how many edits
-//! of each kind it had, and its serial. `KeepsBatches` gives how many there are, the one with a
-//! serial, and those after one, as the state has them (`specs/Kept`); nothing changes by that. From
-//! these batches, in order of their serials, the state can be made again.
+//! of each kind it had, and its serial. `KeepsBatches` returns the number of these batches, the one
+//! with a serial, and those after one, as the state has them (`specs/Kept`), and changes nothing.
+//! The state can be rebuilt from these batches, in order of their serials.
 //!
 //! In the order of reading: `reply`, `page`, `summary`, `outline`, `keeper` (the trait and `run`),
-//! `durable`, `outlined`, `laws`; for pages `selection` and `fold`; `kept_batch`, `keeping` (the
-//! trait), `serial_laws`. Batches are those of `streetmap_batch`.
+//! `durable`, `outlined`, `laws`; for pages `selection` and `fold`; `kept_batch`, `kept_batches`
+//! (the trait), `serial_laws`. Batches are those of `streetmap_batch`.
 #![tactic(auto)]
 
 mod durable;
 mod fold;
 mod keeper;
-mod keeping;
 mod kept_batch;
+mod kept_batches;
 pub mod laws;
 mod outline;
 mod outlined;
@@ -34,8 +34,8 @@ mod summary;
 pub use durable::Durable;
 pub use fold::PageFold;
 pub use keeper::{Keeper, run};
-pub use keeping::KeepsBatches;
 pub use kept_batch::KeptBatch;
+pub use kept_batches::KeepsBatches;
 pub use outline::FeatureOutline;
 pub use outlined::Outlined;
 pub use page::Page;

@@ -5,11 +5,11 @@ ghost use Rattle.streetmap_ledger.specs.Keep.{IsRead, IsFeatureOf, IsRunOf, AreO
 use crate::{Fault, FeatureOutline, Keeper};
 use streetmap_geojson::Feature;
 
-/// A keeper that an index can be kept of: it gives the outlines of features without reading these,
-/// and reads together those whose ids lie next to each other.
+/// A keeper that an index can be kept of: it returns the outlines of features without reading the
+/// features, and reads together those whose ids are next to each other.
 pub trait Outlined: Keeper {
-    /// The feature that an outline is of; none if there is no such collection, or no feature with
-    /// its id in it. It is looked for at the place that the outline names, if it names one.
+    /// The feature of an outline; none if the collection does not exist, or has no feature with its
+    /// id. The search may start at the place that the outline names, if it names one.
     fn feature_outlined(
         &mut self,
         collection: &str,
@@ -21,8 +21,8 @@ pub trait Outlined: Keeper {
         self.feature(collection, outline.id.as_str())
     }
 
-    /// The features of a collection whose ids lie between two in byte order, with those two, in
-    /// byte order of ids; none if there is no such collection.
+    /// The features of a collection whose ids lie between two in byte order, both included, in byte
+    /// order of ids; none if the collection does not exist.
     fn features(
         &mut self,
         collection: &str,
@@ -32,8 +32,8 @@ pub trait Outlined: Keeper {
         ensures { IsRead Self.model self.old self.new result
             (IsRunOf collection.now first.now last.now) };
 
-    /// The outlines of a collection's features, in byte order of ids; none if there is no such
-    /// collection.
+    /// The outlines of a collection's features, in byte order of ids; none if the collection does
+    /// not exist.
     fn outlines(&mut self, collection: &str) -> Result<Option<Vec<FeatureOutline>>, Fault>
         ensures { IsRead Self.model self.old self.new result (AreOutlinesOf collection.now) };
 }

@@ -11,12 +11,12 @@ pub struct Page {
     /// The features shown, in byte order of ids.
     pub features: Vec<Feature>,
     /// How many features of the collection are selected, whatever `after` and `limit` are; 2^64 - 1
-    /// if there are more.
+    /// if the number is larger.
     pub matched: u64,
     /// The last id shown, if more selected features follow it.
     pub next: Option<String>,
     /// How many features have an extent and seconds that overlap those of the query; 2^64 - 1 if
-    /// there are more.
+    /// the number is larger.
     pub examined: u64,
     pub ghost named: { ForSome next (λ id. IsTrue (is_id (string_bytes id))) },
 }

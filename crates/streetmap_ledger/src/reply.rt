@@ -37,7 +37,7 @@ pub enum Reply {
     /// It was accepted before: the reply that was given then.
     Repeated(Counts, u64),
     /// It was refused, and nothing changed; with the place of the edit at fault, counted from 1, if
-    /// there is one.
+    /// an edit was at fault.
     Refused(Refusal, Option<u64>),
 }
 

@@ -10,7 +10,7 @@ ghost use Rattle.streetmap_geojson.specs.FeatureValue.{FeatureValue};
 ghost use Rattle.streetmap_geojson.specs.FeatureInvariant.{IsFeature, IsGeometryIf};
 ghost use Rattle.streetmap_feature_text.specs.Outlines.{outline_of};
 ghost use Rattle.streetmap_query.specs.Views.{query_value};
-ghost use Rattle.streetmap_ledger.specs.Pages.{passes, interval_asked, selects as selects_of};
+ghost use Rattle.streetmap_ledger.specs.Pages.{passes, requested_interval, selects as selects_of};
 ghost use Rattle.streetmap_ledger.specs.Pages.{comes_after as comes_after_of, extent_overlaps};
 ghost use Rattle.streetmap_ledger.specs.Pages.{is_candidate as is_candidate_of};
 
@@ -20,7 +20,7 @@ use streetmap_grid::GridBox;
 use streetmap_moment::Interval;
 use streetmap_query::Query;
 
-/// Whether the feature's geometry meets the query's box, if there is one.
+/// Whether the feature's geometry meets the query's box, if any.
 fn meets_box(query: &Query, feature: &Feature) -> bool
     ensures { result ≡ passes geometry_meets feature.now.geometry (query_value query.now).bbox }
 {
@@ -33,10 +33,10 @@ fn meets_box(query: &Query, feature: &Feature) -> bool
     }
 }
 
-/// Whether a feature's time meets the query's interval, if there is one.
+/// Whether a feature's time meets the query's interval, if any.
 fn meets_interval(query: &Query, time: Option<Interval>) -> bool
     ensures { result ≡ passes meets (option_map interval_value time)
-        (interval_asked (query_value query.now)) }
+        (requested_interval (query_value query.now)) }
 {
     match &query.datetime {
         None => true,
@@ -54,7 +54,7 @@ pub fn selects(query: &Query, feature: &Feature) -> bool
     meets_box(query, feature) && meets_interval(query, feature.time())
 }
 
-/// Whether the feature's id comes after the query's, if there is one.
+/// Whether the feature's id comes after the query's, if any.
 pub fn comes_after(query: &Query, feature: &Feature) -> bool
     ensures { result ≡ comes_after_of (query_value query.now).after feature.now }
 {
@@ -64,8 +64,8 @@ pub fn comes_after(query: &Query, feature: &Feature) -> bool
     }
 }
 
-/// Whether the extent overlaps the query's box, if there is one: that of a geometry, or none. Both
-/// are in millimetres.
+/// Whether the extent, that of a geometry or none, overlaps the query's box, if any. Both are in
+/// millimetres.
 pub fn overlaps_box(query: &Query, extent: Option<GridBox>) -> bool
     ensures { (geometry : Option GeometryValue)
         → option_map box_value extent ≡ option_map extent_of geometry
@@ -80,8 +80,8 @@ pub fn overlaps_box(query: &Query, extent: Option<GridBox>) -> bool
     }
 }
 
-/// Whether the extent lies within the query's box, if there is one: then the geometry that it
-/// belongs to meets it. Both are in millimetres.
+/// Whether the extent lies within the query's box, if any: then the geometry that it belongs to
+/// meets the box. Both are in millimetres.
 pub fn lies_within_box(query: &Query, extent: Option<GridBox>) -> bool
     ensures { IsTrue result → (geometry : Option GeometryValue)
         → option_map box_value extent ≡ option_map extent_of geometry → IsGeometryIf geometry
@@ -96,10 +96,10 @@ pub fn lies_within_box(query: &Query, extent: Option<GridBox>) -> bool
     }
 }
 
-/// Whether the seconds of the time overlap those of the query's interval, if there is one.
+/// Whether the seconds of the time overlap those of the query's interval, if any.
 fn overlaps_interval(query: &Query, outline: &Outline) -> bool
     ensures { (f : FeatureValue) → outline.now ≡ outline_of f
-        → result ≡ passes seconds_overlap f.time (interval_asked (query_value query.now)) }
+        → result ≡ passes seconds_overlap f.time (requested_interval (query_value query.now)) }
 {
     match &query.datetime {
         None => true,

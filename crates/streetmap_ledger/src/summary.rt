@@ -8,6 +8,6 @@ pub struct Summary {
     pub title: String,
     /// The property that the times of its features are read from.
     pub time: Option<String>,
-    /// The box of all positions of its features, in millimetres; none if there are none.
+    /// The box of all positions of its features, in millimetres; none without positions.
     pub extent: Option<GridBox>,
 }

@@ -23,39 +23,39 @@ use Rattle.streetmap_lines.specs.Answers.{Answer, answer_to}
 use Rattle.streetmap_lines.specs.Request.{request_in}
 use Rattle.streetmap_lines.specs.Lines.{line_answer, state_after, answer_text, answers_of, first_too_long}
 use Rattle.streetmap_lines.specs.Lines.{AnswersFirst}
-use Rattle.streetmap_text_lines.specs.Reading.{IsFirstLine, WhereKnown}
+use Rattle.streetmap_text_lines.specs.LineReads.{IsFirstLine, WhereKnown}
 use Rattle.streetmap_text_lines.specs.Written.{AppendsBeginning, AppendsLess}
-use Rattle.streetmap_text_lines.proofs.WriteLemmas.{beginning_longer, beginning_behind}
-use Rattle.streetmap_text_lines.proofs.WriteLemmas.{less_longer, less_behind}
+use Rattle.streetmap_text_lines.proofs.WriteLemmas.{beginning_longer, beginning_after}
+use Rattle.streetmap_text_lines.proofs.WriteLemmas.{less_longer, less_after}
 
 -- ---- answers
 
--- the text of an answer, if there is one, and the state that the keeper represents after it
+-- the text of an answer, if any, and the state that the keeper represents after it
 pub record IsLineAnswer (s : State) (line : List ℕ) (text : Option (String Global)) (keeper : PlainKeeper) : Type 0 where
   pub said : option_map string_bytes text ≡ option_map compact_text (line_answer s line)
   pub state : IsPlainState keeper (state_after s line)
 
 empty-answer : (s : State) (keeper : PlainKeeper) (o : Option (String Global)) → None ≡ o → IsPlainState keeper s → IsLineAnswer s [] o keeper
-empty-answer s keeper None h stands = record { said = refl; state = stands }
-empty-answer s keeper (Some text) h stands = cc
+empty-answer s keeper None h represented = record { said = refl; state = represented }
+empty-answer s keeper (Some text) h represented = cc
 
 some-answer : (s : State) (keeper : PlainKeeper) (b : ℕ) (bs : List ℕ) (o : Option (String Global)) → LineSays s (answer_to s (request_in (b ∷ bs))) (Ok o) keeper → IsLineAnswer s (b ∷ bs) o keeper
 some-answer s keeper b bs None h = absurd h
 some-answer s keeper b bs (Some text) h = record { said = ap Some h.0; state = h.1 }
 
--- what is answered without a text
+-- an answer without a text
 none-text : (o : Option (String Global)) → ◌≡◌ {A = Result (Option (String Global)) AllocError} (Ok o) (Ok None) → None ≡ o
 none-text o e = cc
 
 pub line_answered : (s : State) (old keeper : PlainKeeper) (line : List ℕ) (o : Option (String Global)) → IsPlainState old s
     → (line ≢ [] → LineSays s (answer_to s (request_in line)) (Ok o) keeper)
     → (line ≡ [] → (◌≡◌ {A = Result (Option (String Global)) AllocError} (Ok o) (Ok None)) × ((t : State) → IsPlainState old t → IsPlainState keeper t)) → IsLineAnswer s line o keeper
-line_answered s old keeper [] o stands h k = empty-answer s keeper o (none-text o (k refl).0) ((k refl).1 s stands)
-line_answered s old keeper (b ∷ bs) o stands h k = some-answer s keeper b bs o (h (λ e. cc))
+line_answered s old keeper [] o represented h k = empty-answer s keeper o (none-text o (k refl).0) ((k refl).1 s represented)
+line_answered s old keeper (b ∷ bs) o represented h k = some-answer s keeper b bs o (h (λ e. cc))
 
 -- a keeper that represents a state represents that of its maps
-pub stands_for_own : (keeper : PlainKeeper) (s : State) → IsPlainState keeper s → IsPlainState keeper (plain_state keeper)
-stands_for_own keeper s h = subst (IsPlainState keeper) (sym h.is) h
+pub represents_own : (keeper : PlainKeeper) (s : State) → IsPlainState keeper s → IsPlainState keeper (plain_state keeper)
+represents_own keeper s h = subst (IsPlainState keeper) (sym h.is) h
 
 -- an answer with its line feed, or nothing
 pub said_text : (body : Option Data) (text : List ℕ) → Some text ≡ option_map compact_text body → text ++ 10 ∷ [] ≡ answer_text body
@@ -129,7 +129,7 @@ answered_more (Some input) None c old w1 w2 line s t h f w e = absurd h
 answered_more (Some input) (Some rest) None old w1 w2 line s t h f w e = absurd f
 answered_more (Some input) (Some rest) (Some later) old w1 w2 line s t h f w e = line-done input rest later line old w1 w2 s t h f w e
 
--- nothing is left to be answered
+-- no line is left to answer
 pub answered_all : (a b old w : Option (List ℕ)) (s : State) → WhereKnown a b (λ input rest. IsAnswered input rest old w s) → IsAtEnd b
     → IfSome a (λ input. Appends old w (answers_of opening_state (lines input)))
 answered_all None b old w s h end = tt
@@ -177,10 +177,10 @@ rest-written input rest old w v s h f =
     (ap (λ x. answers_of opening_state h.done ++ answers_of x (lines rest)) h.state
     ∙ sym (answers_of-append opening_state h.done (lines rest))
     ∙ ap (answers_of opening_state) (sym h.all))
-    (beginning_behind old w v (answers_of opening_state h.done) (answers_of s (lines rest))
+    (beginning_after old w v (answers_of opening_state h.done) (answers_of s (lines rest))
     h.written f)
 
--- what was written is the beginning of the answers
+-- what was written is a prefix of the answers
 pub answered_begun : (a b old w : Option (List ℕ)) (s : State) →
     WhereKnown a b (λ input rest. IsAnswered input rest old w s) →
     IfSome a (λ input. AppendsBeginning old w (answers_of opening_state (lines input)))
@@ -189,7 +189,7 @@ answered_begun (Some input) None old w s h = absurd h
 answered_begun (Some input) (Some rest) old w s h =
     rest-written input rest old w w s h ([], refl, Appends-nil w)
 
--- so is what was written where the answer to a line was written in part
+-- so it is if the answer to a line was written in part
 pub answered_partly : (a b c old w v : Option (List ℕ)) (line : List ℕ) (s : State) →
     WhereKnown a b (λ input rest. IsAnswered input rest old w s) →
     WhereKnown b c (λ input rest. IsFirstLine 8388608 input line rest) →
@@ -213,7 +213,7 @@ less-written input rest old w v s h f =
     (ap (λ x. answers_of opening_state h.done ++ answers_of x (lines rest)) h.state
     ∙ sym (answers_of-append opening_state h.done (lines rest))
     ∙ ap (answers_of opening_state) (sym h.all))
-    (less_behind old w v (answers_of opening_state h.done) (answers_of s (lines rest))
+    (less_after old w v (answers_of opening_state h.done) (answers_of s (lines rest))
     h.written f)
 
 pub answered_less : (a b c old w v : Option (List ℕ)) (line : List ℕ) (s : State) →

@@ -1,4 +1,4 @@
--- A line asks for the request that is read from it, and for no other.
+-- A line spells the request that is read from it, and no other.
 use Rattle.std.proofs.Common.{◌≡◌, ℕ, ◌+◌, Bool, true, false, cond, not, [], ◌∷◌, ◌++◌, length, take, drop, ap, sym, refl, ◌∙◌, codes, Option, Some, None, arith, ◌==◌, ◌||◌, subst}
 use Rattle.std.proofs.lemmas.Grind.{common_steps}
 use Rattle.std.proofs.lemmas.Bool.Decides.{nat_tests}
@@ -7,9 +7,9 @@ use Rattle.std.specs.List.{position_or_len, list_any}
 use Rattle.std.specs.Cmp.Lexicographic.{same_text}
 use Rattle.std.specs.Str.{bytes_eq}
 use Rattle.streetmap_batch.specs.Text.{Text}
-use Rattle.streetmap_lines.specs.Request.{LineRequest, batch, page, feature, split_space, HasNoSpace, SpellsRequest, queried, page_asked, page_request_of, request_by, request_of}
+use Rattle.streetmap_lines.specs.Request.{LineRequest, batch, page, feature, split_space, HasNoSpace, SpellsRequest, queried, requested_page, page_request_of, request_by, request_of}
 
--- the same cut, from byte to byte
+-- the same cut, byte by byte
 abbrev pub with_front : ℕ → Option (Text × Text) → Option (Text × Text)
 with_front b None = None
 with_front b (Some p) = Some (b ∷ p.0, p.1)
@@ -39,7 +39,7 @@ no-front : (b : ℕ) (o : Option (Text × Text)) → with_front b o ≡ None →
 no-front b None e = refl
 no-front b (Some p) e = cc
 
--- what a cut gives stands round the first space
+-- a cut gives the text before the first space and the text after it
 found-front : (b : ℕ) (bs : Text) (o : Option (Text × Text)) (p : Text × Text) → (b == 32) ≡ false
     → ((q : Text × Text) → o ≡ Some q → (bs ≡ q.0 ++ 32 ∷ q.1) × HasNoSpace q.0)
     → with_front b o ≡ Some p → (b ∷ bs ≡ p.0 ++ 32 ∷ p.1) × HasNoSpace p.0
@@ -66,7 +66,7 @@ pub cut-found : (s : Text) (p : Text × Text) → cut s ≡ Some p → (s ≡ p.
 cut-found [] p e = cc
 cut-found (b ∷ bs) p e = found-step (b == 32) b bs p refl (λ q. cut-found bs q) e
 
--- with no cut there is no space
+-- a text without a cut has no space
 none-step : (v : Bool) (b : ℕ) (bs : Text) → (b == 32) ≡ v → (cut bs ≡ None → HasNoSpace bs)
     → cond v (Some ([], bs)) (with_front b (cut bs)) ≡ None → HasNoSpace (b ∷ bs)
 none-step true b bs d f e = cc
@@ -102,7 +102,7 @@ queried-is text collection query None r e n k h =
     subst (SpellsRequest (codes "page " ++ text)) same (ap (λ l. codes "page " ++ l) e, n, cut-none query k)
 queried-is text collection query (Some p) r e n k h = cc
 
-page-is : (text : Text) (o : Option (Text × Text)) (r : LineRequest) → cut text ≡ o → page_asked text o ≡ Some r → SpellsRequest (codes "page " ++ text) r
+page-is : (text : Text) (o : Option (Text × Text)) (r : LineRequest) → cut text ≡ o → requested_page text o ≡ Some r → SpellsRequest (codes "page " ++ text) r
 page-is text None r k h =
     let same : page text None ≡ r = cc in
     subst (SpellsRequest (codes "page " ++ text)) same (refl, cut-none text k)
@@ -141,26 +141,26 @@ request-is line (Some p) r k h =
     let P : Text → Type 0 = λ t. SpellsRequest t r in
     subst P (sym both.0) (word-is (bytes_eq p.0 (codes "batch")) (bytes_eq p.0 (codes "page")) (bytes_eq p.0 (codes "feature")) p.0 p.1 r refl refl refl h)
 
--- what is read from a line is what it asks for
+-- what is read from a line is what it spells
 pub request_of-found : (line : Text) (r : LineRequest) → request_of line ≡ Some r → SpellsRequest line r
 request_of-found line r h = request-is line (split_space line) r (sym (split-cut line)) h
 
 by-word : (word text : Text) → HasNoSpace word → request_of (word ++ 32 ∷ text) ≡ request_by word text
 by-word word text n = ap (option_and_then (λ p. request_by p.0 p.1)) (split-cut (word ++ 32 ∷ text) ∙ cut-at_space word text n)
 
-asked-is : (r : LineRequest) (line : Text) → SpellsRequest line r → request_of line ≡ Some r
+requested-is : (r : LineRequest) (line : Text) → SpellsRequest line r → request_of line ≡ Some r
 unfolding request_by
-asked-is (batch text) line a = ap request_of a ∙ by-word (codes "batch") text refl
-asked-is (page collection None) line a =
-    ap request_of a.0 ∙ by-word (codes "page") collection refl ∙ ap (page_asked collection) (split-cut collection ∙ cut-no_space collection a.1)
-asked-is (page collection (Some query)) line a =
+requested-is (batch text) line a = ap request_of a ∙ by-word (codes "batch") text refl
+requested-is (page collection None) line a =
+    ap request_of a.0 ∙ by-word (codes "page") collection refl ∙ ap (requested_page collection) (split-cut collection ∙ cut-no_space collection a.1)
+requested-is (page collection (Some query)) line a =
     ap request_of a.0 ∙ by-word (codes "page") (collection ++ 32 ∷ query) refl
-    ∙ ap (page_asked (collection ++ 32 ∷ query)) (split-cut (collection ++ 32 ∷ query) ∙ cut-at_space collection query a.1)
+    ∙ ap (requested_page (collection ++ 32 ∷ query)) (split-cut (collection ++ 32 ∷ query) ∙ cut-at_space collection query a.1)
     ∙ ap (queried collection query) (split-cut query ∙ cut-no_space query a.2)
-asked-is (feature collection id) line a =
+requested-is (feature collection id) line a =
     ap request_of a.0 ∙ by-word (codes "feature") (collection ++ 32 ∷ id) refl
     ∙ ap (option_map (λ p. feature p.0 p.1)) (split-cut (collection ++ 32 ∷ id) ∙ cut-at_space collection id a.1)
 
--- what a line asks for is read from it
+-- what a line spells is read from it
 pub request_of-only : (line : Text) (r : LineRequest) → SpellsRequest line r → request_of line ≡ Some r
-request_of-only line r a = asked-is r line a
+request_of-only line r a = requested-is r line a

@@ -23,7 +23,7 @@ abbrev pub SaysOr : State → Answer → Result (String Global) AllocError → P
 SaysOr s answer (Ok text) keeper = Says answer text keeper
 SaysOr s answer (Err e) keeper = IsPlainState keeper s
 
--- the same of a line, if there is an answer
+-- the same of a line, if it has an answer
 abbrev pub LineSays : State → Answer → Result (Option (String Global)) AllocError → PlainKeeper
     → Type 0
 LineSays s answer (Ok None) keeper = ⊥

@@ -7,7 +7,7 @@ use Rattle.streetmap_query.specs.QueryValue.{QueryValue}
 use Rattle.streetmap_query.specs.Query.{query_of}
 use Rattle.streetmap_query.specs.declared.fault.QueryFault.{QueryFault}
 use Rattle.streetmap_batch.specs.BatchValue.{BatchValue}
-use Rattle.streetmap_batch.specs.BatchReading.{batch_of}
+use Rattle.streetmap_batch.specs.ParsedBatches.{batch_of}
 use Rattle.streetmap_batch.specs.declared.batch_fault.BatchFault.{BatchFault}
 use Rattle.streetmap_ledger.specs.Batches.{act}
 use Rattle.streetmap_ledger.specs.Pages.{PageValue, page_in, feature_in}
@@ -60,7 +60,7 @@ found_feature (Some f) = feature_data f
 
 -- ---- lines
 
--- the answer to a request, in this state; if there is no request, the command is not known
+-- the answer to a request, in this state; if it is none, the command is not known
 unfoldable pub answer_to : State → Option LineRequest → Answer
 answer_to s None = record { body = unknown_command; state = s }
 answer_to s (Some (batch text)) = batch_answer s (batch_of text)

@@ -1,4 +1,4 @@
--- What a line with a batch is answered, over any keeper.
+-- The answer to a line with a batch, over any keeper.
 use Rattle.std.specs.Prelude.{◌≡◌, ◌⊎◌, Result, Ok, Err, String, string_bytes}
 use Rattle.std.specs.declared.alloc.Global.{Global}
 use Rattle.serde_json.specs.Written.{compact_text}
@@ -30,7 +30,7 @@ abbrev pub OutOfMemory : (uncalled : Type 0) → Result (String Global) Fault �
 OutOfMemory uncalled answer = uncalled × (answer ≡ Err Memory)
 
 -- A readable batch is answered by what the keeper answered; another by its fault, and the keeper is
--- not called. Else memory ran out, before the keeper was called.
+-- not called. Otherwise memory ran out, before the keeper was called.
 abbrev pub AnswersBatch : {K : Type 0} → Model K → (old new : K) → Result BatchValue BatchFault
     → Result (String Global) Fault → Type 0
 AnswersBatch model old new (Ok b) answer =

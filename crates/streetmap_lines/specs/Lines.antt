@@ -31,10 +31,10 @@ answers_of s [] = []
 answers_of s (line ∷ lines) = answer_text (line_answer s line)
     ++ answers_of (state_after s line) lines
 
--- ---- too long lines
+-- ---- lines that are too long
 
--- how many lines there are before the first of more than 8,388,608 bytes, without its line feed, if
--- there is one
+-- the number of lines before the first of more than 8,388,608 bytes, without its line feed; none
+-- if no line is that long
 abbrev pub first_too_long : List ℕ → Option ℕ
 first_too_long input = bounded.first_too_long 8388608 input
 

@@ -13,7 +13,7 @@ pub data LineRequest : Type 0 where
 abbrev pub HasNoSpace : Text → Type 0
 HasNoSpace text = list_any (λ b. b == 32) text ≡ false
 
--- how a request is spelled: its word, and its texts, each after one space
+-- how a request is spelled: its command, and its texts, each after one space
 abbrev pub SpellsRequest : Text → LineRequest → Type 0
 SpellsRequest line (batch text) = line ≡ codes "batch " ++ text
 SpellsRequest line (page collection None) =
@@ -25,10 +25,10 @@ SpellsRequest line (feature collection id) = (line ≡ codes "feature " ++ (coll
     × HasNoSpace collection
 
 -- a line is UTF-8 text that spells a request
-abbrev pub AsksFor : List ℕ → LineRequest → Type 0
-AsksFor line request = IsUtf8 line × SpellsRequest line request
+abbrev pub IsRequestLine : List ℕ → LineRequest → Type 0
+IsRequestLine line request = IsUtf8 line × SpellsRequest line request
 
--- ---- the request of a text, if there is one
+-- ---- the request of a text, if any
 
 -- the text before the first space and the text after it
 abbrev pub split_space : Text → Option (Text × Text)
@@ -42,12 +42,12 @@ abbrev pub queried : Text → Text → Option (Text × Text) → Option LineRequ
 queried collection query None = Some (page collection (Some query))
 queried collection query (Some _) = None
 
-abbrev pub page_asked : Text → Option (Text × Text) → Option LineRequest
-page_asked text None = Some (page text None)
-page_asked text (Some p) = queried p.0 p.1 (split_space p.1)
+abbrev pub requested_page : Text → Option (Text × Text) → Option LineRequest
+requested_page text None = Some (page text None)
+requested_page text (Some p) = queried p.0 p.1 (split_space p.1)
 
 abbrev pub page_request_of : Text → Option LineRequest
-page_request_of text = page_asked text (split_space text)
+page_request_of text = requested_page text (split_space text)
 
 unfoldable pub request_by : Text → Text → Option LineRequest
 request_by word text =

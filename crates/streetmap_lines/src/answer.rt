@@ -4,7 +4,7 @@ ghost use Rattle.std.specs.Prelude.{string_bytes, string_len, string_capacity, [
 ghost use Rattle.std.specs.Option.{option_copied};
 ghost use Rattle.serde_json.specs.Written.{compact_text};
 ghost use Rattle.streetmap_query.specs.Query.{query_of};
-ghost use Rattle.streetmap_batch.specs.BatchReading.{batch_of};
+ghost use Rattle.streetmap_batch.specs.ParsedBatches.{batch_of};
 ghost use Rattle.streetmap_batch.specs.BatchView.{batch_value};
 ghost use Rattle.streetmap_ledger.specs.State.{State};
 ghost use Rattle.streetmap_memory.specs.Plain.{IsPlainState};
@@ -101,7 +101,7 @@ fn answer_batch_over<K: Keeper>(alloc: Global, keeper: &mut K, text: &str) -> Re
     }
 }
 
-/// The answer to a batch. In memory no fault but `Memory` comes.
+/// The answer to a batch. In memory the only fault is `Memory`.
 fn answer_batch(alloc: Global, keeper: &mut PlainKeeper, text: &str) -> Result<String, AllocError>
     ensures { (s : State) → IsPlainState keeper.old s
         → SaysOr s (batch_answer s (batch_of text.now)) result keeper.new }
@@ -137,7 +137,7 @@ fn answer_page(
     }
 }
 
-/// The answer to a look-up of a feature.
+/// The answer to a lookup of a feature.
 fn answer_feature(
     alloc: Global,
     keeper: &mut PlainKeeper,
@@ -155,7 +155,7 @@ fn answer_feature(
     }
 }
 
-/// The answer to a request, or to a line that asks for nothing.
+/// The answer to a request, or to a line that is not a request.
 #[tactic(auto, unfolding(crate::specs::Answers::answer_to))]
 fn answer_request(
     alloc: Global,
@@ -185,11 +185,11 @@ pub fn answer_line(
     keeper: &mut PlainKeeper,
     line: &[u8],
 ) -> Result<Option<String>, AllocError>
-    // The text and the state afterwards are those of what the line asks for, in the state before;
+    // The text and the state afterwards are those of the answer to the line in the state before;
     // if memory ran out the state is the one before.
     ensures answered { (s : State) → IsPlainState keeper.old s → line.now ≢ []
         → LineSays s (answer_to s (request_in line.now)) result keeper.new }
-    // An empty line is passed over.
+    // An empty line is skipped.
     ensures empty { line.now ≡ [] → (result ≡ Ok None)
         × ((s : State) → IsPlainState keeper.old s → IsPlainState keeper.new s) }
 {

@@ -8,7 +8,7 @@ ghost use Rattle.streetmap_ledger.specs.State.{opening_state};
 ghost use Rattle.streetmap_lines.specs.Faults.{IsLineFault, IsWriteFault, IsAnswerFault};
 ghost use Rattle.streetmap_lines.specs.Lines.{line_answer, state_after, answer_text, answers_of};
 ghost use Rattle.streetmap_lines.specs.Lines.{first_too_long, AnswersFirst};
-ghost use Rattle.streetmap_text_lines.specs.Reading.{TakesLine};
+ghost use Rattle.streetmap_text_lines.specs.LineReads.{TakesLine};
 ghost use Rattle.streetmap_text_lines.specs.Written.{AppendsBeginning, AppendsLess};
 
 use crate::answer::answer_line;
@@ -126,7 +126,7 @@ pub fn lines<R: BufRead, W: Write>(
     // The whole input is read.
     ensures whole { OnOk result (OnSome (R.remaining reader.old)
         (IsAtEnd (R.remaining reader.new))) }
-    // There is a line that is too long, and the lines before the first such line are answered.
+    // Some line is too long, and the lines before the first such line are answered.
     ensures too_long { result ≡ Err LinesFault.LineTooLong
         → IfSome (R.remaining reader.old) (λ input.
         IsSomeAnd (first_too_long input) (λ count.

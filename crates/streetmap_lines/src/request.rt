@@ -1,7 +1,7 @@
 //! The request of a line of input.
 ghost use Rattle.std.specs.Prelude.{◌≡◌, Option, Some, None, option_map, IfSome, IsSome, IsUtf8};
 ghost use Rattle.streetmap_lines.specs.Request.{LineRequest, split_space, page_request_of};
-ghost use Rattle.streetmap_lines.specs.Request.{request_by, request_of, request_in, AsksFor};
+ghost use Rattle.streetmap_lines.specs.Request.{request_by, request_of, request_in, IsRequestLine};
 ghost use Rattle.streetmap_lines.specs.RequestView.{request_value};
 
 /// The request of a line of input, by texts of the line.
@@ -11,7 +11,7 @@ pub enum Request<'a> {
     Batch {
         text: &'a str,
     },
-    /// A page of a collection, by a query text if there is one.
+    /// A page of a collection, with the text of a query if it has one.
     Page {
         collection: &'a str,
         query: Option<&'a str>,
@@ -93,14 +93,14 @@ fn read_line<'a>(line: &'a [u8]) -> Option<Request<'a>>
 }
 
 /// The request of a line, without its line feed: `batch TEXT`, `page COLLECTION`,
-/// `page COLLECTION QUERY` or `feature COLLECTION ID`, its words separated by one space; none if it
+/// `page COLLECTION QUERY` or `feature COLLECTION ID`, its parts separated by one space; none if it
 /// is none of these, or not UTF-8. Each text may be empty; a collection and a query hold no space.
 pub fn read_request<'a>(line: &'a [u8]) -> Option<Request<'a>>
     ensures value { option_map request_value result ≡ request_in line.entry.now }
     // What is read is the request that the line spells.
-    ensures found { IfSome result (λ r. AsksFor line.entry.now (request_value r)) }
+    ensures found { IfSome result (λ r. IsRequestLine line.entry.now (request_value r)) }
     // The request that the line spells is read.
-    ensures only { (r : LineRequest) → AsksFor line.entry.now r
+    ensures only { (r : LineRequest) → IsRequestLine line.entry.now r
         → option_map request_value result ≡ Some r }
 {
     read_line(line)

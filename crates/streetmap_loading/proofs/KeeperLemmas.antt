@@ -22,7 +22,7 @@ use Rattle.streetmap_loading.specs.Sources.{Item, TakesOff, HasNoItem}
 use Rattle.streetmap_loading.specs.Sinks.{SinkTakesAll}
 use Rattle.streetmap_loading.specs.Ends.{EndsAt, EndsWithinBatch, ByEnd, end_of_stop}
 use Rattle.streetmap_loading.specs.Loads.{Loads, AreTakenOff, ItemsBeginWith, items_of}
-use Rattle.streetmap_loading.specs.Applying.{Applies, taken_of}
+use Rattle.streetmap_loading.specs.AppliedBatches.{Applies, taken_of}
 use Rattle.streetmap_loading.specs.KeeperLoads.{keeper_fault, AreRead, AreAcknowledged, serial_of}
 use Rattle.streetmap_loading.specs.KeeperLoads.{last_serial, StopsAt, EndsAtBatch}
 use Rattle.streetmap_loading.specs.KeeperLoads.{LeavesUnsent, EndsIn, LoadsTo}
@@ -98,7 +98,7 @@ module _ {S K : Type 0} (keeper : S → K) (model : Model K) where
         represents = writes.1;
       })
 
-  -- ---- all of them
+  -- ---- all batches
 
   pub clean_all :
       (first : S) (before : Option ℕ) (bs : List BatchValue) (last : S) (serial : Option ℕ) →
@@ -133,7 +133,7 @@ module _ {S K : Type 0} (keeper : S → K) (model : Model K) where
         represents = more.represents;
       }
 
-  -- ---- what shut it
+  -- ---- what shut the keeper
 
   open_one : (b : BatchValue) (old new : S) (serial : Option ℕ) → takes old b (Ok serial) new →
       (model.cause (keeper old) ≡ None) × (model.cause (keeper new) ≡ None)
@@ -186,25 +186,25 @@ module _ {S K : Type 0} (keeper : S → K) (model : Model K) where
   none_some None none some = cc
   none_some (Some x) none some = cc
 
-  -- ---- what else its store has
+  -- ---- the rest of its store is kept
 
-  spares_all :
+  preserves_all :
       (from : S) (before : Option ℕ) (bs : List BatchValue) (to : S) (serial : Option ℕ) →
-      SinkTakesAll takes from before bs to serial → model.spares (keeper from) (keeper to)
-  spares_all from before [] to serial all =
-      subst (λ (x : S). model.spares (keeper from) (keeper x)) (sym all.0) (model.spares_itself (keeper from))
-  spares_all from before (b ∷ bs) to serial all =
-      model.spares_then (keeper from) (keeper all.0) (keeper to) all.2.write.call.spared (spares_all all.0 all.1 bs to serial all.3)
+      SinkTakesAll takes from before bs to serial → model.preserves (keeper from) (keeper to)
+  preserves_all from before [] to serial all =
+      subst (λ (x : S). model.preserves (keeper from) (keeper x)) (sym all.0) (model.preserves_itself (keeper from))
+  preserves_all from before (b ∷ bs) to serial all =
+      model.preserves_then (keeper from) (keeper all.0) (keeper to) all.2.write.call.preserved (preserves_all all.0 all.1 bs to serial all.3)
 
-  -- ---- where it ended
+  -- ---- the keeper at the end of a load
 
   module _ (each : ℕ) (key : Text) (first last : S) (old new : Option (List Item))
       (loaded : Loaded) (it : Loads takes each key first last old new loaded) where
-    spares_mid : model.spares (keeper first) (keeper it.ends.mid)
-    spares_mid = spares_all first None it.ends.sent it.ends.mid loaded.serial it.ends.all
+    preserves_mid : model.preserves (keeper first) (keeper it.ends.mid)
+    preserves_mid = preserves_all first None it.ends.sent it.ends.mid loaded.serial it.ends.all
 
-    spares_still : last ≡ it.ends.mid → model.spares (keeper first) (keeper last)
-    spares_still still = subst (λ (x : S). model.spares (keeper first) (keeper x)) (sym still) spares_mid
+    preserves_still : last ≡ it.ends.mid → model.preserves (keeper first) (keeper last)
+    preserves_still still = subst (λ (x : S). model.preserves (keeper first) (keeper x)) (sym still) preserves_mid
 
     -- ---- the keeper after the batches that were taken was clean
 
@@ -219,7 +219,7 @@ module _ {S K : Type 0} (keeper : S → K) (model : Model K) where
     clean_mid clean (Stopped fault) e = e.refused.write.call.began_clean clean
     clean_mid clean WriteFailed e = e.refused.write.call.began_clean clean
 
-    -- ---- of a keeper that represented a state
+    -- ---- a keeper that represented a state
 
     module _ (s : State) (clean : model.is_clean (keeper last))
         (h : model.represents (keeper first) s) where
@@ -233,27 +233,27 @@ module _ {S K : Type 0} (keeper : S → K) (model : Model K) where
       still_represents still = subst (λ (x : S). model.represents (keeper x) t) (sym still) all.represents
 
       by_fault : (placed : List PlacedValue) (b : BatchValue) (f : Fault) →
-          model.spares (keeper it.ends.mid) (keeper last) →
+          model.preserves (keeper it.ends.mid) (keeper last) →
           Writes model (keeper it.ends.mid) (keeper last) t b (Err f) →
           StopsAt model (keeper first) (keeper last) t placed b (Stopped f)
-      by_fault placed b faults.Memory spared w = w
-      by_fault placed b faults.Device spared w =
-          (model.fails_later (keeper first) (keeper it.ends.mid) (keeper last) spares_mid spared w.0, w.1)
-      by_fault placed b faults.Damaged spared w = w
-      by_fault placed b faults.Reopen spared w = w
+      by_fault placed b faults.Memory preserved w = w
+      by_fault placed b faults.Device preserved w =
+          (model.fails_later (keeper first) (keeper it.ends.mid) (keeper last) preserves_mid preserved w.0, w.1)
+      by_fault placed b faults.Damaged preserved w = w
+      by_fault placed b faults.Reopen preserved w = w
 
       -- a batch was refused or not answered
       stops_by :
           (placed : List PlacedValue) (b : BatchValue) (stop : Stop) (reply : Result Reply Fault)
-          → Err stop ≡ taken_of reply → model.spares (keeper it.ends.mid) (keeper last) →
+          → Err stop ≡ taken_of reply → model.preserves (keeper it.ends.mid) (keeper last) →
           Writes model (keeper it.ends.mid) (keeper last) t b reply →
           ((why : Refusal) (place : Option ℕ) → reply ≡ Ok (replies.Refused why place) →
           (act t b).state ≡ t) →
           StopsAt model (keeper first) (keeper last) t placed b
           (end_of_stop (take (length b.edits) (places_of placed)) stop)
-      stops_by placed b (stops.Refused why place) (Ok (replies.Accepted counts n)) is spared w same = cc
-      stops_by placed b (stops.Refused why place) (Ok (replies.Repeated counts n)) is spared w same = cc
-      stops_by placed b (stops.Refused why place) (Ok (replies.Refused reason inner)) is spared w same =
+      stops_by placed b (stops.Refused why place) (Ok (replies.Accepted counts n)) is preserved w same = cc
+      stops_by placed b (stops.Refused why place) (Ok (replies.Repeated counts n)) is preserved w same = cc
+      stops_by placed b (stops.Refused why place) (Ok (replies.Refused reason inner)) is preserved w same =
           let why_is : why ≡ reason = cc in
           let place_is : place ≡ inner = cc in (
             place,
@@ -261,18 +261,18 @@ module _ {S K : Type 0} (keeper : S → K) (model : Model K) where
             refl,
             subst (λ (x : State). model.represents (keeper last) x) (same reason inner refl) w.1,
           )
-      stops_by placed b (stops.Refused why place) (Err fault) is spared w same = cc
-      stops_by placed b (stops.Stopped fault) (Ok (replies.Accepted counts n)) is spared w same = cc
-      stops_by placed b (stops.Stopped fault) (Ok (replies.Repeated counts n)) is spared w same = cc
-      stops_by placed b (stops.Stopped fault) (Ok (replies.Refused why place)) is spared w same = cc
-      stops_by placed b (stops.Stopped fault) (Err found) is spared w same =
+      stops_by placed b (stops.Refused why place) (Err fault) is preserved w same = cc
+      stops_by placed b (stops.Stopped fault) (Ok (replies.Accepted counts n)) is preserved w same = cc
+      stops_by placed b (stops.Stopped fault) (Ok (replies.Repeated counts n)) is preserved w same = cc
+      stops_by placed b (stops.Stopped fault) (Ok (replies.Refused why place)) is preserved w same = cc
+      stops_by placed b (stops.Stopped fault) (Err found) is preserved w same =
           let e : found ≡ fault = cc in
-          by_fault placed b fault spared
+          by_fault placed b fault preserved
           (subst (λ (x : Fault). Writes model (keeper it.ends.mid) (keeper last) t b (Err x)) e w)
-      stops_by placed b stops.WriteFailed (Ok (replies.Accepted counts n)) is spared w same = cc
-      stops_by placed b stops.WriteFailed (Ok (replies.Repeated counts n)) is spared w same = cc
-      stops_by placed b stops.WriteFailed (Ok (replies.Refused why place)) is spared w same = cc
-      stops_by placed b stops.WriteFailed (Err found) is spared w same = cc
+      stops_by placed b stops.WriteFailed (Ok (replies.Accepted counts n)) is preserved w same = cc
+      stops_by placed b stops.WriteFailed (Ok (replies.Repeated counts n)) is preserved w same = cc
+      stops_by placed b stops.WriteFailed (Ok (replies.Refused why place)) is preserved w same = cc
+      stops_by placed b stops.WriteFailed (Err found) is preserved w same = cc
 
       ends_at : (end : End) → EndsAt takes each key it.read it.ends.sent it.ends.mid last end →
           EndsAtBatch model (keeper first) (keeper last) each key it.read it.ends.sent t end
@@ -284,8 +284,8 @@ module _ {S K : Type 0} (keeper : S → K) (model : Model K) where
             batch = e.batch;
             next = e.next;
             stops = subst
-                (λ (x : End). StopsAt model (keeper first) (keeper last) t e.left e.batch x) (sym e.told)
-                (stops_by e.left e.batch e.stop e.refused.reply e.refused.is e.refused.write.call.spared w
+                (λ (x : End). StopsAt model (keeper first) (keeper last) t e.left e.batch x) (sym e.reported)
+                (stops_by e.left e.batch e.stop e.refused.reply e.refused.is e.refused.write.call.preserved w
                 (λ why place is.
                 (refused_changes_nothing t e.batch why place
                 (sym (subst (λ (x : Result Reply Fault). Writes model (keeper it.ends.mid) (keeper last) t e.batch x) is w).0)).0));
@@ -318,7 +318,7 @@ module _ {S K : Type 0} (keeper : S → K) (model : Model K) where
         ends = ends_in loaded.end it.ends.ends;
       }
 
-    -- ---- of any keeper
+    -- ---- any keeper
 
     kept : model.cause (keeper it.ends.mid) ≡ model.cause (keeper first)
     kept = cause_kept first None it.ends.sent it.ends.mid loaded.serial it.ends.all
@@ -330,7 +330,7 @@ module _ {S K : Type 0} (keeper : S → K) (model : Model K) where
         RunShuts (keeper_fault end) (model.cause (keeper first)) (model.cause (keeper last))
     at_shuts end e =
         subst (λ (x : Option Cause). RunShuts (keeper_fault end) x (model.cause (keeper last))) kept
-        (subst (λ (x : End). RunShuts (keeper_fault x) (model.cause (keeper it.ends.mid)) (model.cause (keeper last))) (sym e.told)
+        (subst (λ (x : End). RunShuts (keeper_fault x) (model.cause (keeper it.ends.mid)) (model.cause (keeper last))) (sym e.reported)
         (stop_shuts (take (length e.batch.edits) (places_of e.left)) e.stop e.refused.reply
         (model.cause (keeper it.ends.mid)) (model.cause (keeper last)) e.refused.is e.refused.write.call.faults))
 
@@ -344,15 +344,15 @@ module _ {S K : Type 0} (keeper : S → K) (model : Model K) where
     shuts_by (Stopped fault) e = at_shuts (Stopped fault) e
     shuts_by WriteFailed e = at_shuts WriteFailed e
 
-    spares_by : (end : End) → ByEnd takes each key it.read it.ends.sent it.ends.mid last end →
-        model.spares (keeper first) (keeper last)
-    spares_by All e = spares_still e.1
-    spares_by (AtFault fault) e = spares_still e.0.still
-    spares_by ReadFailed e = spares_still e.still
-    spares_by Memory e = spares_still e.still
-    spares_by (Refused why place) e = model.spares_then (keeper first) (keeper it.ends.mid) (keeper last) spares_mid e.refused.write.call.spared
-    spares_by (Stopped fault) e = model.spares_then (keeper first) (keeper it.ends.mid) (keeper last) spares_mid e.refused.write.call.spared
-    spares_by WriteFailed e = model.spares_then (keeper first) (keeper it.ends.mid) (keeper last) spares_mid e.refused.write.call.spared
+    preserves_by : (end : End) → ByEnd takes each key it.read it.ends.sent it.ends.mid last end →
+        model.preserves (keeper first) (keeper last)
+    preserves_by All e = preserves_still e.1
+    preserves_by (AtFault fault) e = preserves_still e.0.still
+    preserves_by ReadFailed e = preserves_still e.still
+    preserves_by Memory e = preserves_still e.still
+    preserves_by (Refused why place) e = model.preserves_then (keeper first) (keeper it.ends.mid) (keeper last) preserves_mid e.refused.write.call.preserved
+    preserves_by (Stopped fault) e = model.preserves_then (keeper first) (keeper it.ends.mid) (keeper last) preserves_mid e.refused.write.call.preserved
+    preserves_by WriteFailed e = model.preserves_then (keeper first) (keeper it.ends.mid) (keeper last) preserves_mid e.refused.write.call.preserved
 
     -- a keeper that was shut before took no batch
     reopened : (sent : List BatchValue) (mid : S) (serial : Option ℕ) →
@@ -369,7 +369,7 @@ module _ {S K : Type 0} (keeper : S → K) (model : Model K) where
         EndsAt takes each key it.read it.ends.sent it.ends.mid last end →
         LeavesSame (model.may_leave (keeper first)) (model.may_leave (keeper last))
     reopen_at end is e =
-        let reply = reply_is (take (length e.batch.edits) (places_of e.left)) e.stop e.refused.reply faults.Reopen (sym is ∙ e.told) e.refused.is in
+        let reply = reply_is (take (length e.batch.edits) (places_of e.left)) e.stop e.refused.reply faults.Reopen (sym is ∙ e.reported) e.refused.is in
         let shut = subst (λ (x : Result Reply Fault). ShutsBy x (model.cause (keeper it.ends.mid)) (model.cause (keeper last))) reply e.refused.write.call.faults in
         reopened it.ends.sent it.ends.mid loaded.serial it.ends.all shut.0
         (e.refused.write.call.reopen
@@ -386,7 +386,7 @@ module _ {S K : Type 0} (keeper : S → K) (model : Model K) where
 
     pub are_calls : AreCalls model (keeper first) (keeper last) (keeper_fault loaded.end)
     are_calls = record {
-      spared = spares_by loaded.end it.ends.ends;
+      preserved = preserves_by loaded.end it.ends.ends;
       began_clean = λ clean. clean_all first None it.ends.sent it.ends.mid loaded.serial it.ends.all (clean_mid clean loaded.end it.ends.ends);
       faults = shuts_by loaded.end it.ends.ends;
       reopen = λ is. reopen_at (Stopped faults.Reopen) refl

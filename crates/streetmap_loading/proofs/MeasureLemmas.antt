@@ -18,7 +18,7 @@ use Rattle.streetmap_batch.specs.BatchText.{edit_data, feature_edit_data}
 use Rattle.streetmap_batch.proofs.NameFacts.{both_true}
 use Rattle.streetmap_batch.proofs.TextFacts.{feature_edit_text_is}
 
--- the bytes of a collection's id stand in a JSON string as they are
+-- the bytes of a collection's id appear in a JSON string as they are
 plain_byte : (b : ℕ) → is_id_byte b ≡ true → is_plain b ≡ true
 plain_byte b h = grind (arith, common_steps)
 
@@ -40,7 +40,7 @@ quoted_length : (s : Text) → list_all is_plain s ≡ true → length (compact_
 quoted_length s plain =
     ap length (plain_text s plain) ∙ omega (arith, length-append s (ascii.quote ∷ []))
 
--- the text of an edit of a feature has so many bytes beside its operation, its collection and its
+-- the text of an edit of a feature has 36 bytes besides its operation, its collection and its
 -- feature
 edit_length : (op id : Text) (f : FeatureValue) → list_all is_plain op ≡ true → IsTrue (is_collection_id id) →
     length (compact_text (feature_edit_data op id f)) ≡ 36 + length op + length id + length (compact_text (feature_data f))

@@ -1,4 +1,4 @@
--- Batches that were written, or let go.
+-- Batches that were written, or dropped.
 use Rattle.std.proofs.Common.{◌≡◌, ℕ, List, [], ◌∷◌, Option, None, Result, Ok, Err, length}
 use Rattle.std.proofs.Common.{take, refl, sym, subst}
 use Rattle.std.proofs.KnownBytes.{Appends-nil, Appends-trans}
@@ -10,8 +10,8 @@ use Rattle.streetmap_loading.specs.Sources.{Item}
 use Rattle.streetmap_loading.specs.Sinks.{SinkTakesAll}
 use Rattle.streetmap_loading.specs.Ends.{ByEnd, EndsAt, EndsWithinBatch, end_of_stop}
 use Rattle.streetmap_loading.specs.Loads.{Loads}
-use Rattle.streetmap_loading.specs.Checking.{IsOfText}
-use Rattle.streetmap_loading.specs.Printing.{line_of, IsWriteStop, Prints}
+use Rattle.streetmap_loading.specs.CheckedTexts.{IsOfText}
+use Rattle.streetmap_loading.specs.Prints.{line_of, IsWriteStop, Prints}
 use Rattle.streetmap_loading.specs.TextPrints.{lines_of, PrintsBefore, PrintsInto, PrintsBy}
 use Rattle.streetmap_loading.specs.declared.sink.Stop.{Stop}
 use Rattle.streetmap_loading.specs.declared.sink.Stop.TheVariants as stops
@@ -19,7 +19,7 @@ use Rattle.streetmap_loading.specs.declared.end.Loaded.{Loaded}
 use Rattle.streetmap_loading.specs.declared.end.End.{End}
 use Rattle.streetmap_loading.specs.declared.end.End.TheVariants.{All, AtFault, ReadFailed, Memory}
 use Rattle.streetmap_loading.specs.declared.end.End.TheVariants.{Refused, Stopped, WriteFailed}
-use Rattle.streetmap_text_lines.proofs.WriteLemmas.{beginning_behind}
+use Rattle.streetmap_text_lines.proofs.WriteLemmas.{beginning_after}
 
 module _ {S : Type 0} (contents : S → Option (List ℕ)) where
   abbrev pub prints : S → BatchValue → Result (Option ℕ) Stop → S → Type 0
@@ -57,7 +57,7 @@ module _ {S : Type 0} (contents : S → Option (List ℕ)) where
       are_left = e.are_left;
       batch = e.batch;
       next = e.next;
-      written = beginning_behind (contents first) (contents it.ends.mid) (contents last)
+      written = beginning_after (contents first) (contents it.ends.mid) (contents last)
           (lines_of it.ends.sent) (line_of e.batch) written e.refused.1;
     }
 
@@ -68,12 +68,12 @@ module _ {S : Type 0} (contents : S → Option (List ℕ)) where
     by_end ReadFailed e = within e
     by_end Memory e = within e
     by_end (Refused why place) e = refused (take (length e.batch.edits) (places_of e.left)) e.stop
-        e.refused.0 e.told where
+        e.refused.0 e.reported where
           refused : {P : Type 0} (placed : List (Option ℕ)) (stop : Stop) → IsWriteStop stop →
               Refused why place ≡ end_of_stop placed stop → P
-          refused placed (stops.Refused reason inner) h told = absurd h
-          refused placed (stops.Stopped fault) h told = cc
-          refused placed stops.WriteFailed h told = cc
+          refused placed (stops.Refused reason inner) h reported = absurd h
+          refused placed (stops.Stopped fault) h reported = cc
+          refused placed stops.WriteFailed h reported = cc
     by_end (Stopped fault) e = at_batch (Stopped fault) e
     by_end WriteFailed e = at_batch WriteFailed e
 
@@ -85,7 +85,7 @@ never : {P : Type 0} (stop : Stop) (result : Result (Option ℕ) Stop) → resul
     result ≡ Ok None → P
 never stop result e f = cc
 
--- batches that are all let go end nothing
+-- a load whose batches are all dropped does not end at a batch
 module _ {S : Type 0} where
   abbrev pub lets_go : S → BatchValue → Result (Option ℕ) Stop → S → Type 0
   lets_go old b result new = result ≡ Ok None

@@ -8,7 +8,7 @@ use Rattle.streetmap_batch.specs.BatchValue.{EditValue, BatchValue}
 use Rattle.streetmap_batch.specs.BatchView.{batch_value}
 use Rattle.streetmap_batch.specs.declared.batch.Batch.{Batch}
 use Rattle.streetmap_packing.specs.Packs.{numbered, numbered_all, passes, PacksFirst}
-use Rattle.streetmap_packing.specs.Packing.{Packing}
+use Rattle.streetmap_packing.specs.PackingState.{Packing}
 use Rattle.streetmap_packing.specs.PackerView as packers
 use Rattle.streetmap_packing.specs.PackerView.{packing, Adds}
 use Rattle.streetmap_packing.specs.Underway.{packing_at, Underway}
@@ -19,8 +19,8 @@ use Rattle.streetmap_packing.proofs.PackLemmas.{shorter}
 use Rattle.streetmap_loading.specs.Places.{PlacedValue, edits_of, places_of, text_place}
 use Rattle.streetmap_loading.specs.Sinks.{SinkTakesAll}
 use Rattle.streetmap_loading.specs.Ends.{AreLeft, IsNext, ByEnd, EndsBy, end_of_stop}
-use Rattle.streetmap_loading.specs.Sending.{IsSending, Sends, SendsWhenFull, TakesEdit, EndsAtEdit, IsBehind}
-use Rattle.streetmap_loading.specs.declared.sending.Sending.{Sending}
+use Rattle.streetmap_loading.specs.LoadProgress.{IsSending, Sends, SendsWhenFull, TakesEdit, EndsAtEdit, EndsAtOrAfterEdit}
+use Rattle.streetmap_loading.specs.declared.progress.Sending.{Sending}
 use Rattle.streetmap_loading.specs.declared.sink.Stop.{Stop}
 use Rattle.streetmap_loading.specs.declared.sink.Stop.TheVariants as stops
 use Rattle.streetmap_loading.specs.declared.text_fault.TextFault.{TextFault}
@@ -30,14 +30,14 @@ use Rattle.streetmap_loading.specs.declared.end.End.TheVariants.{Refused, Stoppe
 use Rattle.streetmap_loading.proofs.Sent.{length-numbered, edits-numbered, edits_more, one_numbered}
 use Rattle.streetmap_loading.proofs.Sent.{edits_of_more, places_of_more, first_places, takes_more}
 
-within_behind : (end : End) → EndsAtEdit end → IsBehind end
-within_behind All h = tt
-within_behind (AtFault fault) h = h
-within_behind ReadFailed h = h
-within_behind Memory h = h
-within_behind (Refused why place) h = h
-within_behind (Stopped fault) h = h
-within_behind WriteFailed h = h
+within_after : (end : End) → EndsAtEdit end → EndsAtOrAfterEdit end
+within_after All h = tt
+within_after (AtFault fault) h = h
+within_after ReadFailed h = h
+within_after Memory h = h
+within_after (Refused why place) h = h
+within_after (Stopped fault) h = h
+within_after WriteFailed h = h
 
 module _ {S : Type 0} (takes : S → BatchValue → Result (Option ℕ) Stop → S → Type 0) (each : ℕ)
     (key : Text) (first : S) (read : List PlacedValue) (l : Sending) (now : S)
@@ -89,7 +89,7 @@ module _ {S : Type 0} (takes : S → BatchValue → Result (Option ℕ) Stop →
     ends = how;
   }
 
-  -- for want of memory
+  -- out of memory
   pub ends_memory : EndsBy takes each key first now read l.batches l.taken l.serial Memory
   ends_memory = ends_here read now Memory
       (record { left = it.left; are_left = left_now; still = refl })
@@ -103,7 +103,7 @@ module _ {S : Type 0} (takes : S → BatchValue → Result (Option ℕ) Stop →
   ends_unread = ends_here read now ReadFailed
       (record { left = it.left; are_left = left_now; still = refl })
 
-  -- at a fault, where the batch under way is not full
+  -- at a fault, if the current batch is not full
   pub ends_at_fault : (fault : TextFault) → length (packing l.packer).edits < each →
       EndsBy takes each key first now read l.batches l.taken l.serial (AtFault fault)
   ends_at_fault fault few =
@@ -126,7 +126,7 @@ module _ {S : Type 0} (takes : S → BatchValue → Result (Option ℕ) Stop →
   next_is rest left e =
       (rest, e, ap (λ n. (numbered key (1 + n) (edits_of it.left)).key) (sym long))
 
-  -- at the batch under way
+  -- at the current batch
   stops_here : (es left ps : List PlacedValue) → AreLeft each key es sent left →
       left ≡ it.left ++ ps → IsNext key (1 + length sent) (edits_of left) batch →
       (places : List (Option ℕ)) → places ≡ places_of it.left → (stop : Stop) (last : S) → takes
@@ -140,9 +140,9 @@ module _ {S : Type 0} (takes : S → BatchValue → Result (Option ℕ) Stop →
         (sym (first_places it.left ps) ∙ ap
         (λ (t : List PlacedValue). take (length (edits_of it.left)) (places_of t)) (sym split))
 
-    told : (s : Stop) →
+    reported : (s : Stop) →
         end_of_stop places s ≡ end_of_stop (take (length (edits_of it.left)) (places_of left)) s
-    told s = ap (λ t. end_of_stop t s) front
+    reported s = ap (λ t. end_of_stop t s) front
 
     by : (s : Stop) → takes now batch (Err s) last →
         EndsBy takes each key first last es l.batches l.taken l.serial (end_of_stop places s) ×
@@ -157,7 +157,7 @@ module _ {S : Type 0} (takes : S → BatchValue → Result (Option ℕ) Stop →
             stop = stops.Refused
                 why place;
             refused = t;
-            told = told (stops.Refused why place);
+            reported = reported (stops.Refused why place);
           }),
       tt,
     )
@@ -171,7 +171,7 @@ module _ {S : Type 0} (takes : S → BatchValue → Result (Option ℕ) Stop →
             stop = stops.Stopped
                 fault;
             refused = t;
-            told = told (stops.Stopped fault);
+            reported = reported (stops.Stopped fault);
           }),
       tt,
     )
@@ -185,12 +185,12 @@ module _ {S : Type 0} (takes : S → BatchValue → Result (Option ℕ) Stop →
             stop =
                 stops.WriteFailed;
             refused = t;
-            told = told stops.WriteFailed;
+            reported = reported stops.WriteFailed;
           }),
       tt,
     )
 
-  -- the batch under way was taken
+  -- the current batch was taken
   goes_further :
       (es left : List PlacedValue) (done : List PlacedValue) (n : Sending) (last : S)
       (serial : Option ℕ) →
@@ -442,12 +442,12 @@ module _ {S : Type 0} (takes : S → BatchValue → Result (Option ℕ) Stop →
       packers.Finishes (packing l.packer) (Ok (Some b)) → places ≡ l.places.items →
       takes now (batch_value b) (Err stop) last → end ≡ end_of_stop places stop → EndsBy takes
       each
-      key first last read l.batches l.taken l.serial end × IsBehind end
-  finish_stop b stop last places end finishes places_are took told =
+      key first last read l.batches l.taken l.serial end × EndsAtOrAfterEdit end
+  finish_stop b stop last places end finishes places_are took reported =
       let says = subst (λ (x : Packing). packers.Finishes x (Ok (Some b))) it.is finishes in
       let stopped = stops_here read it.left [] left_now (sym (append-nil it.left))
       (next_is [] (edits_of it.left) (sym (append-nil (edits_of it.left))))
       places (places_are ∙ it.places) stop last
       (subst (λ (v : BatchValue). takes now v (Err stop) last) says.1 took) in
       subst (λ (x : End). EndsBy takes each key first last read l.batches l.taken l.serial x ×
-      IsBehind x) (sym told) (stopped.0, within_behind (end_of_stop places stop) stopped.1)
+      EndsAtOrAfterEdit x) (sym reported) (stopped.0, within_after (end_of_stop places stop) stopped.1)

@@ -4,10 +4,10 @@ use Rattle.std.proofs.Common.{Ok, Err, IfSome, option_map, refl, sym, ap, subst,
 use Rattle.std.specs.Str.Lines.{lines}
 use Rattle.streetmap_batch.specs.Text.{Text}
 use Rattle.streetmap_text_lines.specs.Lines.{first_too_long}
-use Rattle.streetmap_text_lines.specs.Reading.{WhereKnown, IsFirstLine}
+use Rattle.streetmap_text_lines.specs.LineReads.{WhereKnown, IsFirstLine}
 use Rattle.streetmap_loading.specs.Places.{PlacedValue}
 use Rattle.streetmap_loading.specs.Sources.{StaysKnown, AreAll, AreWithin}
-use Rattle.streetmap_loading.specs.Sending.{EndsAtEdit}
+use Rattle.streetmap_loading.specs.LoadProgress.{EndsAtEdit}
 use Rattle.streetmap_loading.specs.Loads.{Skips, SkippedAt}
 use Rattle.streetmap_loading.specs.declared.end.Loaded.{Loaded}
 use Rattle.streetmap_loading.specs.declared.end.End.{End}
@@ -29,7 +29,7 @@ pub stays_then : (a b c : Option ℕ) → StaysKnown a b → StaysKnown b c → 
 stays_then None b c p q = tt
 stays_then (Some n) b c p q = subst (λ x. StaysKnown x c) p q
 
--- what is said of the number that stayed is said of the first
+-- what holds for the number that stayed holds for the number before
 within_before : (a b : Option ℕ) (n : ℕ) → StaysKnown a b → AreWithin b n → AreWithin a n
 within_before None b n p q = tt
 within_before (Some m) b n p q = subst (λ x. AreWithin x n) p q
@@ -44,7 +44,7 @@ ends_count : (r : Rules) (fault : TextFault) (count : ℕ) → is_skipped r faul
     and_count r (Err fault) count ≡ 0
 ends_count r fault count not = rw not refl
 
--- as many are skipped in all
+-- the number skipped in all stays
 same_count : (s a b : ℕ) → a ≡ b → StaysKnown (Some (s + a)) (Some (s + b))
 same_count s a b e = ap (λ n. Some (s + n)) (sym e)
 
@@ -80,7 +80,7 @@ skipped_skips r s features (Some input) (Some rest) line fault first some is ski
 no_more : (s a : ℕ) → a ≡ 0 → s ≡ s + a
 no_more s a e = omega (arith, e)
 
--- one that is not
+-- a feature at fault that is not skipped
 pub fault_skips : (r : Rules) (s features : ℕ) (a b : Option Text) (line : Text)
     (fault : TextFault) → WhereKnown a b (λ input rest. IsFirstLine 8388608 input line rest) →
     text_on (features + 1) line ≢ [] →
@@ -103,7 +103,7 @@ long_skips r s features (Some input) h =
     (ap (count_skipped r) (here r (features + 1) (first_too_long 8388608 input) (lines input) h)
     ∙ ends_count r (LineTooLong (features + 1)) 0 (never_skipped r (features + 1)))
 
--- ---- where a load ended
+-- ---- how a load ended
 
 within_at : (n skipped : ℕ) (end : End) → EndsAtEdit end → skipped ≤ n → SkippedAt n skipped end
 within_at n skipped All at within = absurd at

@@ -10,14 +10,14 @@ use Rattle.streetmap_packing.proofs.Underway.{nothing}
 use Rattle.streetmap_loading.specs.Places.{PlacedValue}
 use Rattle.streetmap_loading.specs.Sources.{Item, TakesOff, HasNoItem, FirstIs, SourceGives}
 use Rattle.streetmap_loading.specs.Ends.{end_of_unread}
-use Rattle.streetmap_loading.specs.Sending.{Begins, IsSending, SendsWhenFull, TakesEdit, SendsTheRest, EndsAtEdit}
-use Rattle.streetmap_loading.specs.Sending.{IsBehind}
+use Rattle.streetmap_loading.specs.LoadProgress.{Begins, IsSending, SendsWhenFull, TakesEdit, SendsTheRest, EndsAtEdit}
+use Rattle.streetmap_loading.specs.LoadProgress.{EndsAtOrAfterEdit}
 use Rattle.streetmap_loading.specs.Loads.{Loads, AreTakenOff, ItemsBeginWith, items_of}
 use Rattle.streetmap_loading.specs.declared.sink.Stop.{Stop}
 use Rattle.streetmap_loading.specs.declared.source.Unread.{Unread}
 use Rattle.streetmap_loading.specs.declared.source.Unread.TheVariants as unread
 use Rattle.streetmap_loading.specs.declared.text_fault.TextFault.{TextFault}
-use Rattle.streetmap_loading.specs.declared.sending.Sending.{Sending}
+use Rattle.streetmap_loading.specs.declared.progress.Sending.{Sending}
 use Rattle.streetmap_loading.specs.declared.end.Loaded.{Loaded}
 use Rattle.streetmap_loading.specs.declared.end.End.{End}
 use Rattle.streetmap_loading.specs.declared.end.End.TheVariants.{All, AtFault, ReadFailed, Memory}
@@ -60,7 +60,7 @@ items_more : (ps : List PlacedValue) (p : PlacedValue) →
 items_more [] p = refl
 items_more (x ∷ ps) p = ap (λ t. Ok x ∷ t) (items_more ps p)
 
--- an end within is one at which the edits that were read are those that were taken off
+-- if a load ended at an edit, the edits that were read are those taken from the source
 are_within : (old now : Option (List Item)) (read : List PlacedValue) (end : End) → EndsAtEdit end →
     TakesOff old now (items_of read) → AreTakenOff old now read end
 are_within old now read All within taken = absurd within
@@ -71,18 +71,18 @@ are_within old now read (Refused why place) within taken = taken
 are_within old now read (Stopped fault) within taken = taken
 are_within old now read WriteFailed within taken = taken
 
-are_behind : (old now : Option (List Item)) (read : List PlacedValue) (end : End) → IsBehind end →
+are_after : (old now : Option (List Item)) (read : List PlacedValue) (end : End) → EndsAtOrAfterEdit end →
     TakesOff old now (items_of read) → HasNoItem old now → AreTakenOff old now read end
-are_behind old now read All behind taken none = (taken, none)
-are_behind old now read (AtFault fault) behind taken none = absurd behind
-are_behind old now read ReadFailed behind taken none = absurd behind
-are_behind old now read Memory behind taken none = front old now (items_of read) taken
-are_behind old now read (Refused why place) behind taken none = taken
-are_behind old now read (Stopped fault) behind taken none = taken
-are_behind old now read WriteFailed behind taken none = taken
+are_after old now read All following taken none = (taken, none)
+are_after old now read (AtFault fault) following taken none = absurd following
+are_after old now read ReadFailed following taken none = absurd following
+are_after old now read Memory following taken none = front old now (items_of read) taken
+are_after old now read (Refused why place) following taken none = taken
+are_after old now read (Stopped fault) following taken none = taken
+are_after old now read WriteFailed following taken none = taken
 
 module _ {S : Type 0} (takes : S → BatchValue → Result (Option ℕ) Stop → S → Type 0) where
-  -- so many edits were read, and what is done of them was sent
+  -- `count` edits were read, and their complete batches were sent
   pub record Reads (each : ℕ) (key : Text) (first last : S) (old now : Option (List Item))
       (count : ℕ) (l : Sending) : Type 0 where
     pub read : List PlacedValue
@@ -113,8 +113,8 @@ module _ {S : Type 0} (takes : S → BatchValue → Result (Option ℕ) Stop →
 
   module _ (each : ℕ) (key : Text) (first last : S) (old now : Option (List Item)) (count : ℕ)
       (l : Sending) (it : Reads each key first last old now count l) where
-    abbrev told : Sending → (edits skipped : ℕ) → End → Loaded
-    told m edits skipped end = record {
+    abbrev reported : Sending → (edits skipped : ℕ) → End → Loaded
+    reported m edits skipped end = record {
       edits = edits;
       batches = m.batches;
       taken = m.taken;
@@ -123,7 +123,7 @@ module _ {S : Type 0} (takes : S → BatchValue → Result (Option ℕ) Stop →
       end = end;
     }
 
-    -- the batch under way was looked at
+    -- the current batch was sent if it was full
     pub filled : (m : Sending) (next : S) → SendsWhenFull takes each key first it.read (Ok tt) m next →
         Reads each key first next old now count m
     filled m next fills = record
@@ -131,7 +131,7 @@ module _ {S : Type 0} (takes : S → BatchValue → Result (Option ℕ) Stop →
 
     pub not_filled : (m : Sending) (next : S) (skipped : ℕ) (end : End) →
         SendsWhenFull takes each key first it.read (Err end) m next →
-        Loads takes each key first next old now (told m count skipped end)
+        Loads takes each key first next old now (reported m count skipped end)
     not_filled m next skipped end fills = record {
       read = it.read;
       counted = it.counted;
@@ -166,7 +166,7 @@ module _ {S : Type 0} (takes : S → BatchValue → Result (Option ℕ) Stop →
         (later : Option (List Item)) (p : PlacedValue) (m : Sending) (next : S) (skipped : ℕ)
         (end : End) →
         TakesOff now later (Ok p ∷ []) → TakesEdit takes each key first it.read p (Err end) m next →
-        Loads takes each key first next old later (told m (count + 1) skipped end)
+        Loads takes each key first next old later (reported m (count + 1) skipped end)
     stops later p m next skipped end took puts = record {
       read = it.read ++ p ∷ [];
       counted = counted_more p;
@@ -187,16 +187,16 @@ module _ {S : Type 0} (takes : S → BatchValue → Result (Option ℕ) Stop →
         record {
           read = it.read;
           counted = it.counted ∙ sym edits;
-          are = are_behind old later
+          are = are_after old later
               it.read loaded.end finishes.1 taken
               (none_left old now later (items_of it.read) it.taken none);
           ends = finishes.0;
         }
 
-    -- the next one was not read, or is at fault
+    -- the next edit was not read, or is at fault
     pub not_read : (later : Option (List Item)) (u : Unread) (skipped : ℕ) →
         SourceGives now later (Err u) → length (packing l.packer).edits < each →
-        Loads takes each key first last old later (told l count skipped (end_of_unread u))
+        Loads takes each key first last old later (reported l count skipped (end_of_unread u))
     not_read later (unread.AtFault fault) skipped took few = record {
       read = it.read;
       counted = it.counted;
@@ -218,9 +218,9 @@ module _ {S : Type 0} (takes : S → BatchValue → Result (Option ℕ) Stop →
       ends = ends_memory takes each key first it.read l last it.sending;
     }
 
-    -- no more is read
+    -- no more edits are read
     pub too_many : (skipped : ℕ) →
-        Loads takes each key first last old now (told l count skipped ReadFailed)
+        Loads takes each key first last old now (reported l count skipped ReadFailed)
     too_many skipped = record {
       read = it.read;
       counted = it.counted;

@@ -1,4 +1,4 @@
--- Lines of a text, and what stands on them.
+-- Lines of a text, and the features on them.
 use Rattle.std.proofs.Common.{◌≡◌, ◌≢◌, ℕ, ◌+◌, ◌-◌, Bool, true, false, List, [], ◌∷◌, Option}
 use Rattle.std.proofs.Common.{None, Some, option_map, Ok, Err, IfSome, refl, sym, ap, subst, ◌∙◌}
 use Rattle.std.proofs.Common.{arith, eqb, length}
@@ -8,7 +8,7 @@ use Rattle.std.specs.Io.KnownBytes.{Keeps, IsAtEnd}
 use Rattle.std.specs.Str.Lines.{lines}
 use Rattle.streetmap_batch.specs.Text.{Text}
 use Rattle.streetmap_text_lines.specs.Lines.{first_too_long}
-use Rattle.streetmap_text_lines.specs.Reading.{WhereKnown, IsFirstLine}
+use Rattle.streetmap_text_lines.specs.LineReads.{WhereKnown, IsFirstLine}
 use Rattle.streetmap_loading.specs.Places.{PlacedValue}
 use Rattle.streetmap_loading.specs.Sources.{Item, TakesOff, HasNoItem, FirstIs, SourceGives}
 use Rattle.streetmap_loading.specs.Sources.{placed_value}
@@ -32,7 +32,7 @@ one_more_less : (o : Option ℕ) → one_less (option_map (λ n. 1 + n) o) ≡ o
 one_more_less None = refl
 one_more_less (Some n) = let e : 1 + n - 1 ≡ n = omega arith in ap Some e
 
--- what stands on the first line, and behind it
+-- the items of the first line, and of the lines after it
 on_line : (r : Rules) (place : ℕ) (o : Option ℕ) (line : Text) (rest : List Text) →
     all_on r place (option_map (λ n. 1 + n) o) (line ∷ rest) ≡ on_text r place
     (text_on place line) (all_on r place o rest) (all_on r (place + 1) o rest)
@@ -59,7 +59,7 @@ on_some r place (b ∷ bs) same next some = refl
 
 -- ---- one line
 
--- of all features, also those that are skipped
+-- for all features, including those that are skipped
 pub none_first : (r : Rules) (features : ℕ) (input line rest : Text) →
     IsFirstLine 8388608 input line rest → text_on (features + 1) line ≡ [] →
     all_in r features input ≡ all_in r features rest
@@ -108,7 +108,7 @@ faulty_more : (r : Rules) (fault : TextFault) (more : List Item) → is_skipped 
     and_more r (Err fault) more ≡ Err fault ∷ more
 faulty_more r fault more not = rw not refl
 
--- a feature at fault that is passed over
+-- a feature at fault that is skipped
 pub one_skipped : (r : Rules) (features : ℕ) (a b : Option Text) (line : Text) (fault : TextFault)
     →
     WhereKnown a b (λ input rest. IsFirstLine 8388608 input line rest) →
@@ -122,7 +122,7 @@ one_skipped r features (Some input) (Some rest) line fault first some is skipped
     ap (not_skipped r) (some_first r features input line rest (Err fault) first some is)
     ∙ skipped_more r fault (items_in r (features + 1) rest) skipped
 
--- one that is not
+-- a feature at fault that is not skipped
 pub one_fault : (r : Rules) (features : ℕ) (a b : Option Text) (line : Text) (fault : TextFault) →
     WhereKnown a b (λ input rest. IsFirstLine 8388608 input line rest) →
     text_on (features + 1) line ≢ [] → item_of_text r (features + 1) (text_on (features + 1) line)
@@ -137,7 +137,7 @@ one_fault r features (Some input) (Some rest) line fault first some is not = (
       ∙ faulty_more r fault (items_in r (features + 1) rest) not,
 )
 
--- no line
+-- no line is left
 pub no_items : (r : Rules) (features : ℕ) (input : Text) → input ≡ [] → all_in r features input ≡ []
 no_items r features input none = ap (λ t. all_in r features t) none
 
@@ -184,7 +184,7 @@ pub some_text : (text : Text) (b : Bool) → b ≡ eqb (length text) 0 → b ≡
 some_text [] b is off none = let h : true ≡ false = sym is ∙ off in cc
 some_text (x ∷ xs) b is off none = cc
 
--- ---- behind an opening
+-- ---- after an opening
 
 lift_off : (a b : Option (List Item)) (xs : List Item) → TakesOff a b xs →
     TakesOff (and_left None a) (and_left None b) xs
@@ -260,7 +260,7 @@ next_first old f a p mid fault before off first =
     (lift_first (items_left (rules_value old) f a) fault
     (past_first (items_left (rules_value old) f a) mid fault off first))
 
--- the next one is not read
+-- the next edit is not read
 pub next_unread :
     (old new : FeatureRules) (f n : ℕ) (a b : Option Text) (p q : Option PlacedEdit)
     (mid : Option (List Item)) (u : Unread) →

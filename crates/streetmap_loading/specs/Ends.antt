@@ -58,7 +58,7 @@ module _ {S : Type 0} (takes : S → BatchValue → Result (Option ℕ) Stop →
     pub next : IsNext key (1 + length sent) (edits_of left) batch
     pub stop : Stop
     pub refused : takes mid batch (Err stop) last
-    pub told : end ≡ end_of_stop (take (length batch.edits) (places_of left)) stop
+    pub reported : end ≡ end_of_stop (take (length batch.edits) (places_of left)) stop
 
   -- the edits that remain are part of a batch, and none of them was sent
   pub record EndsWithinBatch (each : ℕ) (key : Text) (read : List PlacedValue)

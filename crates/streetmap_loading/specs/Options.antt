@@ -48,7 +48,7 @@ opening_of collection title time =
     named is_collection_id collection >>= λ c.
     (title_of c title >>= λ t. (time_of time >>= λ p. Ok (edit.«open» c t p)))
 
--- the opening, if the options ask for one; it has no place in the text
+-- the opening, if the options include one; it has no place in the text
 abbrev pub opening_if : Text → Option Opening → Result (Option PlacedValue) LoadFault
 opening_if collection None = Ok None
 opening_if collection (Some o) =
@@ -100,14 +100,14 @@ abbrev pub skipping : LoadValue → Option Text → LoadValue
 skipping l property = record l { rules = record l.rules { skip = Some property } }
 
 -- a fault other than memory is that of the options
-abbrev pub FaultAsAsked : {Y : Type 0} → LoadFault → Result Y LoadFault → Type 0
-FaultAsAsked Memory asked = Unit {0}
-FaultAsAsked e asked = asked ≡ Err e
+abbrev pub FaultAsRequested : {Y : Type 0} → LoadFault → Result Y LoadFault → Type 0
+FaultAsRequested Memory requested = Unit {0}
+FaultAsRequested e requested = requested ≡ Err e
 
 -- the result, seen by view, is that of the options, unless memory ran out
-abbrev pub AsAsked : {X Y : Type 0} → (X → Y) → Result X LoadFault → Result Y LoadFault → Type 0
-AsAsked view (Ok x) asked = asked ≡ Ok (view x)
-AsAsked view (Err e) asked = FaultAsAsked e asked
+abbrev pub AsRequested : {X Y : Type 0} → (X → Y) → Result X LoadFault → Result Y LoadFault → Type 0
+AsRequested view (Ok x) requested = requested ≡ Ok (view x)
+AsRequested view (Err e) requested = FaultAsRequested e requested
 
 -- ---- its edits
 
@@ -115,7 +115,7 @@ abbrev pub IsOpening : EditValue → Type 0
 IsOpening (edit.«open» collection title time) = Unit {0}
 IsOpening _ = ⊥
 
--- the opening, if there is one
+-- the opening, if any
 abbrev pub opening_items : Option PlacedValue → List Item
 opening_items None = []
 opening_items (Some p) = Ok p ∷ []

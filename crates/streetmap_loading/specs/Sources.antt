@@ -47,14 +47,14 @@ abbrev pub StaysKnown : Option ℕ → Option ℕ → Type 0
 StaysKnown None new = Unit {0}
 StaysKnown (Some n) new = new ≡ Some n
 
--- these are as many, if it is known how many there are; or at most as many
+-- this is the number that is known, if one is; or at most that number
 abbrev pub AreAll : Option ℕ → ℕ → Type 0
 AreAll all n = IfSome all (λ m. n ≡ m)
 
 abbrev pub AreWithin : Option ℕ → ℕ → Type 0
 AreWithin all n = IfSome all (λ m. n ≤ m)
 
--- as many features are skipped in all as before; at the end and at a fault all of these were
+-- the number skipped in all stays known; at the end and at a fault it is the number skipped so far
 abbrev pub SourceSkips : Option ℕ → Option ℕ → ℕ → Result (Option PlacedEdit) Unread → Type 0
 SourceSkips old new skipped (Ok (Some placed)) = StaysKnown old new
 SourceSkips old new skipped (Ok None) = AreAll old skipped

@@ -9,7 +9,7 @@ use Rattle.streetmap_loading.specs.Places.{PlacedValue, edits_of}
 use Rattle.streetmap_loading.specs.Ends.{AreLeft, IsNext}
 use Rattle.streetmap_loading.specs.KeeperLoads.{AreRead}
 use Rattle.streetmap_loading.specs.Options.{LoadValue, load_items}
-use Rattle.streetmap_loading.specs.Printing.{line_of}
+use Rattle.streetmap_loading.specs.Prints.{line_of}
 use Rattle.streetmap_loading.specs.declared.end.Loaded.{Loaded}
 use Rattle.streetmap_loading.specs.declared.end.End.{End}
 use Rattle.streetmap_loading.specs.declared.end.End.TheVariants.{All, AtFault, ReadFailed, Memory}

@@ -1,4 +1,4 @@
--- The edits of a text with a feature a line: a GeoJSON text sequence (RFC 8142), or lines alone.
+-- The edits of a text, one feature per line: a GeoJSON text sequence (RFC 8142), or lines alone.
 use Rattle.std.specs.Prelude.{ℕ, ◌+◌, ◌-◌, Bool, true, false, ◌&&◌, ◌==◌, nat_le, List, []}
 use Rattle.std.specs.Prelude.{◌∷◌, length, take, drop, nat_eq, codes, decimal, is_some, Option}
 use Rattle.std.specs.Prelude.{None, Some, option_map, Result, Ok, Err, if◌then◌else◌}
@@ -9,7 +9,7 @@ use Rattle.serde_json.specs.Find.{get}
 use Rattle.serde_json.specs.Written.{compact_text}
 use Rattle.streetmap_geojson.specs.FeatureValue.{FeatureValue}
 use Rattle.streetmap_geojson.specs.Fault.{◌>>=◌}
-use Rattle.streetmap_geojson.specs.FeatureReading.{feature}
+use Rattle.streetmap_geojson.specs.ParsedFeatures.{feature}
 use Rattle.streetmap_geojson.specs.Collection.{is_collection}
 use Rattle.streetmap_geojson.specs.Times.{time_of, as_fault}
 use Rattle.streetmap_geojson.specs.declared.fault.Fault.{Fault}
@@ -181,7 +181,7 @@ abbrev pub one_less : Option ℕ → Option ℕ
 one_less None = None
 one_less (Some n) = Some (n - 1)
 
--- the items of the features on lines, the next one at this place, also of those that are skipped;
+-- the items of the features on lines, the next one at this place, including skipped features;
 -- the line after `long` lines, if that is given, is too long
 abbrev pub all_on : Rules → ℕ → Option ℕ → List Text → List Item
 all_on r place long [] = if is_here long then Err (LineTooLong place) ∷ [] else []

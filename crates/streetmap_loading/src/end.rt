@@ -20,8 +20,8 @@ pub enum End {
     ReadFailed,
     /// Out of memory.
     Memory,
-    /// The next batch was refused, with the place in the text of the feature at fault, if there is
-    /// one.
+    /// The next batch was refused; with the place in the text of the feature at fault, if a
+    /// feature is.
     Refused(Refusal, Option<u64>),
     /// The keeper gave no reply to the next batch.
     Stopped(Fault),

@@ -28,7 +28,7 @@ impl FeatureFault {
         }
     }
 
-    /// The sentence on it, empty if there is none.
+    /// The sentence on it; empty if it has none.
     #[tactic(auto, unfolding(crate::specs::EndCodes::cause_description))]
     pub fn description(&self) -> &'static str
         ensures { result.now ≡ cause_description self.now }

@@ -17,8 +17,8 @@ ghost use Rattle.streetmap_loading.specs.declared.feature_fault.FeatureFault.The
 ghost use Rattle.streetmap_loading.specs.declared.source.Unread.TheVariants.{AtFault};
 ghost use Rattle.streetmap_loading.specs.declared.text_fault.TextFault.TheVariants.{BadFeature};
 
+use crate::edit_length::text_len;
 use crate::feature_fault::FeatureFault;
-use crate::measuring::text_len;
 use crate::rules::{FeatureRules, HeldTimes};
 use crate::source::{PlacedEdit, Unread};
 use crate::text_fault::TextFault;

@@ -10,7 +10,7 @@ pub struct KeeperSink<K: Keeper> {
 }
 
 impl<K: Keeper> Sink for KeeperSink<K> {
-    ghost use Rattle.streetmap_loading.specs.Applying.{Applies};
+    ghost use Rattle.streetmap_loading.specs.AppliedBatches.{Applies};
 
     ghost takes = { λ old b result new. Applies K.model old.keeper b result new.keeper };
 

@@ -1,22 +1,22 @@
-//! Any number of features, loaded from a text with a feature a line: a GeoJSON text sequence (RFC
-//! 8142), or lines alone.
+//! Any number of features, loaded from a text with one feature per line: a GeoJSON text sequence
+//! (RFC 8142), or lines alone.
 //!
 //! `load_text` applies the features of a text to a keeper in batches K.1, K.2, .. of a key K.
 //! `specs/Texts` defines which features a text has, and which fault is the first; `specs/Packs` of
 //! `streetmap_packing` defines their batches; `specs/KeeperLoads` defines the state that the keeper
 //! then represents, and what a crash can leave; `Skips` of `specs/Loads` says how many features at
 //! fault were skipped. The laws say that the same load again changes nothing, and that a load which
-//! was stopped continues. `check_text` reads a text and loads nothing, `print_text` writes the
+//! was interrupted continues. `check_text` reads a text and loads nothing, `print_text` writes the
 //! batches instead of applying them.
 //!
 //! Modules, in the order of reading: `feature_fault`, `text_fault`, `source`, `sink`, `end`,
-//! `sending`, `whole`; `rules`, `listener`, `measuring`, `feature_line`, `text_edits`;
-//! `load_fault`, `load`, `opening`; `keeper_sink`, `loading`, `asking`, `checking`, `line_sink`,
-//! `printing`, `laws`.
+//! `progress`, `whole`; `rules`, `listener`, `edit_length`, `feature_line`, `text_edits`;
+//! `load_fault`, `load`, `opened_collection`; `keeper_sink`, `text_load`, `times`, `check`,
+//! `line_sink`, `prints`, `laws`.
 #![tactic(auto)]
 
-mod asking;
-mod checking;
+mod check;
+mod edit_length;
 mod end;
 mod feature_fault;
 mod feature_line;
@@ -26,20 +26,19 @@ mod line_sink;
 mod listener;
 mod load;
 mod load_fault;
-mod loading;
-mod measuring;
-mod opening;
-mod printing;
+mod opened_collection;
+mod prints;
+mod progress;
 mod rules;
-mod sending;
 mod sink;
 mod source;
 mod text_edits;
 mod text_fault;
+mod text_load;
+mod times;
 mod whole;
 
-pub use asking::ask_times;
-pub use checking::check_text;
+pub use check::check_text;
 pub use end::{End, Loaded};
 pub use feature_fault::FeatureFault;
 pub use keeper_sink::KeeperSink;
@@ -47,11 +46,12 @@ pub use line_sink::LineSink;
 pub use listener::Listener;
 pub use load::{Load, LoadOptions, MAX_KEY, Opening};
 pub use load_fault::LoadFault;
-pub use loading::{load_text, send_text};
-pub use printing::print_text;
+pub use prints::print_text;
 pub use rules::{FeatureRules, HeldTimes};
 pub use sink::{Sink, Stop};
 pub use source::{Edits, PlacedEdit, Unread};
 pub use text_edits::{MAX_LINE, TextEdits};
 pub use text_fault::TextFault;
+pub use text_load::{load_text, send_text};
+pub use times::read_times;
 pub use whole::{MAX_EDITS, send_all};

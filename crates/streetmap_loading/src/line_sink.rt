@@ -6,7 +6,7 @@ use streetmap_batch::Batch;
 use streetmap_ledger::Fault;
 use streetmap_text_lines::WriteFault;
 
-/// A writer that the texts of batches are written to, one a line.
+/// A writer that the texts of batches are written to, one per line.
 #[derive(Drop)]
 pub struct LineSink<W: Write> {
     pub alloc: Global,
@@ -14,7 +14,7 @@ pub struct LineSink<W: Write> {
 }
 
 impl Stop {
-    ghost use Rattle.streetmap_loading.specs.Printing.{IsWriteStop};
+    ghost use Rattle.streetmap_loading.specs.Prints.{IsWriteStop};
 
     /// Why a batch was not written.
     fn of_write(fault: WriteFault) -> Stop
@@ -44,7 +44,7 @@ ghost use Rattle.std.specs.Io.KnownBytes.{Appends};
 ghost use Rattle.streetmap_batch.specs.BatchText.{batch_text};
 ghost use Rattle.streetmap_batch.specs.BatchView.{batch_value};
 ghost use Rattle.streetmap_text_lines.specs.Written.{AppendsBeginning};
-ghost use Rattle.streetmap_loading.specs.Printing.{IsWriteStop};
+ghost use Rattle.streetmap_loading.specs.Prints.{IsWriteStop};
 
 /// Writes bytes.
 fn write_bytes<W: Write>(writer: &mut W, bytes: &[u8]) -> Result<(), Stop>
@@ -84,7 +84,7 @@ fn batch_line(alloc: Global, batch: &Batch) -> Result<String, AllocError>
 }
 
 impl<W: Write> Sink for LineSink<W> {
-    ghost use Rattle.streetmap_loading.specs.Printing.{Prints};
+    ghost use Rattle.streetmap_loading.specs.Prints.{Prints};
 
     ghost takes = { λ old b result new.
         Prints b result (W.contents old.writer) (W.contents new.writer) };

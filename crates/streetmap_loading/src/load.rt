@@ -3,14 +3,14 @@ ghost use Rattle.std.specs.Prelude.{◌≤◌, IsTrue, length, string_bytes};
 ghost use Rattle.streetmap_batch.specs.Names.{is_key, is_collection_id};
 
 use crate::load_fault::LoadFault;
-use crate::opening::read_opening;
+use crate::opened_collection::read_opening;
 use crate::rules::{FeatureRules, HeldTimes};
 use crate::source::PlacedEdit;
 use std::alloc::Global;
 use streetmap_batch::{is_collection_id, is_key};
 use streetmap_placing::Numbers;
 
-/// The most bytes of a load's key: after it there is room for each number.
+/// The most bytes of a load's key, which leaves room for any number after it.
 pub const MAX_KEY: usize = 44;
 
 /// The opening of a collection: its title, which is its id if none is given, and the property that
@@ -52,7 +52,7 @@ pub struct Load {
 }
 
 impl Load {
-    ghost use Rattle.streetmap_loading.specs.Options.{AsAsked, load_of, load_value, skipping};
+    ghost use Rattle.streetmap_loading.specs.Options.{AsRequested, load_of, load_value, skipping};
     ghost use Rattle.streetmap_loading.specs.TextView.{property_of};
     ghost use Rattle.std.specs.Prelude.{◌≡◌};
 
@@ -64,7 +64,7 @@ impl Load {
     /// to have no edit or more than 10,000; then `BadBatch`, if a name of the collection is not
     /// valid.
     pub fn new(alloc: Global, options: LoadOptions<'_>) -> Result<Load, LoadFault>
-        ensures { AsAsked load_value result (load_of options.entry) }
+        ensures { AsRequested load_value result (load_of options.entry) }
     {
         if !is_key(options.key) || options.key.len() > MAX_KEY {
             return Err(LoadFault::BadKey);

@@ -11,7 +11,7 @@ use streetmap_ledger::{Fault, Refusal};
 /// Why a batch was not taken.
 #[derive(Clone, Copy, PartialEq, Eq, Drop)]
 pub enum Stop {
-    /// It was refused, with the place in it of the edit at fault, counted from 1, if there is one.
+    /// It was refused; with the place in it of the edit at fault, counted from 1, if any.
     Refused(Refusal, Option<u64>),
     /// The keeper gave no reply to it.
     Stopped(Fault),

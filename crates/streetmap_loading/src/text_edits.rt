@@ -1,4 +1,4 @@
-//! Edits of the features of a text, one a line.
+//! Edits of the features of a text, one per line.
 ghost use Rattle.std.specs.Prelude.{◌≡◌, Option};
 ghost use Rattle.streetmap_loading.specs.Texts.{without_mark, without_separator, text_on};
 ghost use Rattle.streetmap_loading.specs.Texts.{without_return};
@@ -29,8 +29,8 @@ pub(crate) enum Step {
     End,
 }
 
-/// The edits of the features of a text, after the opening of their collection if there is one. The
-/// text has a feature a line: a record separator before it, a carriage return after it, empty lines
+/// The edits of the features of a text, after the opening of their collection, if any. The text
+/// has one feature per line: a record separator before it, a carriage return after it, empty lines
 /// and a byte order mark before the first are skipped.
 #[derive(Drop)]
 pub struct TextEdits<R: BufRead + Drop, L: Listener + Drop> {

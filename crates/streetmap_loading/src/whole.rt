@@ -4,7 +4,7 @@ ghost use Rattle.streetmap_batch.specs.Names.{is_key};
 ghost use Rattle.streetmap_loading.specs.Loads.{Loads, Skips};
 
 use crate::end::{End, Loaded};
-use crate::sending::Sending;
+use crate::progress::Sending;
 use crate::sink::Sink;
 use crate::source::{Edits, Unread};
 use std::alloc::Global;

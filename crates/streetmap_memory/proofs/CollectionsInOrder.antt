@@ -1,4 +1,4 @@
--- The collections that a map stands for, in the order of their ids.
+-- The collections that a map represents, in the order of their ids.
 use Rattle.std.proofs.Common.{◌≡◌, List, [], ◌∷◌, ◌++◌, Bool, true, false, cond, T, Option, Some, String, map, refl, sym, ap, ◌∙◌}
 use Rattle.std.specs.Option.{option_map}
 use Rattle.std.specs.String.{string_cmp}
@@ -45,16 +45,16 @@ entries_each es h =
     let up = sorted_each es h in
     ap entries (same_map nat_list_cmp_total one_text (collected_of es) (from_sorted (each_collected es)) (λ q. collected_gets es q ∙ (sym (find_each es q) ∙ sym (get-from_sorted text_cmp (each_collected es) q up)))) ∙ entries-from_sorted text_cmp (each_collected es) up
 
-told_each : (es : List (String Global × SlotCollection)) → map (λ e. summary_of e.0 e.1) (each_collected (by_text es)) ≡ map summary_at es
-told_each [] = refl
-told_each (e ∷ es) = ap (λ (ss : List SummaryValue). summary_at e ∷ ss) (told_each es)
+reported_each : (es : List (String Global × SlotCollection)) → map (λ e. summary_of e.0 e.1) (each_collected (by_text es)) ≡ map summary_at es
+reported_each [] = refl
+reported_each (e ∷ es) = ap (λ (ss : List SummaryValue). summary_at e ∷ ss) (reported_each es)
 
--- what is told of the collections of a map is what is told of its entries
-pub told_in_order : (es : List (String Global × SlotCollection)) → IsStrictlySortedBy string_cmp (keys_of es) → map (λ e. summary_of e.0 e.1) (entries (collections_of (map_of es))) ≡ map summary_at es
-told_in_order es h =
-    ap (λ xs. map (λ e. summary_of e.0 e.1) (entries (collected_of xs))) (entries_of es h) ∙ (ap (map (λ e. summary_of e.0 e.1)) (entries_each (by_text es) (ascending es h)) ∙ told_each es)
+-- the descriptions of the collections of a map are those of its entries
+pub reported_in_order : (es : List (String Global × SlotCollection)) → IsStrictlySortedBy string_cmp (keys_of es) → map (λ e. summary_of e.0 e.1) (entries (collections_of (map_of es))) ≡ map summary_at es
+reported_in_order es h =
+    ap (λ xs. map (λ e. summary_of e.0 e.1) (entries (collected_of xs))) (entries_of es h) ∙ (ap (map (λ e. summary_of e.0 e.1)) (entries_each (by_text es) (ascending es h)) ∙ reported_each es)
 
--- what was told, with one more
-pub told_last : (xs : List Summary) (x : Summary) (ys : List SummaryValue) → summary_values (xs ++ x ∷ []) ++ ys ≡ summary_values xs ++ summary_value x ∷ ys
-told_last [] x ys = refl
-told_last (y ∷ xs) x ys = ap (λ (ss : List SummaryValue). summary_value y ∷ ss) (told_last xs x ys)
+-- the descriptions so far, with one more
+pub reported_last : (xs : List Summary) (x : Summary) (ys : List SummaryValue) → summary_values (xs ++ x ∷ []) ++ ys ≡ summary_values xs ++ summary_value x ∷ ys
+reported_last [] x ys = refl
+reported_last (y ∷ xs) x ys = ap (λ (ss : List SummaryValue). summary_value y ∷ ss) (reported_last xs x ys)

@@ -22,7 +22,7 @@ grown_first ps None (Some v) h e none = absurd cc
 grown_first ps (Some b) None h e none = absurd cc
 grown_first ps (Some b) (Some v) h e none = subst (λ vs. IsExtent (vs ++ vertices v) (box_value b)) (sym none) (subst (IsExtent (vertices v)) (sym (ap (λ o. unwrap_or o (box_value b)) e)) (extent_is v h))
 
--- the bounds with those of one feature more
+-- the bounds with those of one more feature
 pub grown_next : (ps : List PositionValue) (b k : GridBox) (g : Option GeometryValue) → IsGeometryIf g → Some (box_value b) ≡ option_map extent_of g
     → ((qs : List PositionValue) → IsExtent qs (box_value b) → IsExtent (ps ++ qs) (box_value k)) → IsExtent (ps ++ option_map_or vertices g []) (box_value k)
 grown_next ps b k None h e wide = absurd cc

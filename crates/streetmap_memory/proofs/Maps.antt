@@ -53,7 +53,7 @@ module _ {X : Type 0} where
   map_cut es fs id keeps here = same_map nat_list_cmp_total one_text _ _ (λ q.
       get_of fs q ∙ (updated es fs id None keeps here q ∙ (ap (cond (eq_by_cmp text_cmp q id) None) (sym (get_of es q)) ∙ sym (get-remove nat_list_cmp_total (map_of es) id q))))
 
--- a slot that is there is written
+-- an existing slot is written
 pub reset_some : (title : Text) (time : Option Text) (es fs : List (String Global × Option FeatureValue)) (id : Text) (slot old : Option FeatureValue) → lookup (at_text id) es ≡ Some old → KeepsOthers (eq_by_cmp string_cmp) (at_text id) es fs → lookup (at_text id) fs ≡ Some slot → ◌≡◌ {A = SlotCollection} (record { title = title; time = time; slots = map_of fs }) (reset_slot (record { title = title; time = time; slots = map_of es }) id slot)
 reset_some title time es fs id slot old there keeps here =
     let s : SlotCollection = record { title = title; time = time; slots = map_of es } in

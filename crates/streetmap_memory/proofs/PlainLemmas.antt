@@ -34,7 +34,7 @@ is_full s b e full = ap (by_key s b) e ∙ ap (λ t. cond {A = Outcome} t (fresh
 pub is_fresh : (s : State) (b : BatchValue) → get s.keys b.key ≡ None → len s.keys < most_batches → act s b ≡ fresh s b (len s.keys + 1) (edited 1 s b.edits)
 is_fresh s b e room = ap (by_key s b) e ∙ ap (λ t. cond {A = Outcome} t (fresh s b (len s.keys + 1) (edited 1 s b.edits)) (record { reply = Refused Full None; state = s })) (less_true _ _ room)
 
--- a feature, by what its collection's slot has
+-- a feature, by what the slot of its collection holds
 pub feature_on : (t : SlotCollections) (keys : Keys) (name id : Text) (o : Option SlotCollection) → get t name ≡ o → feature_in (state_of t keys) name id ≡ option_and_then (λ (s : SlotCollection). option_flatten (get s.slots id)) o
 feature_on t keys name id o e = ap (option_and_then (λ (c : Collection). get c.features id)) (get_collection t name ∙ ap (option_map collected) e) ∙ go o where
   go : (o : Option SlotCollection) → option_and_then (λ (c : Collection). get c.features id) (option_map collected o) ≡ option_and_then (λ (s : SlotCollection). option_flatten (get s.slots id)) o

@@ -1,4 +1,4 @@
--- What the collections stand for, and edits taken back.
+-- What the collections represent, and edits taken back.
 use Rattle.std.proofs.Common.{◌≡◌, List, [], ◌∷◌, ◌++◌, Bool, true, false, cond, Option, None, Some, String, Result, Ok, Err, OnErr, refl, sym, ap, ◌∙◌}
 use Rattle.std.specs.Option.{option_map, option_flatten, option_and_then, is_some}
 use Rattle.std.specs.String.{string_cmp}
@@ -32,7 +32,7 @@ collection_same es fs name old new was keeps is e =
 pub slot_at : (es : List (String Global × SlotCollection)) (name id : Text) (o : Option SlotCollection) → lookup (at_text name) es ≡ o → slot_in (map_of es) name id ≡ option_and_then (λ (s : SlotCollection). get s.slots id) o
 slot_at es name id o e = ap (option_and_then (λ (s : SlotCollection). get s.slots id)) (get_of es name ∙ e)
 
--- ---- what the collections stand for
+-- ---- what the collections represent
 flat_choice : (b : Bool) (x : Option FeatureValue) (o : Option (Option FeatureValue)) → cond b x (option_flatten o) ≡ option_flatten (cond b (Some x) o)
 flat_choice true x o = refl
 flat_choice false x o = refl
@@ -103,7 +103,7 @@ any_err (Err e) P p = p
 pub collections_empty : collections_of empty ≡ empty
 collections_empty = same_map nat_list_cmp_total one_text _ _ (λ q. get_collection empty q ∙ (ap (option_map collected) (get-empty text_cmp q) ∙ sym (get-empty text_cmp q)))
 
--- what was put under a key that was not there is taken out again
+-- what was put under a new key is removed again
 pub cut_kept : {X : Type 0} (es fs gs : List (String Global × X)) (k q name : Text) (v : X) → k ≡ name → q ≡ name → map_of fs ≡ insert (map_of es) k v → get (map_of es) name ≡ None → KeepsOthers (eq_by_cmp string_cmp) (at_text q) fs gs → lookup (at_text q) gs ≡ None → map_of gs ≡ map_of es
 cut_kept es fs gs k q name v ke qe e none keeps here =
     map_cut fs gs q keeps here ∙ (ap (λ i. remove (map_of fs) i) qe ∙ (ap (λ m. remove m name) (e ∙ ap (λ i. insert (map_of es) i v) ke) ∙ remove_inserted (map_of es) name v none))

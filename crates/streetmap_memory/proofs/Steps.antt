@@ -95,7 +95,7 @@ open_step t keys name title time none =
 pub open_refused : (t : SlotCollections) (keys : Keys) (name title : Text) (time : Option Text) (c : SlotCollection) → get t name ≡ Some c → step (state_of t keys) (edit.«open» name title time) ≡ Err CollectionExists
 open_refused t keys name title time c e = ap (λ o. absent o CollectionExists >>= λ new. Ok (opened (state_of t keys) name title time)) (get_collection t name ∙ ap (option_map collected) e)
 
--- where the feature is there its slot is
+-- if the feature exists, its slot does
 pub reset_is_put : (t : SlotCollections) (name id : Text) (slot : Option FeatureValue) → found_in t name id ≡ found.There → reset_in t name id slot ≡ put_in t name id slot
 reset_is_put t name id slot h = go (get t name) h where
   at : (c : SlotCollection) (p : Option (Option FeatureValue)) → found_slot (option_flatten p) ≡ found.There → cond {A = SlotCollection} (is_some p) (put_slot c id slot) c ≡ put_slot c id slot

@@ -1,4 +1,4 @@
--- Empty slots taken out: the collections stand for the same.
+-- Empty slots are removed: the collections represent the same.
 use Rattle.std.proofs.Common.{◌≡◌, List, [], ◌∷◌, ◌++◌, Bool, true, false, cond, not, Option, None, Some, refl, sym, ap, ◌∙◌}
 use Rattle.std.specs.Option.{option_map, option_flatten, is_some}
 use Rattle.std.specs.Ordering.{is_eq}

@@ -132,7 +132,7 @@ module _ (a b : Text) (far : is_gt (text_cmp a b) ≡ true) where
       run_step a b e es
       ∙ (ap (λ t. cond t (e.1 ∷ rest) rest) (not_under e) ∙ none_backwards es)
 
--- ---- features that stand under their ids
+-- ---- features that are kept under their ids
 
 -- each that is found has the id that it is found under
 abbrev AllNamed : List Entry → Type 0
@@ -174,7 +174,7 @@ module _ (a b : Text) where
       ∙ ap (λ i. cond (is_ge (text_cmp i a) && is_le (text_cmp i b)) (e.1 ∷ fs) fs)
       (sym (first_named e es named)))
 
-  -- where features stand under their ids, those under the ids between two are the run
+  -- if features are kept under their ids, those under the ids between two are the run
   pub run_of_named : (c : Collection) → HoldsFeatures c
       → run_under a b (entries c.features) ≡ run_of a b c
   run_of_named c holds = run_named (entries c.features) (entries_sorted c.features)

@@ -19,7 +19,7 @@ use Rattle.streetmap_ledger.specs.declared.reply.Cause.{Cause}
 abbrev pub plain_state : PlainKeeper → State
 plain_state k = state_of (map_of k.collections.entries) (map_of k.keys.entries)
 
--- what a batch whose key is not there comes to
+-- the outcome of a batch with a new key
 abbrev pub outcome_of : BTreeMap (String Global) SlotCollection
     → BTreeMap (String Global) AcceptedBatch → BatchValue → ℕ → Outcome
 outcome_of collections keys b serial =
@@ -60,15 +60,15 @@ plain_model = record {
   cause = λ _. None;
   is_clean = λ _. Unit {0};
   applies = λ _ _ _ _. Unit {0};
-  spares = λ _ _. Unit {0};
+  preserves = λ _ _. Unit {0};
   fails = λ _ _. Unit {0};
   one_state = one_plain;
   shut_has_none = λ k s shut is. never_shut shut;
   may_leave_it = leaves_plain;
   leaves_it = λ k s is o left. left ∙ sym (leaves_plain k s is);
   well_formed = λ k s is. is.sound;
-  spares_itself = λ _. tt;
-  spares_then = λ _ _ _ _ _. tt;
+  preserves_itself = λ _. tt;
+  preserves_then = λ _ _ _ _ _. tt;
   fails_later = λ _ _ _ _ _ _. tt;
   fails_still = λ _ _ _ _ _ _. tt;
 }

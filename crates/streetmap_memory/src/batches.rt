@@ -24,7 +24,7 @@ fn copy_of(alloc: Global, key: &str, kept: &kept::KeptBatch) -> Result<KeptBatch
     })
 }
 
-/// The batch that was accepted with a serial; none if there is none.
+/// The batch that was accepted with a serial; none if no batch was.
 pub fn batch_with(
     alloc: Global,
     keys: &BTreeMap<String, kept::KeptBatch>,

@@ -53,7 +53,12 @@ impl Model for PlainCollection {
 
     ghost coded = { coded_slot_collection };
 
-    ghost view = { λ c. record { title = string_bytes c.title; time = option_map string_bytes c.time; slots = map_of c.slots.entries } };
+    ghost view = { λ c. record {
+      title = string_bytes c.title;
+      time =
+          option_map string_bytes c.time;
+      slots = map_of c.slots.entries;
+    } };
 }
 
 impl PlainCollection {
@@ -124,7 +129,7 @@ impl PlainCollection {
         Ok(self.slots.insert(id, Some(feature))?)
     }
 
-    /// Puts this into the slot at the id, if there is one, and returns what that was.
+    /// Puts this into the slot at the id, if it exists, and returns what the slot held.
     pub fn replace_slot(
         &mut self,
         id: &str,
@@ -217,7 +222,7 @@ impl PlainCollection {
     }
 }
 
-/// A text of its own, if there is one.
+/// A copy of a text, if any.
 pub fn owned(alloc: Global, text: Option<&str>) -> Result<Option<String>, AllocError>
     ensures { IfOk result (λ own. option_map string_bytes own ≡ option_copied text.entry) }
 {

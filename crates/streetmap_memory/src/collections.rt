@@ -190,13 +190,13 @@ pub fn summaries(
     alloc: Global,
     collections: &BTreeMap<String, PlainCollection>,
 ) -> Result<Vec<Summary>, AllocError>
-    ensures told { IfOk result (λ told. summary_values told.items
+    ensures reported { IfOk result (λ reported. summary_values reported.items
         ≡ map summary_at collections.now.entries) }
     ensures ordered { IsOrdered string_cmp collections.now }
 {
-    let mut told = Vec::new(alloc);
+    let mut reported = Vec::new(alloc);
     for (id, collection) in collections.iter() {
-        told.push(collection.summary(alloc, id.as_str())?)?;
+        reported.push(collection.summary(alloc, id.as_str())?)?;
     }
-    Ok(told)
+    Ok(reported)
 }

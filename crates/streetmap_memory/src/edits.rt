@@ -137,7 +137,7 @@ fn act_delete<'a>(
     }
 }
 
-/// The name of a time property, if there is one.
+/// The name of a time property, if any.
 fn name_of(time: &Option<TimeProperty>) -> Option<&str>
     ensures { option_copied result ≡ time.now }
 {

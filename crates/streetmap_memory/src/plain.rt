@@ -59,7 +59,7 @@ fn text_of(alloc: Global, batch: &Batch) -> Result<Bytes, AllocError>
     Bytes::from_string(text)
 }
 
-/// Keeps a batch under a key that is not there.
+/// Keeps a batch under a new key.
 fn keep(
     alloc: Global,
     keys: &mut BTreeMap<String, KeptBatch>,
@@ -80,7 +80,7 @@ fn keep(
     Ok(())
 }
 
-/// Acts on a batch whose key is not there.
+/// Acts on a batch with a new key.
 fn accept(
     alloc: Global,
     collections: &mut BTreeMap<String, PlainCollection>,
@@ -165,7 +165,7 @@ impl PlainKeeper {
     }
 
     fn summary_of(&self, id: &str) -> Result<Option<Summary>, AllocError>
-        ensures { IfOk result (λ told. option_map summary_value told
+        ensures { IfOk result (λ reported. option_map summary_value reported
             ≡ summary_in (plain_state self.now) id.now) }
     {
         match self.collections.get(id) {
@@ -186,7 +186,7 @@ impl PlainKeeper {
     }
 
     fn summaries_of(&self) -> Result<Vec<Summary>, AllocError>
-        ensures { IfOk result (λ told. summary_values told.items
+        ensures { IfOk result (λ reported. summary_values reported.items
             ≡ summaries_in (plain_state self.now)) }
     {
         summaries(self.alloc, &self.collections)

@@ -74,12 +74,12 @@ fn fill(alloc: Global, keeper: &mut PlainKeeper) -> Result<(), Fail> {
 }
 
 #[test]
-fn pages_tell_how_many_they_examined(rt: HostRuntime) -> Result<(), Fail> {
+fn pages_report_how_many_they_examined(rt: HostRuntime) -> Result<(), Fail> {
     let mut keeper = PlainKeeper::new(rt.alloc());
     fill(rt.alloc(), &mut keeper)?;
     for (query, count) in EXAMINED {
-        let told = examined(rt.alloc(), &mut keeper, query)?;
-        assert!(rt; told == Some(*count), "at {query}");
+        let reported = examined(rt.alloc(), &mut keeper, query)?;
+        assert!(rt; reported == Some(*count), "at {query}");
     }
     Ok(())
 }
@@ -89,8 +89,8 @@ fn runs_have_the_first_and_the_last_feature(rt: HostRuntime) -> Result<(), Fail>
     let mut keeper = PlainKeeper::new(rt.alloc());
     fill(rt.alloc(), &mut keeper)?;
     for (first, last, ids) in RUNS {
-        let told = run_ids(rt.alloc(), &mut keeper, "street", first, last)?;
-        assert!(rt; told.as_deref() == Some(*ids), "from {first} to {last}");
+        let reported = run_ids(rt.alloc(), &mut keeper, "street", first, last)?;
+        assert!(rt; reported.as_deref() == Some(*ids), "from {first} to {last}");
     }
     Ok(())
 }
@@ -99,7 +99,7 @@ fn runs_have_the_first_and_the_last_feature(rt: HostRuntime) -> Result<(), Fail>
 fn a_collection_that_is_not_open_has_no_run(rt: HostRuntime) -> Result<(), Fail> {
     let mut keeper = PlainKeeper::new(rt.alloc());
     fill(rt.alloc(), &mut keeper)?;
-    let told = run_ids(rt.alloc(), &mut keeper, "square", "A", "F")?;
-    assert!(rt; told.is_none());
+    let reported = run_ids(rt.alloc(), &mut keeper, "square", "A", "F")?;
+    assert!(rt; reported.is_none());
     Ok(())
 }

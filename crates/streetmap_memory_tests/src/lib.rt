@@ -18,4 +18,4 @@ mod readers;
 #[cfg(test)]
 mod refused_memory;
 #[cfg(test)]
-mod sending;
+mod senders;

@@ -28,7 +28,7 @@ fn interrupted_reads_are_made_again(rt: HostRuntime) {
 }
 
 #[test]
-fn a_failed_read_is_told(rt: HostRuntime) {
+fn a_failed_read_is_reported(rt: HostRuntime) {
     for reads in 0..54 {
         let mut reader = Steps {
             rest: STREAM,

@@ -1,11 +1,11 @@
--- The calendar's day behind three numbers.
+-- The calendar day of three numbers.
 use Rattle.std.proofs.Common.{◌≡◌, ℕ, zero, suc, ◌≤◌, pos, ℤ, Some, refl, arith}
 use Rattle.std.proofs.lemmas.Grind.{common_steps}
 use Rattle.jiff_core.specs.Calendar.{days_from_civil, days_in_month, day_count, days_of_years, days_of_months, IsCivilDate}
 use Rattle.jiff_core.proofs.CalendarLemmas.{days_from_civil-day_count, day_count_bounds, day_count-day_of_year, day_count-later_year}
 use Rattle.jiff_core.proofs.SignedLemmas.{signed_arith}
 use Rattle.streetmap_moment.specs.Range.{IsDayNumber}
-use Rattle.streetmap_moment.specs.Reading.{day_of}
+use Rattle.streetmap_moment.specs.DateTimeParts.{day_of}
 
 -- a day of the calendar is read as its number
 pub day_is : (y m d : ℕ) (year : ℤ) (month day : ℕ) → year ≡ pos y → month ≡ m → day ≡ d → 1 ≤ month → month ≤ 12 → 1 ≤ day → day ≤ days_in_month year month → Some (days_from_civil year month day) ≡ day_of y m d

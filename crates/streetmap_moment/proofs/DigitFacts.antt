@@ -5,7 +5,7 @@ use Rattle.std.proofs.lemmas.Grind.{common_steps}
 use Rattle.std.specs.Char.{is_ascii_digit}
 use Rattle.std.proofs.lemmas.Option.{cond_some}
 use Rattle.std.proofs.lemmas.Bool.Decides.{nat_tests}
-use Rattle.streetmap_moment.specs.Reading.{digit_at, digits_at, ◌>>=◌}
+use Rattle.streetmap_moment.specs.DateTimeParts.{digit_at, digits_at, ◌>>=◌}
 
 -- what was read, with more in front
 abbrev pub with_front : ℕ → Option (ℕ × List ℕ) → Option (ℕ × List ℕ)
@@ -16,7 +16,7 @@ unfolding digit_at
 digit_shorter [] n rest e = grind (arith, common_steps)
 digit_shorter (b ∷ text) n rest e = grind (arith, common_steps)
 
--- behind the digits
+-- after the digits
 pub digits_end : (unit : ℕ) (text : List ℕ) → digit_at text ≡ None → digits_at unit text ≡ Some (0, text)
 unfolding digit_at digits_at
 digits_end unit [] e = refl
@@ -41,6 +41,6 @@ digits_step total unit (b ∷ text) n rest e h =
     let parts = cond_some (is_ascii_digit b) (b - 48, text) (n, rest) e in
     let is_digit = parts.0 in
     let number : b - 48 ≡ n = ap (λ p. p.0) parts.1 in
-    let behind : text ≡ rest = ap (λ p. p.1) parts.1 in
+    let following : text ≡ rest = ap (λ p. p.1) parts.1 in
     let positive : (unit == 0) ≡ false = grind (arith, nat_tests) in
-    rw (is_digit, positive, ← number, ← behind) (front_more total ((b - 48) * unit) (digits_at (unit / 10) text))
+    rw (is_digit, positive, ← number, ← following) (front_more total ((b - 48) * unit) (digits_at (unit / 10) text))

@@ -93,7 +93,7 @@ both_not true b h k = absurd (h refl)
 both_not false true h k = absurd (k refl)
 both_not false false h k = refl
 
--- the test of meeting is true exactly where two intervals meet
+-- the test of meeting is true exactly if two intervals meet
 pub meets-is : (a b : IntervalValue) → IsTrue (meets a b) ↔ Meets a b
 meets-is a b = (
   λ h. let apart = neither _ _ h in (
@@ -125,7 +125,7 @@ includes-not_before a b n h k before =
     let first : IsInOrder (Some before.1) (Some n) = rw (before.3) at k.0 in
     absurd (omega (arith, ints, before.4))
 
--- intervals that are in order meet exactly where some moment lies in both
+-- intervals that are in order meet exactly if some moment lies in both
 pub meets-common : (a b : IntervalValue) → IsInterval a → IsInterval b → IsTrue (meets a b) ↔ HaveCommonMoment a b
 meets-common a b h k = (
   λ m. let apart = neither _ _ m in
@@ -133,7 +133,7 @@ meets-common a b h k = (
   λ c. (meets-is a b).1 (includes-not_before a b c.0 c.1 c.2, includes-not_before b a c.0 c.2 c.1),
 )
 
--- the same of a test that was made
+-- the same for the result of a test
 pub meets-by : (a b : IntervalValue) (r : Bool) → IsInterval a → IsInterval b → r ≡ meets a b → IsTrue r ↔ HaveCommonMoment a b
 meets-by a b r h k e = rw e (meets-common a b h k)
 

@@ -1,4 +1,4 @@
--- What is read as an interval is spelled so, and what is spelled so is read.
+-- What is read as an interval is spelled that way, and what is spelled that way is read.
 use Rattle.std.proofs.Common.{◌≡◌, ◌≢◌, ◌⊎◌, inl, inr, ℕ, suc, ◌+◌, ◌/◌, ◌%◌, ◌<◌, List, [], ◌∷◌, ◌++◌, length, take, drop, Option, Some, None, refl, ap, ◌∙◌, sym, arith, true, false, ℤ, map}
 use Rattle.std.specs.Prelude.{option_map, ◌==◌, ◌||◌, not, codes}
 use Rattle.std.specs.Str.{bytes_eq}
@@ -15,7 +15,7 @@ use Rattle.streetmap_moment.specs.DateTime.{two_digits, four_digits, date_text, 
 use Rattle.streetmap_moment.specs.IntervalText.{OpenEnd, Dots, Nothing, IntervalText, Instant, Between, Since, Until, open_text, interval_text, HasDateTimes, interval_meant, IsIntervalText}
 use Rattle.streetmap_moment.specs.IntervalValue.{IntervalValue}
 use Rattle.streetmap_moment.specs.Intervals.{is_slash, end_of, bounded, ends_of}
-use Rattle.streetmap_moment.specs.Reading.{moment_of}
+use Rattle.streetmap_moment.specs.DateTimeParts.{moment_of}
 use Rattle.streetmap_moment.proofs.TextFacts.{bind_is, via, option_map_some, moment_takes, moment_again}
 
 -- ---- no date-time has a slash in it
@@ -176,7 +176,7 @@ both_takes text front back None (Some n) i h a b e =
 both_takes text front back (Some s) (Some n) i h a b e =
     (Between a.0 b.0, (a.1, b.1), cc (h, a.2, b.2), sym (same_Some (interval (Some s) (Some n)) i e) ∙ (ap (λ k. interval (Some k) (Some n)) a.3 ∙ ap (λ k. interval (Some (moment_meant a.0)) (Some k)) b.3))
 
--- what is read is spelled so
+-- what is read is spelled that way
 pub ends_takes : (text : List ℕ) (i : IntervalValue) → ends_of text ≡ Some i → IsIntervalText text i
 unfolding ends_of interval
 ends_takes text i e =
@@ -208,7 +208,7 @@ instant_again a v =
     let whole : (position_or_len is_slash (date_time_text a) == length (date_time_text a)) ≡ true = eq-eqb _ _ (no_slash_position (date_time_text a) (moment_no_slash a v)) in
     rw (whole, moment_again a v) refl
 
--- what is spelled so is read
+-- what is spelled that way is read
 pub ends_again : (t : IntervalText) → HasDateTimes t → ends_of (interval_text t) ≡ Some (interval_meant t)
 ends_again (Instant a) v = instant_again a v
 ends_again (Between a b) v = both_again (date_time_text a) (date_time_text b) _ _ (moment_no_slash a v.0) (end_moment a v.0) (end_moment b v.1)

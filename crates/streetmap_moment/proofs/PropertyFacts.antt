@@ -1,17 +1,14 @@
--- What a time property's text is read as is an interval, and the reading agrees with the grammar, both ways.
-use Rattle.std.proofs.Common.{◌≡◌, ◌⊎◌, inl, inr, ℕ, ◌+◌, ◌-◌, ◌*◌, ◌/◌, ◌<◌, ◌≤◌, List, [], ◌∷◌, Option, Some, None, Result, Ok, Err, refl, ap, sym, subst, ◌∙◌, arith, ℤ, pos, neg_ℤ, ◌+ℤ◌, ◌-ℤ◌, ◌*ℤ◌, ◌≤ℤ◌, cond, true, false}
-use Rattle.std.specs.Prelude.{◌||◌, is_some, IsTrue}
+-- A time property's text is read as an interval, and the reading agrees with the grammar both ways.
+use Rattle.std.proofs.Common.{◌≡◌, inl, inr, ℕ, ◌+◌, ◌-◌, ◌*◌, ◌/◌, ◌<◌, ◌≤◌, List, [], ◌∷◌, Option, Some, None, Ok, refl, ap, sym, subst, ◌∙◌, arith, ℤ, pos, ◌+ℤ◌, ◌-ℤ◌, ◌*ℤ◌, ◌≤ℤ◌, false}
 use Rattle.std.specs.Option.{ForSome}
 use Rattle.std.specs.List.{AllByRecursion}
 use Rattle.std.proofs.lemmas.Bool.{cases_Bool}
 use Rattle.std.proofs.lemmas.Int.{ints}
 use Rattle.std.proofs.lemmas.Option.{same_Some, none-some}
 use Rattle.jiff_core.specs.Calendar.{days_from_civil}
-use Rattle.streetmap_moment.specs.declared.faults.TimeFault.{TimeFault}
-use Rattle.streetmap_moment.specs.declared.faults.TimeFault.TheVariants.{BadTime, EmptyInterval}
 use Rattle.streetmap_moment.specs.Range.{IsMoment, IsDayNumber, IsOffsetSeconds}
 use Rattle.streetmap_moment.specs.DateTime.{Offset, Zulu, SmallZulu, East, Spaced, West, DateTime, IsDay, IsOffset, IsDateTime, offset_seconds, fraction_meant, nanoseconds, moment_meant}
-use Rattle.streetmap_moment.specs.IntervalText.{OpenEnd, IntervalText, Instant, Between, Since, Until, HasDateTimes, interval_meant, IsIntervalText, IsFullDateText, IsPropertyText, day_interval}
+use Rattle.streetmap_moment.specs.IntervalText.{IntervalText, Instant, Between, Since, Until, HasDateTimes, interval_meant, IsIntervalText, IsFullDateText, IsPropertyText, day_interval}
 use Rattle.streetmap_moment.specs.IntervalValue.{IntervalValue, IsInterval, IsInOrder, starts_after}
 use Rattle.streetmap_moment.specs.Intervals.{ends_of, ordered_ends, interval_of, full_date_of, date_or_interval, property_of}
 use Rattle.streetmap_moment.proofs.DateFacts.{day_in_range}

@@ -1,4 +1,4 @@
--- What the readers of intervals and of time properties answer, in the words of the texts.
+-- The results of the readers of intervals and of time properties, in terms of the texts.
 use Rattle.std.proofs.Common.{◌≡◌, inl, inr, ℕ, List, [], ◌∷◌, ◌++◌, Option, Some, None, Result, Ok, Err, refl, ap, ◌∙◌, sym, arith, true, false, ℤ, pos, ◌<ℤ◌, IfOk, IfErr, ok_or}
 use Rattle.std.proofs.lemmas.Bool.{cases_Bool}
 use Rattle.std.proofs.lemmas.Option.{same_Some, none-some}
@@ -11,7 +11,7 @@ use Rattle.streetmap_moment.specs.DateTime.{IsMomentText, date_text, clock_text,
 use Rattle.streetmap_moment.specs.IntervalText.{OpenEnd, Dots, Nothing, IntervalText, Instant, Between, Since, Until, open_text, interval_text, HasDateTimes, IsIntervalText, IsFullDateText, IsPropertyText, day_interval, IsEmpty, IsFaultOf}
 use Rattle.streetmap_moment.specs.IntervalValue.{IntervalValue, starts_after, IsInOrder}
 use Rattle.streetmap_moment.specs.Intervals.{ends_of, ordered_ends, interval_of, full_date_of, date_or_interval, property_of}
-use Rattle.streetmap_moment.specs.Reading.{digit_at, two_digits_at, four_digits_at, date_at, ended, moment_of}
+use Rattle.streetmap_moment.specs.DateTimeParts.{digit_at, two_digits_at, four_digits_at, date_at, ended, moment_of}
 use Rattle.streetmap_moment.specs.Views.{moment_result, interval_value, interval_result}
 use Rattle.streetmap_moment.specs.declared.moments.Moment.{Moment}
 use Rattle.streetmap_moment.proofs.TextFacts.{bind_is, via, ended_takes_int, date_takes, date_again, moment_takes, moment_again}
@@ -110,7 +110,7 @@ full_read text i x =
     let day = days_from_civil (pos x.0) x.1 x.2 in
     (day, ap full_date_of x.4 ∙ bind_is (date_at (date_text x.0 x.1 x.2)) ended (day, []) _ (date_again x.0 x.1 x.2 [] x.3) refl, x.5)
 
--- behind the date of a date-time stands its separator
+-- a date-time has a separator after its date, so it is no full date
 moment_no_date : (t : DateTime) (rest : List ℕ) → IsDateTime t → full_date_of (date_time_text t ++ rest) ≡ None
 unfolding full_date_of
 moment_no_date t rest h =

@@ -1,4 +1,4 @@
--- What is read is spelled so, and what is spelled so is read.
+-- What is read is spelled that way, and what is spelled that way is read.
 use Rattle.std.proofs.Common.{◌≡◌, ◌≢◌, ◌⊎◌, inl, inr, ℕ, ◌+◌, ◌*◌, ◌/◌, ◌%◌, ◌-◌, ◌<◌, ◌≤◌, List, [], ◌∷◌, ◌++◌, length, Option, Some, None, refl, ap, ◌∙◌, sym, arith, true, false, ℤ, pos, neg_ℤ, zero, suc, ◌^◌, lit<, map}
 use Rattle.std.specs.Prelude.{option_map, ◌==◌, ◌||◌, nat_lt}
 use Rattle.std.specs.Char.{is_ascii_digit}
@@ -6,7 +6,7 @@ use Rattle.std.proofs.lemmas.Bool.{cases_Bool}
 use Rattle.std.proofs.lemmas.Option.{cond_some, option_and_then_some, some_pair_parts, same_Some, none-some}
 use Rattle.std.proofs.lemmas.Grind.{common_steps}
 use Rattle.std.proofs.lemmas.Bool.Decides.{nat_tests}
-use Rattle.streetmap_moment.specs.Reading.{◌>>=◌, digit_at, two_digits_at, four_digits_at, below_at, mark_at, day_of, is_date, date_at, clock_at, digits_at, fraction_at, hours_of, offset_of, moment_of, ended}
+use Rattle.streetmap_moment.specs.DateTimeParts.{◌>>=◌, digit_at, two_digits_at, four_digits_at, below_at, mark_at, day_of, is_date, date_at, clock_at, digits_at, fraction_at, hours_of, offset_of, moment_of, ended}
 use Rattle.std.specs.List.{AllByRecursion}
 use Rattle.std.proofs.Math.Nat.{one-le-pow}
 use Rattle.jiff_core.specs.Calendar.{days_from_civil, days_in_month}
@@ -16,7 +16,7 @@ use Rattle.std.proofs.Math.Nat.{pow-suc, mul-div_cancel}
 use Rattle.streetmap_moment.proofs.DateFacts.{day_is}
 use Rattle.streetmap_moment.specs.DateTime.{two_digits, four_digits, IsDay, date_text, clock_text, hour_and_minute, fraction_meant, fraction_text, Offset, Zulu, SmallZulu, East, Spaced, West, IsOffset, offset_text, offset_seconds, DateTime, IsDateTime, date_time_text, moment_meant, nanoseconds, IsMomentText}
 
--- a chain that gives a value has gone on from one
+-- a chain gives a value only if its first step gives one
 pub bind_some : {A B : Type 0} (o : Option A) (f : A → Option B) (y : B) → (o >>= f) ≡ Some y → (x : A) × (o ≡ Some x) × (f x ≡ Some y)
 bind_some None f y e = cc
 bind_some (Some x) f y e = (x, refl, e)
@@ -63,7 +63,7 @@ pub mark_again : (mark other b : ℕ) (rest : List ℕ) → (b ≡ mark) ⊎ (b 
 unfolding mark_at
 mark_again mark other b rest h = grind (arith, common_steps)
 
--- a chain whose first step gives x goes on from x
+-- a chain whose first step gives x continues from x
 pub bind_is : {A B : Type 0} (o : Option A) (f : A → Option B) (x : A) (r : Option B) → o ≡ Some x → f x ≡ r → (o >>= f) ≡ r
 bind_is o f x r e h = ap (λ k. k >>= f) e ∙ h
 
@@ -106,7 +106,7 @@ day_takes y m d z h e =
 pub day_again : (y m d : ℕ) → IsDay y m d → day_of y m d ≡ Some (days_from_civil (pos y) m d)
 day_again y m d h = sym (day_is y m d (pos y) m d refl refl refl h.month_from h.month_to h.day_from h.day_to)
 
--- a chain that gives a value has gone on from one
+-- a chain gives a value only if its first step gives one
 pub via : {A B P : Type 0} (f : A → Option B) (o : Option A) (y : B) → (o >>= f) ≡ Some y → ((x : A) → o ≡ Some x → f x ≡ Some y → P) → P
 via f o y e k = option_and_then_some f o y e k
 
@@ -191,7 +191,7 @@ hours_again h m a b =
 
 -- ---- the fraction
 
--- what the first of k digits counts, where the last counts 1
+-- the weight of the first of k digits, if the weight of the last is 1
 abbrev pub unit_of : ℕ → ℕ
 unit_of zero = 0
 unit_of (suc k) = 10 ^ k
@@ -215,7 +215,7 @@ digit_test : (b : ℕ) (text : List ℕ) (x : ℕ × List ℕ) → digit_at (b �
 unfolding digit_at
 digit_test b text x e = (cond_some (is_ascii_digit b) (b - 48, text) x e).0
 
--- a digit, and those behind it
+-- a digit, and those after it
 digits_more : (k b : ℕ) (text : List ℕ) → is_ascii_digit b ≡ true → digits_at (unit_of (suc k)) (b ∷ text) ≡ (digits_at (unit_of k) text >>= λ x. Some ((b - 48) * unit_of (suc k) + x.0, x.1))
 unfolding digits_at
 digits_more k b text h =
@@ -365,18 +365,18 @@ offset_no_point (East h m) = omega arith
 offset_no_point (Spaced h m) = omega arith
 offset_no_point (West h m) = omega arith
 
--- what is read is spelled so
+-- what is read is spelled that way
 pub moment_takes : (text : List ℕ) (n : ℤ) → moment_of text ≡ Some n → IsMomentText text n
 unfolding moment_of
 moment_takes text n e =
     via _ (date_at text) _ e (λ day day_is e.
-    via _ (mark_at 84 116 day.1) _ e (λ behind behind_is e.
-    via _ (clock_at behind) _ e (λ clock clock_is e.
+    via _ (mark_at 84 116 day.1) _ e (λ following after_is e.
+    via _ (clock_at following) _ e (λ clock clock_is e.
     via _ (fraction_at clock.1) _ e (λ fraction fraction_is e.
     via _ (offset_of fraction.1) _ e (λ offset offset_is e.
     let a = date_takes text day.1 day.0 day_is in
-    let b = mark_takes 84 116 day.1 behind behind_is in
-    let c = clock_takes behind clock.1 clock.0 clock_is in
+    let b = mark_takes 84 116 day.1 following after_is in
+    let c = clock_takes following clock.1 clock.0 clock_is in
     let d = fraction_takes clock.1 fraction.1 fraction.0 fraction_is in
     let f = offset_takes fraction.1 offset offset_is in
     let ends = same_Some (nanoseconds day.0 clock.0 fraction.0 offset) n e in (
@@ -386,7 +386,7 @@ moment_takes text n e =
       cc (ends, a.5, c.7, d.4, f.3),
     ))))))
 
--- what is spelled so is read
+-- what is spelled that way is read
 pub moment_again : (t : DateTime) → IsDateTime t → moment_of (date_time_text t) ≡ Some (moment_meant t)
 unfolding moment_of
 moment_again t h =

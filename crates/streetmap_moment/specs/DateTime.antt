@@ -15,7 +15,7 @@ pub data Offset : Type 0 where
   West : ℕ → ℕ → Offset
 
 -- RFC 3339 5.6, date-time: its fields. The separator is a byte; the fraction is the list of its
--- digits, empty if there is no point
+-- digits, empty without a point
 pub record DateTime : Type 0 where
   pub year : ℕ
   pub month : ℕ

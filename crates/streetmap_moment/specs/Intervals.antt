@@ -7,7 +7,7 @@ use Rattle.streetmap_moment.specs.declared.faults.TimeFault.{TimeFault}
 use Rattle.streetmap_moment.specs.declared.faults.TimeFault.TheVariants.{BadTime, EmptyInterval}
 use Rattle.streetmap_moment.specs.IntervalText.{day_interval}
 use Rattle.streetmap_moment.specs.IntervalValue.{IntervalValue, starts_after}
-use Rattle.streetmap_moment.specs.Reading.{date_at, ended, moment_of, ◌>>=◌}
+use Rattle.streetmap_moment.specs.DateTimeParts.{date_at, ended, moment_of, ◌>>=◌}
 
 -- the byte is a slash
 abbrev pub is_slash : ℕ → Bool
@@ -31,12 +31,12 @@ ends_of text =
     else (end_of (before_first is_slash text) >>= λ start.
     end_of (after_first is_slash text) >>= λ end. bounded start end)
 
--- the ends, unless there are none or the start is after the end
+-- the ends, unless they are missing or the start is after the end
 abbrev pub ordered_ends : Option IntervalValue → Result IntervalValue TimeFault
 ordered_ends None = Err BadTime
 ordered_ends (Some i) = if starts_after i.start i.end then Err EmptyInterval else Ok i
 
--- the interval of an interval text, or why there is none
+-- the interval of an interval text, or why it has none
 abbrev pub interval_of : List ℕ → Result IntervalValue TimeFault
 interval_of text = ordered_ends (ends_of text)
 
@@ -50,6 +50,6 @@ abbrev pub date_or_interval : Option ℤ → Result IntervalValue TimeFault
 date_or_interval None other = other
 date_or_interval (Some day) other = Ok (day_interval day)
 
--- the interval of the text of a time property, or why there is none
+-- the interval of the text of a time property, or why it has none
 abbrev pub property_of : List ℕ → Result IntervalValue TimeFault
 property_of text = date_or_interval (full_date_of text) (interval_of text)

@@ -6,8 +6,8 @@ ghost use Rattle.std.specs.Option.{ForSome};
 use crate::faults::TimeFault;
 use crate::moments::Moment;
 
-/// An interval of time, both ends included, as the parameter `datetime` of OGC 17-069 section
-/// 7.15.4 asks for. One of its two ends may be open.
+/// An interval of time, both ends included, as in the parameter `datetime` of OGC 17-069 section
+/// 7.15.4. One of its two ends may be open.
 ///
 /// The start is not after the end, and the two are not both open.
 #[derive(Clone, Copy, PartialEq, Eq)]

@@ -16,9 +16,9 @@ pub fn meeting_shares_a_second()
         → IsTrue (seconds_overlap a b) }
 {}
 
-/// What the text of a time property is read as is what the text says (RFC 3339, section 5.6, and
-/// OGC 17-069, section 7.15.4), and an interval; and a text is read as what it says, if that does
-/// not start after its end.
+/// If the text of a time property is read, the result is an interval and what the text says (RFC
+/// 3339, section 5.6, and OGC 17-069, section 7.15.4); and a text is read if what it says does not
+/// start after its end.
 pub fn property_texts_are_read_as_they_say()
     ensures read { (text : List ℕ) (i : IntervalValue) → property_of text ≡ Ok i
         → IsPropertyText text i × IsInterval i }

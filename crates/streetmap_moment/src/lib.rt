@@ -15,16 +15,16 @@
 //! - `faults`: why a text is refused.
 //! - `moments`: [`Moment`], with the range that the calendar gives it.
 //! - `intervals`: [`Interval`], its meeting and its seconds.
-//! - `reading`: the fields of a date-time, each read at the front of the rest of a text.
+//! - `fields`: the fields of a date-time, each read at the front of the rest of a text.
 //! - `texts`: the three readers.
 //! - [`laws`]: laws of the definitions, over plain values.
 #![tactic(auto)]
 
 mod faults;
+mod fields;
 mod intervals;
 pub mod laws;
 mod moments;
-mod reading;
 mod texts;
 
 pub use faults::TimeFault;

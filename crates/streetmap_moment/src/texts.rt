@@ -9,25 +9,25 @@ ghost use Rattle.streetmap_moment.specs.IntervalValue.{IntervalValue, IsInOrder}
 ghost use Rattle.streetmap_moment.specs.Intervals.{end_of, ends_of, full_date_of, interval_of};
 ghost use Rattle.streetmap_moment.specs.Intervals.{property_of};
 ghost use Rattle.streetmap_moment.specs.Range.{IsMoment, IsDayNumber};
-ghost use Rattle.streetmap_moment.specs.Reading.{moment_of};
+ghost use Rattle.streetmap_moment.specs.DateTimeParts.{moment_of};
 ghost use Rattle.streetmap_moment.specs.Views.{moment_value, moment_result, ends_value};
 ghost use Rattle.streetmap_moment.specs.Views.{interval_value, interval_result};
 
 use crate::faults::TimeFault;
+use crate::fields;
 use crate::intervals::Interval;
 use crate::moments::Moment;
-use crate::reading;
 
 // The moment of a whole text, if it is a date-time.
-#[tactic(auto, unfolding(crate::specs::Reading::moment_of))]
+#[tactic(auto, unfolding(crate::specs::DateTimeParts::moment_of))]
 fn date_time(text: &str) -> Option<Moment>
     ensures { option_map moment_value result ≡ moment_of text.now }
 {
-    let (day, rest) = reading::date(text.as_bytes())?;
-    let rest = reading::after_mark(b'T', b't', rest)?;
-    let (clock, rest) = reading::clock(rest)?;
-    let (fraction, rest) = reading::fraction(rest)?;
-    let offset = reading::offset(rest)?;
+    let (day, rest) = fields::date(text.as_bytes())?;
+    let rest = fields::after_mark(b'T', b't', rest)?;
+    let (clock, rest) = fields::clock(rest)?;
+    let (fraction, rest) = fields::fraction(rest)?;
+    let offset = fields::offset(rest)?;
     Some(Moment::at(day, clock, fraction, offset))
 }
 
@@ -69,7 +69,7 @@ fn full_date(text: &str) -> Option<i32>
     ensures value { result ≡ full_date_of text.now }
     ensures bound { IfSome result IsDayNumber }
 {
-    let (day, rest) = reading::date(text.as_bytes())?;
+    let (day, rest) = fields::date(text.as_bytes())?;
     if !rest.is_empty() {
         return None;
     }
@@ -122,7 +122,7 @@ pub fn read_moment(text: &str) -> Result<Moment, TimeFault>
 ///
 /// # Errors
 ///
-/// [`TimeFault::BadTime`] if the text is none of these, as `../..`, and
+/// [`TimeFault::BadTime`] if the text is none of these, such as `../..`, and
 /// [`TimeFault::EmptyInterval`] if the start is after the end.
 pub fn read_interval(text: &str) -> Result<Interval, TimeFault>
     // What is read is an interval text that means this interval.

@@ -19,7 +19,7 @@ use Rattle.streetmap_cells.specs.Envelopes.{IsEnvelopeOf, overlaps}
 use Rattle.streetmap_cells.proofs.Envelopes.{same_overlap}
 use Rattle.streetmap_cells.specs.declared.envelope.Envelope.{Envelope}
 use Rattle.streetmap_outlines.specs.Outlines.{IsOutlineOf, IsExtentIf, AreExtentsOf}
-use Rattle.streetmap_outlines.specs.Selecting.{IsWindowOf}
+use Rattle.streetmap_outlines.specs.Selections.{IsWindowOf}
 
 -- ---- one more
 module _ (es : List Envelope) (os : List KeptOutline) (i : ℕ) (e : Envelope) (o : KeptOutline) (len : length es ≡ i) (within : i < length os) (is : o ≡ get_or os i o) where
@@ -32,39 +32,39 @@ module _ (es : List Envelope) (os : List KeptOutline) (i : ℕ) (e : Envelope) (
   pub one_more : AreExtentsOf es os → IsExtentIf e o.extent → AreExtentsOf (es ++ e ∷ []) os
   one_more kept one k x y here there = elim (cases_lt k (length es)) [
     | inl before ↦ kept k x y (slice_get-get_or es k x before ∙ ap (λ v. Some v) (sym (get_or_append_left es (e ∷ []) x k before) ∙ get_or_from_slice_get (es ++ e ∷ []) k x x here)) there
-    | inr behind ↦
+    | inr following ↦
         let less : k < length (es ++ e ∷ []) = slice_get_within (es ++ e ∷ []) k x here in
-        let at : k ≡ length es = omega (arith, less, behind, length-append es (e ∷ [])) in
+        let at : k ≡ length es = omega (arith, less, following, length-append es (e ∷ [])) in
         let new : e ≡ x = sym (get_or-append_seam es e [] x) ∙ (ap (λ n. get_or (es ++ e ∷ []) n x) (sym at) ∙ get_or_from_slice_get (es ++ e ∷ []) k x x here) in
         subst (λ v. IsExtentIf v y.extent) new (subst (λ (v : KeptOutline). IsExtentIf e v.extent) (last_is y k (at ∙ len) there) one)
   ]
 
 -- ---- off the window
 
-module _ (window e : Envelope) (area : GridBox) (asked : IsEnvelopeOf window (box_value area)) where
+module _ (window e : Envelope) (area : GridBox) (requested : IsEnvelopeOf window (box_value area)) where
   -- what ends at the corner of the grid overlaps no box
   pub off_at_corner : e.x1 ≡ 0 → overlaps e window ≡ false
   off_at_corner at =
-      let corner = asked.west in
+      let corner = requested.west in
       let bound = area.west in
       let far : 0 < window.x0 = omega (arith, ints, corner, bound) in
       let off : nat_le window.x0 e.x1 ≡ false = rw at (lt-leb window.x0 0 far) in
       false_from_ne_true _ (λ on. both_ways (nat_le window.x0 e.x1) off (and_parts _ _ (and_parts _ _ on).1).0)
 
-  -- the kept extent overlaps the window where the geometry's overlaps the box
+  -- the kept extent overlaps the window if the geometry's extent overlaps the box
   pub overlaps_as : (extent : Option GridBox) (g : Option GeometryValue) → IsExtentIf e extent → option_map box_value extent ≡ option_map extent_of g → overlaps e window ≡ passes extent_overlaps g (Some (box_value area))
   overlaps_as None None kept same = off_at_corner kept
   overlaps_as None (Some v) kept same = absurd cc
   overlaps_as (Some box) None kept same = absurd cc
   overlaps_as (Some box) (Some v) kept same =
       let one : box_value box ≡ extent_of v = cc in
-      same_overlap e window (box_value box) (box_value area) kept asked ∙ ap (λ b. boxes_overlap b (box_value area)) one
+      same_overlap e window (box_value box) (box_value area) kept requested ∙ ap (λ b. boxes_overlap b (box_value area)) one
 
-pub overlaps_asked : (q : QueryValue) (window e : Envelope) (o : KeptOutline) (f : FeatureValue) → IsWindowOf q (Some window) → IsExtentIf e o.extent → IsOutlineOf o f → overlaps e window ≡ passes extent_overlaps f.geometry q.bbox
-overlaps_asked q window e o f (area, asked, is) kept known =
-    overlaps_as window e area is o.extent f.geometry kept (ap (λ (v : FeatureOutlineValue). v.extent) known) ∙ ap (passes extent_overlaps f.geometry) (sym asked)
+pub overlaps_requested : (q : QueryValue) (window e : Envelope) (o : KeptOutline) (f : FeatureValue) → IsWindowOf q (Some window) → IsExtentIf e o.extent → IsOutlineOf o f → overlaps e window ≡ passes extent_overlaps f.geometry q.bbox
+overlaps_requested q window e o f (area, requested, is) kept known =
+    overlaps_as window e area is o.extent f.geometry kept (ap (λ (v : FeatureOutlineValue). v.extent) known) ∙ ap (passes extent_overlaps f.geometry) (sym requested)
 
 pub off_window : (q : QueryValue) (window e : Envelope) (o : KeptOutline) (f : FeatureValue) → IsWindowOf q (Some window) → overlaps e window ≡ false → IsExtentIf e o.extent → IsOutlineOf o f → is_candidate q f ≡ false
-off_window q window e o f asked off kept known =
-    let none : passes extent_overlaps f.geometry q.bbox ≡ false = sym (overlaps_asked q window e o f asked kept known) ∙ off in
+off_window q window e o f requested off kept known =
+    let none : passes extent_overlaps f.geometry q.bbox ≡ false = sym (overlaps_requested q window e o f requested kept known) ∙ off in
     rw none refl

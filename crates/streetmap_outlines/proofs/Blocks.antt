@@ -6,7 +6,7 @@ use Rattle.std.proofs.lemmas.List.{take_more}
 use Rattle.std.proofs.lemmas.List.Elements.{All-more, All-pop}
 use Rattle.streetmap_cells.specs.Envelopes.{overlaps}
 use Rattle.streetmap_cells.specs.declared.envelope.Envelope.{Envelope}
-use Rattle.streetmap_outlines.specs.Within.{TellsWhetherMet, HasThreeBoundsIn}
+use Rattle.streetmap_outlines.specs.Within.{DecidesMeeting, HasThreeBoundsIn}
 
 -- a test counts as one, or as none
 pub one_or_none : (b : Bool) → cond b 1 0 ≤ 1
@@ -19,29 +19,29 @@ as_byte true = refl
 as_byte false = refl
 
 -- whether a fact holds of all elements so far, and of one more
-pub all_told_more : {X : Type 0} (P : X → Type 0) (xs : List X) (i : ℕ) (d : X) (so_far here : Bool)
+pub all_reported_more : {X : Type 0} (P : X → Type 0) (xs : List X) (i : ℕ) (d : X) (so_far here : Bool)
     → i < length xs → (so_far ≡ true ↔ All P (take i xs)) → (here ≡ true ↔ P (get_or xs i d))
     → (so_far && here) ≡ true ↔ All P (take (i + 1) xs)
-all_told_more P xs i d so_far here in' told tells = (
+all_reported_more P xs i d so_far here in' reported reports = (
   λ both.
       let parts = and_parts so_far here both in
-      All-more P xs i d in' (told.0 parts.0) (tells.0 parts.1),
+      All-more P xs i d in' (reported.0 parts.0) (reports.0 parts.1),
   λ all.
       let parts = All-pop P (take (i + 1) xs) (take i xs) (Some (get_or xs i d)) (take_more xs i d in') all in
-      and_from so_far here (told.1 parts.0) (tells.1 parts.1),
+      and_from so_far here (reported.1 parts.0) (reports.1 parts.1),
 )
 
--- an extent tells whether its geometry meets a window where it lies off it or has three bounds in it
+-- off a window, or with three bounds in it, an extent shows whether its geometry meets it
 pub off_or_three : (e w : Envelope) (on three : Bool) → on ≡ overlaps e w
     → (three ≡ true ↔ HasThreeBoundsIn e w)
-    → (not on || three) ≡ true ↔ TellsWhetherMet e w
-off_or_three e w on three is tells = (
+    → (not on || three) ≡ true ↔ DecidesMeeting e w
+off_or_three e w on three is reports = (
   λ h over. elim (or_cases (not on) three h) [
     | inl off ↦ absurd (both_ways on (not-true on off) (is ∙ over))
-    | inr in' ↦ tells.0 in'
+    | inr in' ↦ reports.0 in'
   ],
   λ met. elim (cases_Bool on) [
-    | inl over ↦ or_right (not on) three (tells.1 (met (sym is ∙ over)))
+    | inl over ↦ or_right (not on) three (reports.1 (met (sym is ∙ over)))
     | inr off ↦ or_left (not on) three (not_from_false on off)
   ],
 )

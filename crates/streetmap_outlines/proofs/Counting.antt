@@ -17,7 +17,7 @@ use Rattle.streetmap_query.specs.Views.{query_value}
 use Rattle.streetmap_query.specs.declared.queries.Query.{Query}
 use Rattle.streetmap_ledger.specs.State.{Features}
 use Rattle.streetmap_ledger.specs.Outlines.{FeatureOutlineValue}
-use Rattle.streetmap_ledger.specs.Pages.{passes, extent_overlaps, interval_asked, selects, selected, comes_after, is_candidate, candidates}
+use Rattle.streetmap_ledger.specs.Pages.{passes, extent_overlaps, requested_interval, selects, selected, comes_after, is_candidate, candidates}
 use Rattle.streetmap_ledger.specs.Folds.{IsFoldOf, AreHidden}
 use Rattle.streetmap_ledger.specs.declared.fold.PageFold.{PageFold}
 use Rattle.streetmap_outlines.specs.declared.kept.KeptOutline.{KeptOutline}
@@ -25,63 +25,63 @@ use Rattle.streetmap_ledger.proofs.Examining.{selected_are_candidates, candidate
 use Rattle.streetmap_cells.specs.Envelopes.{IsEnvelopeOf, overlaps}
 use Rattle.streetmap_cells.specs.declared.envelope.Envelope.{Envelope}
 use Rattle.streetmap_outlines.specs.Outlines.{IsOutlineOf, IsEntry, Pairs, LiesWithin, IsTimedBy, AllTimedBy, has_extent, IsExtentIf, AreExtentsOf, IsBounded}
-use Rattle.streetmap_outlines.specs.Selecting.{counts, IsCountedFor, SelectsCandidates, CountsWhole, AllComeAfter, TakesChunk}
-use Rattle.streetmap_outlines.specs.Within.{TellsWhetherMet}
+use Rattle.streetmap_outlines.specs.Selections.{counts, IsCountedFor, SelectsCandidates, CountsWhole, AllComeAfter, TakesChunk}
+use Rattle.streetmap_outlines.specs.Within.{DecidesMeeting}
 use Rattle.streetmap_outlines.specs.declared.chunk.Chunk.{Chunk}
 use Rattle.streetmap_outlines.proofs.Beside.{off_at_corner, off_window}
 use Rattle.streetmap_outlines.proofs.Position.{three_bounds_pass}
 
 -- the features with outlines that a test holds for are selected, and the others are not examined
-abbrev Told : Query → (KeptOutline → Bool) → Features → KeptOutline → Type 0
-Told q w features o = (f : FeatureValue) → IsEntry features o f → (w o ≡ true → selects (query_value q) f ≡ true) × (w o ≡ false → is_candidate (query_value q) f ≡ false)
+abbrev IsDecided : Query → (KeptOutline → Bool) → Features → KeptOutline → Type 0
+IsDecided q w features o = (f : FeatureValue) → IsEntry features o f → (w o ≡ true → selects (query_value q) f ≡ true) × (w o ≡ false → is_candidate (query_value q) f ≡ false)
 
 abbrev Selected : Query → FeatureValue → Type 0
 Selected q f = selects (query_value q) f ≡ true
 
--- a feature more, where a test of an element of its own tells of it
+-- one more feature, on which a test of its own element decides
 one_more : {X : Type 0} (q : Query) (w : X → Bool) (x : X) (f : FeatureValue) (xs : List X) (fs : List FeatureValue) (b : Bool) → w x ≡ b
     → (w x ≡ true → selects (query_value q) f ≡ true) × (w x ≡ false → is_candidate (query_value q) f ≡ false) → IsFeature f
     → SelectsCandidates (query_value q) (count_by w xs) fs → SelectsCandidates (query_value q) (count_by w (x ∷ xs)) (f ∷ fs)
-one_more q w x f xs fs true is told made rest =
-    let s = told.0 is in
+one_more q w x f xs fs true is reported made rest =
+    let s = reported.0 is in
     let k : is_candidate (query_value q) f ≡ true = selected_are_candidates q f made s in
     let e : length (candidates (query_value q) fs) ≡ count_by w xs = rest.count in
     let front : length (candidates (query_value q) (f ∷ fs)) ≡ 1 + length (candidates (query_value q) fs) = rw k (omega arith) in
     let back : count_by w (x ∷ xs) ≡ 1 + count_by w xs = sum_by-cons (λ y. cond (w y) 1 0) x xs ∙ ap (λ c. cond c 1 0 + count_by w xs) is in
     record { selected = rw k (All-cons (Selected q) f (candidates (query_value q) fs) s rest.selected); count = omega (arith, e, front, back) }
-one_more q w x f xs fs false is told made rest =
-    let k : is_candidate (query_value q) f ≡ false = told.1 is in
+one_more q w x f xs fs false is reported made rest =
+    let k : is_candidate (query_value q) f ≡ false = reported.1 is in
     let e : length (candidates (query_value q) fs) ≡ count_by w xs = rest.count in
     let front : length (candidates (query_value q) (f ∷ fs)) ≡ length (candidates (query_value q) fs) = rw k refl in
     let back : count_by w (x ∷ xs) ≡ 0 + count_by w xs = sum_by-cons (λ y. cond (w y) 1 0) x xs ∙ ap (λ c. cond c 1 0 + count_by w xs) is in
     record { selected = rw k rest.selected; count = omega (arith, e, front, back) }
 
-whole : (q : Query) (w : KeptOutline → Bool) (features : Features) (os : List KeptOutline) (fs : List FeatureValue) → All (Told q w features) os → Pairs features os fs
+whole : (q : Query) (w : KeptOutline → Bool) (features : Features) (os : List KeptOutline) (fs : List FeatureValue) → All (IsDecided q w features) os → Pairs features os fs
     → SelectsCandidates (query_value q) (count_by w os) fs
 whole q w features [] [] each pairs = record { selected = All-nil (Selected q); count = refl }
 whole q w features [] (f ∷ fs) each pairs = absurd pairs
 whole q w features (o ∷ os) [] each pairs = absurd pairs
 whole q w features (o ∷ os) (f ∷ fs) each pairs =
-    one_more q w o f os fs (w o) refl (All-head (Told q w features) o os each f pairs.0) pairs.0.made (whole q w features os fs (All-tail (Told q w features) o os each) pairs.1)
+    one_more q w o f os fs (w o) refl (All-head (IsDecided q w features) o os each f pairs.0) pairs.0.made (whole q w features os fs (All-tail (IsDecided q w features) o os each) pairs.1)
 
--- a feature with no extent is not examined where a box is asked
+-- if the query has a box, a feature with no extent is not examined
 off : (b : Option BoxValue) (e : Option GridBox) (g : Option GeometryValue) (t : Bool) → (is_none b || is_some e) ≡ false → option_map box_value e ≡ option_map extent_of g → (passes extent_overlaps g b && t) ≡ false
 off None e g t unasked is = absurd cc
 off (Some b) (Some e) g t unasked is = absurd cc
 off (Some b) None None t unasked is = refl
 off (Some b) None (Some g) t unasked is = absurd cc
 
--- how many features of a chunk are selected, where its bounds and seconds tell that all are
+-- how many features of a chunk are selected, if its bounds and seconds show that all are
 pub counts_whole : (q : Query) (chunk : Chunk) → IsBounded chunk
     → ((o : KeptOutline) (f : FeatureValue) → LiesWithin o.extent chunk.bounds → IsOutlineOf o f → IsFeature f → IsCountedFor (query_value q) o → passes geometry_meets f.geometry (query_value q).bbox ≡ true)
-    → ((o : KeptOutline) (f : FeatureValue) → IsTimedBy o.seconds chunk.seconds → IsOutlineOf o f → passes meets f.time (interval_asked (query_value q)) ≡ true)
+    → ((o : KeptOutline) (f : FeatureValue) → IsTimedBy o.seconds chunk.seconds → IsOutlineOf o f → passes meets f.time (requested_interval (query_value q)) ≡ true)
     → CountsWhole (query_value q) chunk (count_by (counts (query_value q)) chunk.outlines.items)
 counts_whole q chunk bounded covers reaches features fs pairs =
     let v = query_value q in
-    let each : All (Told q (counts v) features) chunk.outlines.items = λ k d within f entry.
+    let each : All (IsDecided q (counts v) features) chunk.outlines.items = λ k d within f entry.
     let o = get_or chunk.outlines.items k d in (
       λ yes. rw (covers o f (bounded.within k d within) entry.known entry.made yes, reaches o f (bounded.timed k d within) entry.known) refl,
-      λ none. off v.bbox o.extent f.geometry (passes seconds_overlap f.time (interval_asked v)) none (ap (λ (x : FeatureOutlineValue). x.extent) entry.known),
+      λ none. off v.bbox o.extent f.geometry (passes seconds_overlap f.time (requested_interval v)) none (ap (λ (x : FeatureOutlineValue). x.extent) entry.known),
     ) in
     whole q (counts v) features chunk.outlines.items fs each pairs
 
@@ -92,47 +92,47 @@ counts_each (o ∷ os) =
     let back : count_by (λ (x : KeptOutline). true) (o ∷ os) ≡ 1 + count_by (λ (x : KeptOutline). true) os = sum_by-cons (λ (x : KeptOutline). cond true 1 0) o os in
     omega (arith, e, back)
 
--- all outlines are counted where no box is asked, else those with an extent
+-- all outlines are counted if the query has no box, else those with an extent
 pub counts_all : (q : Query) → q.bbox ≡ None → (os : List KeptOutline) → count_by (counts (query_value q)) os ≡ length os
 counts_all q none os = rw none (counts_each os)
 
 pub counts_extents : (q : Query) (area : GridBox) → q.bbox ≡ Some area → (os : List KeptOutline) → count_by (counts (query_value q)) os ≡ count_by has_extent os
 counts_extents q area some os = rw some refl
 
--- ---- chunks of which the extents that are kept tell all
-module _ (q : Query) (area : GridBox) (window : Envelope) (asked : q.bbox ≡ Some area) (is : IsEnvelopeOf window (box_value area)) where
+-- ---- chunks whose kept extents decide on all features
+module _ (q : Query) (area : GridBox) (window : Envelope) (requested : q.bbox ≡ Some area) (is : IsEnvelopeOf window (box_value area)) where
   -- what overlaps the window meets the box, and what does not is not examined
-  told_by : (e : Envelope) (o : KeptOutline) (f : FeatureValue) → IsExtentIf e o.extent → TellsWhetherMet e window → IsOutlineOf o f → IsFeature f → passes meets f.time (interval_asked (query_value q)) ≡ true
+  reported_by : (e : Envelope) (o : KeptOutline) (f : FeatureValue) → IsExtentIf e o.extent → DecidesMeeting e window → IsOutlineOf o f → IsFeature f → passes meets f.time (requested_interval (query_value q)) ≡ true
       → (overlaps e window ≡ true → selects (query_value q) f ≡ true) × (overlaps e window ≡ false → is_candidate (query_value q) f ≡ false)
-  told_by e o f kept tells known made timed = (
-    λ on. rw (subst (λ (b : Option GridBox). passes geometry_meets f.geometry (option_map box_value b) ≡ true) (sym asked) (meets_box o.extent kept (ap (λ (v : FeatureOutlineValue). v.extent) known) on), timed) refl,
-    λ off. off_window (query_value q) window e o f (area, ap (option_map box_value) asked, is) off kept known,
+  reported_by e o f kept reports known made timed = (
+    λ on. rw (subst (λ (b : Option GridBox). passes geometry_meets f.geometry (option_map box_value b) ≡ true) (sym requested) (meets_box o.extent kept (ap (λ (v : FeatureOutlineValue). v.extent) known) on), timed) refl,
+    λ off. off_window (query_value q) window e o f (area, ap (option_map box_value) requested, is) off kept known,
   ) where
     meets_box : (extent : Option GridBox) → IsExtentIf e extent → option_map box_value extent ≡ option_map extent_of f.geometry → overlaps e window ≡ true → passes geometry_meets f.geometry (Some (box_value area)) ≡ true
     meets_box None kept same on = absurd (both_ways _ (off_at_corner window e area is kept) on)
-    meets_box (Some box) kept same on = three_bounds_pass f.geometry box area e window same made.made kept is (tells on)
+    meets_box (Some box) kept same on = three_bounds_pass f.geometry box area e window same made.made kept is (reports on)
 
-  kept_whole : (features : Features) (seconds : Option (ℤ × ℤ)) → ((o : KeptOutline) (f : FeatureValue) → IsTimedBy o.seconds seconds → IsOutlineOf o f → passes meets f.time (interval_asked (query_value q)) ≡ true)
-      → (es : List Envelope) (os : List KeptOutline) (fs : List FeatureValue) → length es ≡ length os → AreExtentsOf es os → All (λ e. TellsWhetherMet e window) es → AllTimedBy os seconds → Pairs features os fs
+  kept_whole : (features : Features) (seconds : Option (ℤ × ℤ)) → ((o : KeptOutline) (f : FeatureValue) → IsTimedBy o.seconds seconds → IsOutlineOf o f → passes meets f.time (requested_interval (query_value q)) ≡ true)
+      → (es : List Envelope) (os : List KeptOutline) (fs : List FeatureValue) → length es ≡ length os → AreExtentsOf es os → All (λ e. DecidesMeeting e window) es → AllTimedBy os seconds → Pairs features os fs
       → SelectsCandidates (query_value q) (count_by (λ e. overlaps e window) es) fs
-  kept_whole features seconds reaches [] [] [] long kept told timed pairs = record { selected = All-nil (Selected q); count = refl }
-  kept_whole features seconds reaches [] [] (f ∷ fs) long kept told timed pairs = absurd pairs
-  kept_whole features seconds reaches [] (o ∷ os) fs long kept told timed pairs = absurd (omega arith)
-  kept_whole features seconds reaches (e ∷ es) [] fs long kept told timed pairs = absurd (omega arith)
-  kept_whole features seconds reaches (e ∷ es) (o ∷ os) [] long kept told timed pairs = absurd pairs
-  kept_whole features seconds reaches (e ∷ es) (o ∷ os) (f ∷ fs) long kept told timed pairs =
-      let Tells : Envelope → Type 0 = λ e. TellsWhetherMet e window in
+  kept_whole features seconds reaches [] [] [] long kept reported timed pairs = record { selected = All-nil (Selected q); count = refl }
+  kept_whole features seconds reaches [] [] (f ∷ fs) long kept reported timed pairs = absurd pairs
+  kept_whole features seconds reaches [] (o ∷ os) fs long kept reported timed pairs = absurd (omega arith)
+  kept_whole features seconds reaches (e ∷ es) [] fs long kept reported timed pairs = absurd (omega arith)
+  kept_whole features seconds reaches (e ∷ es) (o ∷ os) [] long kept reported timed pairs = absurd pairs
+  kept_whole features seconds reaches (e ∷ es) (o ∷ os) (f ∷ fs) long kept reported timed pairs =
+      let Decides : Envelope → Type 0 = λ e. DecidesMeeting e window in
       let Timed : KeptOutline → Type 0 = λ o. IsTimedBy o.seconds seconds in
       let entry = pairs.0 in
       one_more q (λ e. overlaps e window) e f es fs (overlaps e window) refl
-      (told_by e o f (kept 0 e o refl refl) (All-head Tells e es told) entry.known entry.made (reaches o f (All-head Timed o os timed) entry.known)) entry.made
-      (kept_whole features seconds reaches es os fs (omega arith) (λ i x y here there. kept (suc i) x y here there) (All-tail Tells e es told) (All-tail Timed o os timed) pairs.1)
+      (reported_by e o f (kept 0 e o refl refl) (All-head Decides e es reported) entry.known entry.made (reaches o f (All-head Timed o os timed) entry.known)) entry.made
+      (kept_whole features seconds reaches es os fs (omega arith) (λ i x y here there. kept (suc i) x y here there) (All-tail Decides e es reported) (All-tail Timed o os timed) pairs.1)
 
-  -- how many features of a chunk are selected, where each extent that overlaps the window tells that its geometry meets the box
-  pub counts_kept : (chunk : Chunk) → IsBounded chunk → length chunk.extents.items ≡ length chunk.outlines.items → All (λ e. TellsWhetherMet e window) chunk.extents.items
-      → ((o : KeptOutline) (f : FeatureValue) → IsTimedBy o.seconds chunk.seconds → IsOutlineOf o f → passes meets f.time (interval_asked (query_value q)) ≡ true)
+  -- how many of a chunk are selected, if each kept extent shows whether its geometry meets the box
+  pub counts_kept : (chunk : Chunk) → IsBounded chunk → length chunk.extents.items ≡ length chunk.outlines.items → All (λ e. DecidesMeeting e window) chunk.extents.items
+      → ((o : KeptOutline) (f : FeatureValue) → IsTimedBy o.seconds chunk.seconds → IsOutlineOf o f → passes meets f.time (requested_interval (query_value q)) ≡ true)
       → CountsWhole (query_value q) chunk (count_by (λ e. overlaps e window) chunk.extents.items)
-  counts_kept chunk bounded long told reaches features fs pairs = kept_whole features chunk.seconds reaches chunk.extents.items chunk.outlines.items fs long bounded.extents told bounded.timed pairs
+  counts_kept chunk bounded long reported reaches features fs pairs = kept_whole features chunk.seconds reaches chunk.extents.items chunk.outlines.items fs long bounded.extents reported bounded.timed pairs
 
 made_all : (features : Features) (os : List KeptOutline) (fs : List FeatureValue) → Pairs features os fs → All IsFeature fs
 made_all features [] [] pairs = All-nil IsFeature
@@ -140,27 +140,27 @@ made_all features [] (f ∷ fs) pairs = absurd pairs
 made_all features (o ∷ os) [] pairs = absurd pairs
 made_all features (o ∷ os) (f ∷ fs) pairs = All-cons IsFeature f fs pairs.0.made (made_all features os fs pairs.1)
 
-abbrev Behind : Query → Bool → FeatureValue → Type 0
-Behind q b f = comes_after (query_value q).after f ≡ b
+abbrev IsAfter : Query → Bool → FeatureValue → Type 0
+IsAfter q b f = comes_after (query_value q).after f ≡ b
 
-abbrev BehindOutline : Query → Bool → KeptOutline → Type 0
-BehindOutline q b o = (f : FeatureValue) → IsOutlineOf o f → comes_after (query_value q).after f ≡ b
+abbrev IsOutlineAfter : Query → Bool → KeptOutline → Type 0
+IsOutlineAfter q b o = (f : FeatureValue) → IsOutlineOf o f → comes_after (query_value q).after f ≡ b
 
-all_behind : (q : Query) (b : Bool) (features : Features) (os : List KeptOutline) (fs : List FeatureValue) → Pairs features os fs → AllComeAfter (query_value q) b os → All (Behind q b) fs
-all_behind q b features [] [] pairs after = All-nil (Behind q b)
-all_behind q b features [] (f ∷ fs) pairs after = absurd pairs
-all_behind q b features (o ∷ os) [] pairs after = absurd pairs
-all_behind q b features (o ∷ os) (f ∷ fs) pairs after =
-    All-cons (Behind q b) f fs (All-head (BehindOutline q b) o os after f pairs.0.known) (all_behind q b features os fs pairs.1 (All-tail (BehindOutline q b) o os after))
+all_after : (q : Query) (b : Bool) (features : Features) (os : List KeptOutline) (fs : List FeatureValue) → Pairs features os fs → AllComeAfter (query_value q) b os → All (IsAfter q b) fs
+all_after q b features [] [] pairs after = All-nil (IsAfter q b)
+all_after q b features [] (f ∷ fs) pairs after = absurd pairs
+all_after q b features (o ∷ os) [] pairs after = absurd pairs
+all_after q b features (o ∷ os) (f ∷ fs) pairs after =
+    All-cons (IsAfter q b) f fs (All-head (IsOutlineAfter q b) o os after f pairs.0.known) (all_after q b features os fs pairs.1 (All-tail (IsOutlineAfter q b) o os after))
 
--- the fold holds the page of the candidates of a chunk too, if it holds that of the hidden features that they are
+-- the fold holds the candidates of a chunk too, if it holds the hidden features that they are
 pub takes_chunk : (q : Query) (old new : PageFold) (chunk : Chunk) (count : ℕ) (b : Bool) → CountsWhole (query_value q) chunk count → AllComeAfter (query_value q) b chunk.outlines.items
     → ((fs gs : List FeatureValue) → IsFoldOf (query_value q) old fs → AreHidden (query_value q) b gs → length gs ≡ count → IsFoldOf (query_value q) new (fs ++ gs)) → TakesChunk (query_value q) chunk old new
 takes_chunk q old new chunk count b counted after takes features met fs pairs held =
     let v = query_value q in
     let of = counted features fs pairs in
-    let behind = All-filter (is_candidate v) (Behind q b) fs (all_behind q b features chunk.outlines.items fs pairs after) in
-    let hidden : AreHidden v b (candidates v fs) = λ k d within. (of.selected k d within, behind k d within) in
+    let following = All-filter (is_candidate v) (IsAfter q b) fs (all_after q b features chunk.outlines.items fs pairs after) in
+    let hidden : AreHidden v b (candidates v fs) = λ k d within. (of.selected k d within, following k d within) in
     let same : candidates v (met ++ fs) ≡ candidates v met ++ candidates v fs = filter-append (is_candidate v) met fs in
     record {
       holds = subst (IsFoldOf v new) (sym same) (takes (candidates v met) (candidates v fs) held.holds hidden of.count);

@@ -40,14 +40,14 @@ pub run_cut_off : (os front last : List FeatureOutline) (n : ℕ)
     → feature_outline_values front ++ outline_values (joined_runs (reverse ts))
     ≡ feature_outline_values os ++ outline_values (joined_runs (reverse rs))
 run_cut_off os front last n rs ts kept p q same is =
-    let behind = outline_values (joined_runs (reverse rs)) in
+    let following = outline_values (joined_runs (reverse rs)) in
     ap (λ xs. feature_outline_values front ++ outline_values xs) (run_pushed rs ts kept is)
     ∙ ap (λ vs. feature_outline_values front ++ vs)
     (map-append outline_value kept.items (joined_runs (reverse rs)))
-    ∙ ap (λ vs. feature_outline_values front ++ (vs ++ behind)) same
-    ∙ sym (append_assoc (feature_outline_values front) (feature_outline_values last) behind)
-    ∙ ap (λ vs. vs ++ behind) (sym (map-append feature_outline_value front last))
-    ∙ ap (λ xs. feature_outline_values xs ++ behind)
+    ∙ ap (λ vs. feature_outline_values front ++ (vs ++ following)) same
+    ∙ sym (append_assoc (feature_outline_values front) (feature_outline_values last) following)
+    ∙ ap (λ vs. vs ++ following) (sym (map-append feature_outline_value front last))
+    ∙ ap (λ xs. feature_outline_values xs ++ following)
     (ap (λ xs. xs ++ last) p ∙ (ap (λ xs. take n os ++ xs) q ∙ take-append-drop n os))
 
 -- ---- a chunk of the run that comes next

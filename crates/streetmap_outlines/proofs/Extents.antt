@@ -1,4 +1,4 @@
--- What outlines tell of their collection.
+-- What outlines show of their collection.
 use Rattle.std.proofs.Common.{◌≡◌, List, [], ◌∷◌, ◌++◌, Option, None, Some, refl, sym, ap, subst, ◌∙◌, append_assoc, append-nil}
 use Rattle.std.specs.Prelude.{unwrap_or}
 use Rattle.std.specs.Option.{option_map, option_map_or}
@@ -37,7 +37,7 @@ same_summary x y i t p e =
     ap (λ a. record { id = a; title = x.title; time = x.time; extent = x.extent }) i ∙ (ap (λ a. record { id = y.id; title = a; time = x.time; extent = x.extent }) t
     ∙ (ap (λ a. record { id = y.id; title = y.title; time = a; extent = x.extent }) p ∙ ap (λ a. record { id = y.id; title = y.title; time = y.time; extent = a }) e))
 
--- of all these features some were met, whose bounds these are behind those of other positions, and the outlines of the others are left
+-- some of all features were met, the bounds are of them and of these positions; the others are left
 pub record Growing (ps : List PositionValue) (bounds : Option GridBox) (features : Features) (all : List FeatureValue) (rest : List KeptOutline) : Type 0 where
   pub met : List FeatureValue
   pub left : List FeatureValue
@@ -69,9 +69,9 @@ all_grown ps o met fs h = subst (λ vs. AreBounds vs o) (append_assoc ps (all_ve
   flat_both [] fs = refl
   flat_both (f ∷ met) fs = append_assoc (feature_vertices f) (all_vertices met) (all_vertices fs) ∙ ap (λ vs. feature_vertices f ++ vs) (flat_both met fs)
 
-pub grows_behind : (ps : List PositionValue) (old new : Option GridBox) (features : Features) (all : List FeatureValue) (front rest : List KeptOutline) → Growing ps old features all (front ++ rest)
+pub grows_after : (ps : List PositionValue) (old new : Option GridBox) (features : Features) (all : List FeatureValue) (front rest : List KeptOutline) → Growing ps old features all (front ++ rest)
     → ((vs : List PositionValue) (fs : List FeatureValue) → Pairs features front fs → AreBounds vs old → AreBounds (vs ++ all_vertices fs) new) → Growing ps new features all rest
-grows_behind ps old new features all front rest growing wider =
+grows_after ps old new features all front rest growing wider =
     let parts = parted features front rest growing.left growing.pairs in
     record {
       met = growing.met ++ parts.firsts;
@@ -81,7 +81,7 @@ grows_behind ps old new features all front rest growing wider =
       bounds_are = all_grown ps new growing.met parts.firsts (wider (ps ++ all_vertices growing.met) parts.firsts parts.first_pairs growing.bounds_are);
     }
 
--- where no outline is left these are the bounds of all
+-- if no outline is left these are the bounds of all
 pub all_bounds : (ps : List PositionValue) (o : Option GridBox) (features : Features) (all : List FeatureValue) → Growing ps o features all [] → AreBounds (ps ++ all_vertices all) o
 all_bounds ps o features all growing = by growing.left growing.whole growing.pairs where
   by : (left : List FeatureValue) → growing.met ++ left ≡ all → Pairs features [] left → AreBounds (ps ++ all_vertices all) o

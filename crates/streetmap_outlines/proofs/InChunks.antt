@@ -59,21 +59,21 @@ tail_short : (k : Text) (e : Text × FeatureValue) (es : Entries) → goes_to k 
 tail_short k e [] h = refl
 tail_short k e (f ∷ es) h = h
 
-put_behind : (k : Text) (v : FeatureValue) (es fs : Entries) → T (is_sorted text_cmp es) → goes_to k es ≡ false → put text_cmp k v (es ++ fs) ≡ es ++ put text_cmp k v fs
-put_behind k v [] fs up h = refl
-put_behind k v (e ∷ es) fs up h =
-    let behind : text_cmp k e.0 ≡ Greater = flip e.0 k Less (head_before k e es up h) in
-    rw behind (ap (λ xs. e ∷ xs) (put_behind k v es fs (second _ _ up) (tail_short k e es h)))
+put_after : (k : Text) (v : FeatureValue) (es fs : Entries) → T (is_sorted text_cmp es) → goes_to k es ≡ false → put text_cmp k v (es ++ fs) ≡ es ++ put text_cmp k v fs
+put_after k v [] fs up h = refl
+put_after k v (e ∷ es) fs up h =
+    let following : text_cmp k e.0 ≡ Greater = flip e.0 k Less (head_before k e es up h) in
+    rw following (ap (λ xs. e ∷ xs) (put_after k v es fs (second _ _ up) (tail_short k e es h)))
 
-cut_behind : (k : Text) (es fs : Entries) → T (is_sorted text_cmp es) → goes_to k es ≡ false → where_key text_cmp (others k) (es ++ fs) ≡ es ++ where_key text_cmp (others k) fs
-cut_behind k [] fs up h = refl
-cut_behind k (e ∷ es) fs up h =
-    let behind : text_cmp k e.0 ≡ Greater = flip e.0 k Less (head_before k e es up h) in
-    rw behind (ap (λ xs. e ∷ xs) (cut_behind k es fs (second _ _ up) (tail_short k e es h)))
+cut_after : (k : Text) (es fs : Entries) → T (is_sorted text_cmp es) → goes_to k es ≡ false → where_key text_cmp (others k) (es ++ fs) ≡ es ++ where_key text_cmp (others k) fs
+cut_after k [] fs up h = refl
+cut_after k (e ∷ es) fs up h =
+    let following : text_cmp k e.0 ≡ Greater = flip e.0 k Less (head_before k e es up h) in
+    rw following (ap (λ xs. e ∷ xs) (cut_after k es fs (second _ _ up) (tail_short k e es h)))
 
 -- ---- entries that go on to a key
-not_behind : (k : Text) (e : Text × FeatureValue) {A : Type 0} → is_ge (text_cmp e.0 k) ≡ true → text_cmp k e.0 ≡ Greater → A
-not_behind k e h is = let off : is_ge (text_cmp e.0 k) ≡ false = ap is_ge (flip k e.0 Greater is) in absurd cc
+not_after : (k : Text) (e : Text × FeatureValue) {A : Type 0} → is_ge (text_cmp e.0 k) ≡ true → text_cmp k e.0 ≡ Greater → A
+not_after k e h is = let off : is_ge (text_cmp e.0 k) ≡ false = ap is_ge (flip k e.0 Greater is) in absurd cc
 
 put_front_by : (k : Text) (v : FeatureValue) (e : Text × FeatureValue) (es fs : Entries) (r : Ordering) → text_cmp k e.0 ≡ r → (r ≡ Greater → put text_cmp k v (es ++ fs) ≡ put text_cmp k v es ++ fs)
     → put text_cmp k v ((e ∷ es) ++ fs) ≡ put text_cmp k v (e ∷ es) ++ fs
@@ -83,7 +83,7 @@ put_front_by k v e es fs Greater is rest = rw is (ap (λ xs. e ∷ xs) (rest ref
 
 put_front : (k : Text) (v : FeatureValue) (es fs : Entries) → goes_to k es ≡ true → put text_cmp k v (es ++ fs) ≡ put text_cmp k v es ++ fs
 put_front k v [] fs h = absurd cc
-put_front k v (e ∷ []) fs h = put_front_by k v e [] fs (text_cmp k e.0) refl (λ is. not_behind k e h is)
+put_front k v (e ∷ []) fs h = put_front_by k v e [] fs (text_cmp k e.0) refl (λ is. not_after k e h is)
 put_front k v (e ∷ (f ∷ es)) fs h = put_front_by k v e (f ∷ es) fs (text_cmp k e.0) refl (λ is. put_front k v (f ∷ es) fs h)
 
 pub both : (a b : Bool) → T a → T b → T (a && b)
@@ -147,7 +147,7 @@ two : (xs ys : List KeptOutline) (es fs : Entries) → outline_values xs ≡ out
 two xs ys es fs p q =
     map-append outline_value xs ys ∙ (ap (λ a. a ++ outline_values ys) p ∙ (ap (λ b. outlines es ++ b) q ∙ sym (map-append (λ (e : Text × FeatureValue). feature_outline_of e.0 e.1) es fs)))
 
--- ---- where an id is looked for by halving
+-- ---- the search for an id by halving
 goes_above : (k : Text) (es : Entries) → T (below_all text_cmp k es) → 0 < length es → goes_to k es ≡ true
 goes_above k [] up some = absurd (omega arith)
 goes_above k (e ∷ []) up some = ap is_ge (flip k e.0 Less (less _ (first _ _ up)))
@@ -222,29 +222,29 @@ module _ (cs l : List Chunk) (searched : l ≡ cs) (k : Text) (place : ℕ) (poi
 
 -- ---- an edit under a key: of features, and of their entries
 record IsEdit (k : Text) (op : Entries → Entries) (change : Features → Features) : Type 0 where
-  pub told : (features : Features) → entries (change features) ≡ op (entries features)
+  pub reported : (features : Features) → entries (change features) ≡ op (entries features)
   pub front : (es fs : Entries) → T (is_sorted text_cmp (es ++ fs)) → goes_to k es ≡ true → op (es ++ fs) ≡ op es ++ fs
-  pub behind : (es fs : Entries) → T (is_sorted text_cmp es) → goes_to k es ≡ false → op (es ++ fs) ≡ es ++ op fs
+  pub following : (es fs : Entries) → T (is_sorted text_cmp es) → goes_to k es ≡ false → op (es ++ fs) ≡ es ++ op fs
 
 put_edit : (f : FeatureValue) → IsEdit f.id (put text_cmp f.id f) (λ features. insert features f.id f)
 put_edit f = record {
-  told = λ features. entries-insert nat_list_cmp_total features f.id f;
+  reported = λ features. entries-insert nat_list_cmp_total features f.id f;
   front = λ es fs up h. put_front f.id f es fs h;
-  behind = λ es fs up h. put_behind f.id f es fs up h;
+  following = λ es fs up h. put_after f.id f es fs up h;
 }
 
 cut_edit : (k : Text) → IsEdit k (where_key text_cmp (others k)) (λ features. remove features k)
 cut_edit k = record {
-  told = λ features. entries_left features k;
+  reported = λ features. entries_left features k;
   front = λ es fs up h. cut_front k es fs up h;
-  behind = λ es fs up h. cut_behind k es fs up h;
+  following = λ es fs up h. cut_after k es fs up h;
 }
 
 module _ (k : Text) (op : Entries → Entries) (change : Features → Features) (edit : IsEdit k op change) where
   alone : (c new : Chunk) (es : Entries) → outline_values c.outlines.items ≡ outlines es → T (is_sorted text_cmp es) → ((features : Features) → AreOutlines c.outlines.items features → AreOutlines new.outlines.items (change features)) → outline_values new.outlines.items ≡ outlines (op es)
   alone c new es is up edited =
       let same = entries-from_sorted text_cmp es up in
-      edited (from_sorted es) (is ∙ ap outlines (sym same)) ∙ ap outlines (edit.told (from_sorted es) ∙ ap op same)
+      edited (from_sorted es) (is ∙ ap outlines (sym same)) ∙ ap outlines (edit.reported (from_sorted es) ∙ ap op same)
 
   in_chunk : (cs : List Chunk) (i : ℕ) (c new : Chunk) (es : Entries) → outline_values (joined cs) ≡ outlines es → T (is_sorted text_cmp es)
       → ((j : ℕ) (d : Chunk) → j < i → reaches k (slice_index_or cs j d).outlines.items ≡ false)
@@ -267,7 +267,7 @@ module _ (k : Text) (op : Entries → Entries) (change : Features → Features) 
       let both_up = subst (λ zs. T (is_sorted text_cmp zs)) (sym parts.whole) up in
       let near = sym (reaches_keys x.outlines.items parts.front k parts.fronts) ∙ before zero x (omega arith) in
       let rest = in_chunk (y ∷ cs) i c new parts.rest parts.rests (sorted_rest parts.front parts.rest both_up) (λ j d h. before (suc j) d (omega arith)) (λ d h. here d (omega arith)) (omega arith) at edited in
-      two x.outlines.items (joined (set (y ∷ cs) i new)) parts.front (op parts.rest) parts.fronts rest ∙ ap outlines (sym (edit.behind parts.front parts.rest (sorted_front parts.front parts.rest both_up) near) ∙ ap op parts.whole)
+      two x.outlines.items (joined (set (y ∷ cs) i new)) parts.front (op parts.rest) parts.fronts rest ∙ ap outlines (sym (edit.following parts.front parts.rest (sorted_front parts.front parts.rest both_up) near) ∙ ap op parts.whole)
 
 pub put_in_chunk : (cs : List Chunk) (i : ℕ) (c new : Chunk) (k : Text) (features : Features) → AreOutlines (joined cs) features
     → ((j : ℕ) (d : Chunk) → j < i → reaches k (slice_index_or cs j d).outlines.items ≡ false)
@@ -293,7 +293,7 @@ none_left : (k : Text) (es : Entries) → outline_values [] ≡ outlines es → 
 none_left k [] is = is
 none_left k (e ∷ es) is = too_many e es is
 
--- where there is no chunk there is no outline
+-- if no chunk exists, no outline does
 none_there : (features : Features) → AreChunksOf [] features → entries features ≡ []
 none_there features known = by (entries features) known.outlines where
   by : (es : Entries) → outline_values [] ≡ outlines es → es ≡ []
@@ -307,19 +307,19 @@ none_in_chunks [] i k features bound off known =
 none_in_chunks (c ∷ cs) i k features bound off known = absurd (off (bound (omega arith)))
 
 -- ---- a chunk that is cut in two
-halved : (cs : List Chunk) (i : ℕ) (old one behind : Chunk) → i < length cs → old ≡ slice_index_or cs i old → one.outlines.items ++ behind.outlines.items ≡ old.outlines.items → joined (list.insert (set cs i one) (suc i) behind) ≡ joined cs
-halved [] i old one behind within at parts = absurd (omega arith)
-halved (c ∷ []) zero old one behind within at parts =
-    sym (append_assoc one.outlines.items behind.outlines.items []) ∙ ap (λ xs. xs ++ []) (parts ∙ ap (λ (x : Chunk). x.outlines.items) at)
-halved (c ∷ (d ∷ cs)) zero old one behind within at parts =
-    sym (append_assoc one.outlines.items behind.outlines.items (joined (d ∷ cs))) ∙ ap (λ xs. xs ++ joined (d ∷ cs)) (parts ∙ ap (λ (x : Chunk). x.outlines.items) at)
-halved (c ∷ cs) (suc i) old one behind within at parts = ap (λ xs. c.outlines.items ++ xs) (halved cs i old one behind (omega arith) at parts)
+halved : (cs : List Chunk) (i : ℕ) (old one following : Chunk) → i < length cs → old ≡ slice_index_or cs i old → one.outlines.items ++ following.outlines.items ≡ old.outlines.items → joined (list.insert (set cs i one) (suc i) following) ≡ joined cs
+halved [] i old one following within at parts = absurd (omega arith)
+halved (c ∷ []) zero old one following within at parts =
+    sym (append_assoc one.outlines.items following.outlines.items []) ∙ ap (λ xs. xs ++ []) (parts ∙ ap (λ (x : Chunk). x.outlines.items) at)
+halved (c ∷ (d ∷ cs)) zero old one following within at parts =
+    sym (append_assoc one.outlines.items following.outlines.items (joined (d ∷ cs))) ∙ ap (λ xs. xs ++ joined (d ∷ cs)) (parts ∙ ap (λ (x : Chunk). x.outlines.items) at)
+halved (c ∷ cs) (suc i) old one following within at parts = ap (λ xs. c.outlines.items ++ xs) (halved cs i old one following (omega arith) at parts)
 
-pub halved_at : (cs : List Chunk) (i : ℕ) (old one behind : Chunk) → i < length cs → old ≡ slice_index_or cs i old → (n : ℕ) → one.outlines.items ≡ take n old.outlines.items → behind.outlines.items ≡ drop n old.outlines.items → joined (list.insert (set cs i one) (i + 1) behind) ≡ joined cs
-halved_at cs i old one behind within at n p q =
+pub halved_at : (cs : List Chunk) (i : ℕ) (old one following : Chunk) → i < length cs → old ≡ slice_index_or cs i old → (n : ℕ) → one.outlines.items ≡ take n old.outlines.items → following.outlines.items ≡ drop n old.outlines.items → joined (list.insert (set cs i one) (i + 1) following) ≡ joined cs
+halved_at cs i old one following within at n p q =
     let next : suc i ≡ i + 1 = omega arith in
-    subst (λ m. joined (list.insert (set cs i one) m behind) ≡ joined cs) next
-    (halved cs i old one behind within at (ap (λ xs. xs ++ behind.outlines.items) p ∙ (ap (λ xs. take n old.outlines.items ++ xs) q ∙ take-append-drop n old.outlines.items)))
+    subst (λ m. joined (list.insert (set cs i one) m following) ≡ joined cs) next
+    (halved cs i old one following within at (ap (λ xs. xs ++ following.outlines.items) p ∙ (ap (λ xs. take n old.outlines.items ++ xs) q ∙ take-append-drop n old.outlines.items)))
 
 -- ---- an empty chunk that is dropped
 pub empty_is : (os : List KeptOutline) → length os ≡ 0 → os ≡ []
@@ -332,7 +332,7 @@ shed_at (x ∷ []) zero c within at none = ap (λ xs. xs ++ []) (sym (empty_is x
 shed_at (x ∷ (y ∷ cs)) zero c within at none = ap (λ xs. xs ++ joined (y ∷ cs)) (sym (empty_is x.outlines.items (ap (λ (z : Chunk). length z.outlines.items) (sym at) ∙ none)))
 shed_at (x ∷ cs) (suc i) c within at none = ap (λ xs. x.outlines.items ++ xs) (shed_at cs i c (omega arith) at none)
 
--- ---- what is left behind a place
+-- ---- what is left after a place
 pub dropped_some : {X : Type 0} (os last : List X) (n : ℕ) → last ≡ drop n os → n < length os → 0 < length last
 dropped_some os last n is h = let left : length last ≡ length os - n = ap length is ∙ length-drop n os in omega arith
 

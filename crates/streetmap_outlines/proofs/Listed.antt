@@ -1,4 +1,4 @@
--- Extents that stand in cells, and the chunks that a page passes over for them.
+-- Extents in cells, and the chunks that a page passes over for them.
 use Rattle.std.proofs.Common.{◌≡◌, ℕ, List, ◌++◌, Option, None, Some, true, false, option_map, IfSome, ap, sym, subst}
 use Rattle.std.proofs.lemmas.Bool.{and_parts, false_from_ne_true, both_ways}
 use Rattle.std.proofs.lemmas.List.Elements.{All-weaker}
@@ -11,7 +11,7 @@ use Rattle.streetmap_geojson.specs.FeatureValue.{FeatureValue}
 use Rattle.streetmap_query.specs.Views.{query_value}
 use Rattle.streetmap_query.specs.declared.queries.Query.{Query}
 use Rattle.streetmap_ledger.specs.State.{Features}
-use Rattle.streetmap_ledger.specs.Pages.{passes, extent_overlaps, interval_asked, is_candidate}
+use Rattle.streetmap_ledger.specs.Pages.{passes, extent_overlaps, requested_interval, is_candidate}
 use Rattle.streetmap_ledger.specs.Folds.{HoldsCandidates}
 use Rattle.streetmap_ledger.specs.Outlines.{FeatureOutlineValue}
 use Rattle.streetmap_ledger.specs.declared.fold.PageFold.{PageFold}
@@ -22,7 +22,7 @@ use Rattle.streetmap_cells.specs.declared.cells.Cells.{Cells}
 use Rattle.streetmap_cells.specs.declared.marks.Marks.{Marks}
 use Rattle.streetmap_outlines.specs.Outlines.{IsOutlineOf, IsListedIf, AreListedUnder, IsListedChunk, AreListed}
 use Rattle.streetmap_outlines.specs.Outlines.{Pairs}
-use Rattle.streetmap_outlines.specs.Selecting.{MarksCandidates, is_marked_if}
+use Rattle.streetmap_outlines.specs.Selections.{MarksCandidates, is_marked_if}
 use Rattle.streetmap_outlines.specs.declared.chunk.Chunk.{Chunk}
 use Rattle.streetmap_outlines.specs.declared.chunks.Chunks.{Chunks}
 use Rattle.streetmap_outlines.proofs.Covering.{passed_over}
@@ -51,10 +51,10 @@ candidate_marked cells area marks all number (Some e) (Some v) listed is on =
     all number (box_value e) listed (subst (λ b. overlaps b (box_value area) ≡ true) (sym one) on)
 
 pub marks_candidates : (outlines : Chunks) (q : Query) (area : GridBox) (marks : Marks) → q.bbox ≡ Some area → MarksAll outlines.cells (box_value area) marks → MarksCandidates outlines (query_value q) marks
-marks_candidates outlines q area marks asked all number o f listed is candidate =
-    let in_box = (and_parts (passes extent_overlaps f.geometry (query_value q).bbox) (passes seconds_overlap f.time (interval_asked (query_value q))) candidate).0 in
+marks_candidates outlines q area marks requested all number o f listed is candidate =
+    let in_box = (and_parts (passes extent_overlaps f.geometry (query_value q).bbox) (passes seconds_overlap f.time (requested_interval (query_value q))) candidate).0 in
     candidate_marked outlines.cells area marks all number o.extent f.geometry listed (ap (λ (v : FeatureOutlineValue). v.extent) is)
-    (subst (λ (b : Option GridBox). passes extent_overlaps f.geometry (option_map box_value b) ≡ true) asked in_box)
+    (subst (λ (b : Option GridBox). passes extent_overlaps f.geometry (option_map box_value b) ≡ true) requested in_box)
 
 none_marked : (outlines : Chunks) (q : Query) (marks : Option Marks) (number : ℕ) → IfSome marks (MarksCandidates outlines (query_value q)) → is_marked_if marks number ≡ false
     → (o : KeptOutline) (f : FeatureValue) → IsListedIf outlines.cells number o.extent → IsOutlineOf o f → is_candidate (query_value q) f ≡ false

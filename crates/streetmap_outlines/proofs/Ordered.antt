@@ -18,7 +18,7 @@ use Rattle.streetmap_outlines.specs.declared.kept.KeptOutline.{KeptOutline}
 use Rattle.streetmap_ledger.proofs.TextMaps.{first, second}
 use Rattle.streetmap_outlines.specs.Outlines.{joined, IsOutlineOf, AreOutlines}
 use Rattle.streetmap_outlines.specs.Chunks.{reaches, AreInOrder, BeginsAfter}
-use Rattle.streetmap_outlines.specs.Selecting.{AllComeAfter}
+use Rattle.streetmap_outlines.specs.Selections.{AllComeAfter}
 use Rattle.streetmap_outlines.specs.declared.chunk.Chunk.{Chunk}
 use Rattle.streetmap_outlines.proofs.Places.{Entries, outlines, tail_is, key_is, too_few, flip, less}
 use Rattle.streetmap_outlines.proofs.InChunks.{split, sorted_front, sorted_rest, falls_short}
@@ -55,7 +55,7 @@ one_in_order (c ∷ cs) (suc i) chunk es is up within at =
 pub chunk_in_order : (cs : List Chunk) (i : ℕ) (chunk : Chunk) (features : Features) → AreOutlines (joined cs) features → i < length cs → chunk ≡ get_or cs i chunk → AreInOrder chunk.outlines.items
 chunk_in_order cs i chunk features known within at = one_in_order cs i chunk (entries features) known (entries_sorted features) within at
 
--- where the last outline does not reach an id none does
+-- if the last outline does not reach an id, none does
 abbrev Before : Text → KeptOutline → Type 0
 Before k o = text_cmp (string_bytes o.id) k ≡ Less
 
@@ -67,37 +67,37 @@ none_reach k (o ∷ (p ∷ os)) up short =
     let next = All-head (Under (text_cmp (string_bytes o.id)) Less) p os up.0 in
     All-cons (Before k) o (p ∷ os) (nat_list_cmp_total.trans (string_bytes o.id) (string_bytes p.id) k next (All-head (Before k) p os rest)) rest
 
--- where the first outline is behind an id all are
-abbrev Behind : Text → KeptOutline → Type 0
-Behind k o = text_cmp (string_bytes o.id) k ≡ Greater
+-- if the first outline is after an id, all are
+abbrev IsAfter : Text → KeptOutline → Type 0
+IsAfter k o = text_cmp (string_bytes o.id) k ≡ Greater
 
 greater : (r : Ordering) → is_gt r ≡ true → r ≡ Greater
 greater Less h = absurd cc
 greater Equal h = absurd cc
 greater Greater h = refl
 
-all_behind : (k : Text) (os : List KeptOutline) → AreInOrder os → BeginsAfter k os → All (Behind k) os
-all_behind k [] up begins = All-nil (Behind k)
-all_behind k (o ∷ os) up begins =
+all_after : (k : Text) (os : List KeptOutline) → AreInOrder os → BeginsAfter k os → All (IsAfter k) os
+all_after k [] up begins = All-nil (IsAfter k)
+all_after k (o ∷ os) up begins =
     let one : text_cmp (string_bytes o.id) k ≡ Greater = greater _ begins in
     let before : text_cmp k (string_bytes o.id) ≡ Less = flip (string_bytes o.id) k Greater one in
-    All-cons (Behind k) o os one
-    (All-weaker (Under (text_cmp (string_bytes o.id)) Less) (Behind k) (λ p next. flip k (string_bytes p.id) Less (nat_list_cmp_total.trans k (string_bytes o.id) (string_bytes p.id) before next)) os up.0)
+    All-cons (IsAfter k) o os one
+    (All-weaker (Under (text_cmp (string_bytes o.id)) Less) (IsAfter k) (λ p next. flip k (string_bytes p.id) Less (nat_list_cmp_total.trans k (string_bytes o.id) (string_bytes p.id) before next)) os up.0)
 
 -- what that says of features
 abbrev ComesAfter : QueryValue → Bool → KeptOutline → Type 0
 ComesAfter q b o = (f : FeatureValue) → IsOutlineOf o f → comes_after q.after f ≡ b
 
 after_id : (q : QueryValue) (k : Text) (r : Ordering) → q.after ≡ Some k → (o : KeptOutline) → text_cmp (string_bytes o.id) k ≡ r → (f : FeatureValue) → IsOutlineOf o f → comes_after q.after f ≡ is_gt r
-after_id q k r asked o at f is =
+after_id q k r requested o at f is =
     let id : string_bytes o.id ≡ f.id = ap (λ (v : FeatureOutlineValue). v.id) is in
-    ap (λ a. comes_after a f) asked ∙ (ap (λ i. is_gt (text_cmp i k)) (sym id) ∙ ap is_gt at)
+    ap (λ a. comes_after a f) requested ∙ (ap (λ i. is_gt (text_cmp i k)) (sym id) ∙ ap is_gt at)
 
 pub none_comes_after : (q : QueryValue) (k : Text) → q.after ≡ Some k → (os : List KeptOutline) → AreInOrder os → reaches k os ≡ false → AllComeAfter q false os
-none_comes_after q k asked os up short = All-weaker (Before k) (ComesAfter q false) (after_id q k Less asked) os (none_reach k os up short)
+none_comes_after q k requested os up short = All-weaker (Before k) (ComesAfter q false) (after_id q k Less requested) os (none_reach k os up short)
 
 pub all_come_after : (q : QueryValue) (k : Text) → q.after ≡ Some k → (os : List KeptOutline) → AreInOrder os → BeginsAfter k os → AllComeAfter q true os
-all_come_after q k asked os up begins = All-weaker (Behind k) (ComesAfter q true) (after_id q k Greater asked) os (all_behind k os up begins)
+all_come_after q k requested os up begins = All-weaker (IsAfter k) (ComesAfter q true) (after_id q k Greater requested) os (all_after k os up begins)
 
 pub all_come_after_none : (q : QueryValue) → q.after ≡ None → (os : List KeptOutline) → AllComeAfter q true os
-all_come_after_none q asked os k d within f is = ap (λ a. comes_after a f) asked
+all_come_after_none q requested os k d within f is = ap (λ a. comes_after a f) requested

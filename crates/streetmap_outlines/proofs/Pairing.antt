@@ -77,7 +77,7 @@ each_there c holds = each_found (IsThere c.features) (entries c.features) (entri
 pub paired : (os : List KeptOutline) (c : Collection) → AreOutlines os c.features → HoldsFeatures c → Pairs c.features os (values c.features)
 paired os c known holds = pairs_by c.features os (entries c.features) known (each_there c holds)
 
--- ---- a page as far as it is made
+-- ---- a page so far
 
 -- of all these features some were met, and the outlines of the others are left
 pub record Going (q : QueryValue) (fold : PageFold) (features : Features) (all : List FeatureValue) (rest : List KeptOutline) : Type 0 where
@@ -115,9 +115,9 @@ parted features (o ∷ front) rest (f ∷ fs) pairs =
     let more = parted features front rest fs pairs.1 in
     record { firsts = f ∷ more.firsts; others = more.others; whole = ap (λ xs. f ∷ xs) more.whole; first_pairs = (pairs.0, more.first_pairs); other_pairs = more.other_pairs }
 
-pub goes_on_behind : (q : QueryValue) (old new : PageFold) (features : Features) (all : List FeatureValue) (front rest : List KeptOutline) → Going q old features all (front ++ rest)
+pub goes_on_after : (q : QueryValue) (old new : PageFold) (features : Features) (all : List FeatureValue) (front rest : List KeptOutline) → Going q old features all (front ++ rest)
     → ((met fs : List FeatureValue) → Pairs features front fs → HoldsCandidates q old met → HoldsCandidates q new (met ++ fs)) → Going q new features all rest
-goes_on_behind q old new features all front rest going takes =
+goes_on_after q old new features all front rest going takes =
     let parts = parted features front rest going.left going.pairs in
     record {
       met = going.met ++ parts.firsts;
@@ -127,7 +127,7 @@ goes_on_behind q old new features all front rest going takes =
       holds = takes going.met parts.firsts parts.first_pairs going.holds;
     }
 
--- where no outline is left all features were met
+-- if no outline is left, all features were met
 pub all_met : (q : QueryValue) (fold : PageFold) (features : Features) (all : List FeatureValue) → (going : Going q fold features all []) → going.met ≡ all
 all_met q fold features all going = by going.left going.whole going.pairs where
   by : (left : List FeatureValue) → going.met ++ left ≡ all → Pairs features [] left → going.met ≡ all

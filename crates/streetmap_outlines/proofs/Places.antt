@@ -87,9 +87,9 @@ put_gap (y ∷ ys) (e ∷ es) k v o zero is one gap h =
     let before : text_cmp k e.0 ≡ Less = flip e.0 k Greater (ap (λ a. text_cmp a k) (sym (key_is y ys e es is)) ∙ gap.1 zero y (omega arith) (omega arith)) in
     rw before (ap (λ x. x ∷ outline_values (y ∷ ys)) one ∙ ap (λ xs. feature_outline_of k v ∷ xs) is)
 put_gap (y ∷ ys) (e ∷ es) k v o (suc i) is one gap h =
-    let behind : text_cmp k e.0 ≡ Greater = flip e.0 k Less (ap (λ a. text_cmp a k) (sym (key_is y ys e es is)) ∙ gap.0 zero y (omega arith) (omega arith)) in
+    let following : text_cmp k e.0 ≡ Greater = flip e.0 k Less (ap (λ a. text_cmp a k) (sym (key_is y ys e es is)) ∙ gap.0 zero y (omega arith) (omega arith)) in
     let rest = put_gap ys es k v o i (tail_is y ys e es is) one (gap_later k y ys i gap) (omega arith) in
-    rw behind (ap (λ x. x ∷ outline_values (list.insert ys i o)) (head_is y ys e es is) ∙ ap (λ xs. feature_outline_of e.0 e.1 ∷ xs) rest)
+    rw following (ap (λ x. x ∷ outline_values (list.insert ys i o)) (head_is y ys e es is) ∙ ap (λ xs. feature_outline_of e.0 e.1 ∷ xs) rest)
 
 -- ---- the place of the outline under the id
 abbrev IsPlace : Text → List KeptOutline → ℕ → Type 0
@@ -110,9 +110,9 @@ put_at (y ∷ ys) (e ∷ es) k v o zero is up one place h =
     let here : text_cmp k e.0 ≡ Equal = flip e.0 k Equal (ap (λ a. text_cmp a k) (sym (key_is y ys e es is)) ∙ place y) in
     rw here (ap (λ x. x ∷ outline_values ys) (one ∙ ap (λ a. feature_outline_of a v) (sym same)) ∙ ap (λ xs. feature_outline_of e.0 v ∷ xs) (tail_is y ys e es is))
 put_at (y ∷ ys) (e ∷ es) k v o (suc i) is up one place h =
-    let behind : text_cmp k e.0 ≡ Greater = flip e.0 k Less (below_place e.0 ys es k i (tail_is y ys e es is) (first _ _ up) place (omega arith)) in
+    let following : text_cmp k e.0 ≡ Greater = flip e.0 k Less (below_place e.0 ys es k i (tail_is y ys e es is) (first _ _ up) place (omega arith)) in
     let rest = put_at ys es k v o i (tail_is y ys e es is) (second _ _ up) one place (omega arith) in
-    rw behind (ap (λ x. x ∷ outline_values (set ys i o)) (head_is y ys e es is) ∙ ap (λ xs. feature_outline_of e.0 e.1 ∷ xs) rest)
+    rw following (ap (λ x. x ∷ outline_values (set ys i o)) (head_is y ys e es is) ∙ ap (λ xs. feature_outline_of e.0 e.1 ∷ xs) rest)
 
 -- ---- without the entry under a key
 abbrev pub others : Text → Text → Bool
@@ -132,9 +132,9 @@ cut_at (y ∷ ys) (e ∷ es) k zero is up place h =
     let here : text_cmp k e.0 ≡ Equal = flip e.0 k Equal (ap (λ a. text_cmp a k) (sym (key_is y ys e es is)) ∙ place y) in
     rw here (tail_is y ys e es is ∙ ap outlines (sym (all_below k es (subst (λ a. T (below_all text_cmp a es)) same (first _ _ up)))))
 cut_at (y ∷ ys) (e ∷ es) k (suc i) is up place h =
-    let behind : text_cmp k e.0 ≡ Greater = flip e.0 k Less (below_place e.0 ys es k i (tail_is y ys e es is) (first _ _ up) place (omega arith)) in
+    let following : text_cmp k e.0 ≡ Greater = flip e.0 k Less (below_place e.0 ys es k i (tail_is y ys e es is) (first _ _ up) place (omega arith)) in
     let rest = cut_at ys es k i (tail_is y ys e es is) (second _ _ up) place (omega arith) in
-    rw behind (ap (λ x. x ∷ outline_values (list.remove ys i)) (head_is y ys e es is) ∙ ap (λ xs. feature_outline_of e.0 e.1 ∷ xs) rest)
+    rw following (ap (λ x. x ∷ outline_values (list.remove ys i)) (head_is y ys e es is) ∙ ap (λ xs. feature_outline_of e.0 e.1 ∷ xs) rest)
 
 cut_gap : (os : List KeptOutline) (es : Entries) (k : Text) (i : ℕ) → outline_values os ≡ outlines es → IsGap k os i → where_key text_cmp (others k) es ≡ es
 cut_gap os [] k i is gap = refl
@@ -143,8 +143,8 @@ cut_gap (y ∷ ys) (e ∷ es) k zero is gap =
     let before : text_cmp k e.0 ≡ Less = flip e.0 k Greater (ap (λ a. text_cmp a k) (sym (key_is y ys e es is)) ∙ gap.1 zero y (omega arith) (omega arith)) in
     rw before (ap (λ xs. e ∷ xs) (cut_gap ys es k zero (tail_is y ys e es is) (gap_here k y ys gap)))
 cut_gap (y ∷ ys) (e ∷ es) k (suc i) is gap =
-    let behind : text_cmp k e.0 ≡ Greater = flip e.0 k Less (ap (λ a. text_cmp a k) (sym (key_is y ys e es is)) ∙ gap.0 zero y (omega arith) (omega arith)) in
-    rw behind (ap (λ xs. e ∷ xs) (cut_gap ys es k i (tail_is y ys e es is) (gap_later k y ys i gap)))
+    let following : text_cmp k e.0 ≡ Greater = flip e.0 k Less (ap (λ a. text_cmp a k) (sym (key_is y ys e es is)) ∙ gap.0 zero y (omega arith) (omega arith)) in
+    rw following (ap (λ xs. e ∷ xs) (cut_gap ys es k i (tail_is y ys e es is) (gap_later k y ys i gap)))
 
 -- a map's entries after a removal
 turned : (r : Ordering) (x : Option FeatureValue) → cond (is_eq (ordering_reverse r)) None x ≡ cond (not (is_eq r)) x None

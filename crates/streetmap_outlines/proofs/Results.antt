@@ -1,4 +1,4 @@
--- What holds where a call succeeds.
+-- What holds if a call succeeds.
 use Rattle.std.proofs.Common.{◌≡◌, false, Result, Ok, Err}
 use Rattle.std.specs.Result.{OnOk, is_err}
 

@@ -5,7 +5,7 @@ use Rattle.std.specs.declared.cmp.Ordering.TheVariants.{Less}
 use Rattle.streetmap_batch.specs.Text.{Text, text_cmp}
 use Rattle.streetmap_outlines.specs.declared.kept.KeptOutline.{KeptOutline}
 
--- whether the last of the outlines, if there is one, has this id or one after it
+-- whether the last of the outlines, if any, has this id or one after it
 abbrev pub reaches : Text → List KeptOutline → Bool
 reaches id [] = false
 reaches id (last ∷ []) = is_ge (text_cmp (string_bytes last.id) id)
@@ -17,7 +17,7 @@ AreInOrder [] = Unit {0}
 AreInOrder (first ∷ os) =
     All (λ o. text_cmp (string_bytes first.id) (string_bytes o.id) ≡ Less) os × AreInOrder os
 
--- the first of the outlines, if there is one, has an id after this one
+-- the first of the outlines, if any, has an id after this one
 abbrev pub BeginsAfter : Text → List KeptOutline → Type 0
 BeginsAfter id [] = Unit {0}
 BeginsAfter id (first ∷ os) = IsTrue (is_gt (text_cmp (string_bytes first.id) id))

@@ -1,5 +1,5 @@
 pub mod Chunks
 pub mod Kept
 pub mod Outlines
-pub mod Selecting
+pub mod Selections
 pub mod Within

@@ -44,7 +44,7 @@ AreOutlines os features = outline_values os
 abbrev pub AreFilled : List Chunk → Type 0
 AreFilled chunks = All (λ chunk. 0 < length chunk.outlines.items) chunks
 
--- each point of the extent, if there is one, lies in the bounds
+-- each point of the extent, if any, lies in the bounds
 abbrev pub LiesWithin : Option GridBox → Option GridBox → Type 0
 LiesWithin None bounds = Unit {0}
 LiesWithin (Some extent) None = ⊥
@@ -82,8 +82,8 @@ IsTimedBy (Some seconds) (Some bounds) = (seconds.0 ≤ℤ bounds.0) × (bounds.
 abbrev pub AllTimedBy : List KeptOutline → Option (ℤ × ℤ) → Type 0
 AllTimedBy os bounds = All (λ o. IsTimedBy o.seconds bounds) os
 
--- this is the extent, if there is one, counted from the corner of the grid; if there is none it
--- ends at that corner, which no box of the grid reaches
+-- this is the extent, if any, counted from the corner of the grid; for no extent it ends at that
+-- corner, which no box of the grid reaches
 abbrev pub IsExtentIf : Envelope → Option GridBox → Type 0
 IsExtentIf e None = e.x1 ≡ 0
 IsExtentIf e (Some extent) = IsEnvelopeOf e (box_value extent)
@@ -115,7 +115,7 @@ pub record AreChunksOf (chunks : List Chunk) (features : Features) : Type 0 wher
   pub filled : AreFilled chunks
   pub bounded : AreBounded chunks
 
--- the extent, if there is one, is in the cells under the number of a chunk
+-- the extent, if any, is in the cells under the number of a chunk
 abbrev pub IsListedIf : Cells → ℕ → Option GridBox → Type 0
 IsListedIf cells number None = Unit {0}
 IsListedIf cells number (Some extent) = HasExtent cells number (box_value extent)

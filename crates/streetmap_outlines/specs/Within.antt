@@ -19,5 +19,5 @@ abbrev pub HasThreeBoundsIn : Envelope → Envelope → Type 0
 HasThreeBoundsIn extent window = 3 ≤ bounds_in extent window
 
 -- an extent shows whether its geometry meets a window: if it overlaps, it has three bounds in it
-abbrev pub TellsWhetherMet : Envelope → Envelope → Type 0
-TellsWhetherMet extent window = overlaps extent window ≡ true → HasThreeBoundsIn extent window
+abbrev pub DecidesMeeting : Envelope → Envelope → Type 0
+DecidesMeeting extent window = overlaps extent window ≡ true → HasThreeBoundsIn extent window

@@ -90,7 +90,7 @@ impl Chunk {
             .binary_search_by(|outline| outline.id.as_str().cmp(id))
     }
 
-    /// Whether there is an outline under this id, with this extent.
+    /// Whether an outline exists under this id, with this extent.
     pub(crate) fn has(&self, id: &str, extent: Option<GridBox>) -> bool
         ensures { IsTrue result → (cells : Cells) → IsListedChunk cells self.now →
             IsListedIf cells self.now.number extent }
@@ -113,7 +113,7 @@ impl Chunk {
         keep_extents(&mut self.extents, self.outlines.as_slice());
     }
 
-    /// Inserts an outline, in place of the one under its id, if there is one.
+    /// Inserts an outline, in place of the one under its id, if any.
     pub(crate) fn put(&mut self, outline: KeptOutline) -> Result<(), AllocError>
         ensures some { OnOk result (0 < length self.new.outlines.items) }
         ensures outlines { (features : Features) (f : FeatureValue)
@@ -137,7 +137,7 @@ impl Chunk {
         Ok(())
     }
 
-    /// Removes the outline under an id, if there is one.
+    /// Removes the outline under an id, if any.
     pub(crate) fn cut(&mut self, id: &str)
         ensures outlines { (features : Features) → AreOutlines self.old.outlines.items features
             → AreOutlines self.new.outlines.items (remove features id.now) }
@@ -162,16 +162,16 @@ impl Chunk {
         requires { place ≤ length self.old.outlines.items }
         ensures front { OnOk result (self.new.outlines.items
             ≡ take place self.old.outlines.items) }
-        ensures behind { IfOk result (λ behind. behind.outlines.items
+        ensures following { IfOk result (λ following. following.outlines.items
             ≡ drop place self.old.outlines.items) }
-        ensures bounded { IfOk result (λ behind. IsBounded self.new × IsBounded behind) }
-        ensures number { IfOk result (λ behind. behind.number ≡ number) }
+        ensures bounded { IfOk result (λ following. IsBounded self.new × IsBounded following) }
+        ensures number { IfOk result (λ following. following.number ≡ number) }
         ensures listed { (cells : Cells) → IsListedChunk cells self.old →
             OnOk result (IsListedChunk cells self.new) }
     {
-        let behind = self.outlines.split_off(place)?;
+        let following = self.outlines.split_off(place)?;
         self.bound();
-        Ok(Chunk::new(alloc, number, behind))
+        Ok(Chunk::new(alloc, number, following))
     }
 
     /// Whether the last of the outlines is under this id or a later one.

@@ -8,7 +8,7 @@ ghost use Rattle.streetmap_query.specs.Views.{query_value};
 ghost use Rattle.streetmap_ledger.specs.State.{Features};
 ghost use Rattle.streetmap_ledger.specs.OutlineView.{feature_outline_values};
 ghost use Rattle.streetmap_outlines.specs.Kept.{outline_values};
-ghost use Rattle.streetmap_outlines.specs.Selecting.{MarksCandidates};
+ghost use Rattle.streetmap_outlines.specs.Selections.{MarksCandidates};
 ghost use Rattle.streetmap_outlines.specs.Outlines.{joined, joined_runs, IsOutlineOf, AreFilled};
 ghost use Rattle.streetmap_outlines.specs.Outlines.{AreBounded, AreChunksOf, AreListed, IsListedIf};
 ghost use Rattle.streetmap_outlines.specs.Outlines.{AreListedChunksOf};
@@ -144,14 +144,18 @@ impl Chunks {
         if len < MOST_IN_CHUNK {
             return Ok(());
         }
-        let behind = self.chunks[place].split_off(alloc, len / 2, self.next)?;
-        list_outlines(&mut self.cells, behind.number, behind.outlines.as_slice())?;
+        let following = self.chunks[place].split_off(alloc, len / 2, self.next)?;
+        list_outlines(
+            &mut self.cells,
+            following.number,
+            following.outlines.as_slice(),
+        )?;
         self.next = self.next.saturating_add(1);
-        self.chunks.insert(place + 1, behind)?;
+        self.chunks.insert(place + 1, following)?;
         Ok(())
     }
 
-    /// Makes a first chunk of an outline, if there is no chunk.
+    /// Makes a first chunk of an outline, if no chunk exists.
     fn begin(&mut self, alloc: Global, outline: KeptOutline) -> Result<(), AllocError>
         requires { self.old.chunks.items ≡ [] }
         ensures { (features : Features) (f : FeatureValue) →
@@ -186,8 +190,8 @@ impl Chunks {
         list_extent(&mut self.cells, number, outline.extent())
     }
 
-    /// Inserts an outline, in place of the one under its id, if there is one. After an error
-    /// outlines may be missing.
+    /// Inserts an outline, in place of the one under its id, if any. After an error outlines may
+    /// be missing.
     pub fn put(&mut self, alloc: Global, outline: KeptOutline) -> Result<(), AllocError>
         ensures { (features : Features) (f : FeatureValue) →
             AreListedChunksOf self.old features →
@@ -203,7 +207,7 @@ impl Chunks {
         self.halve(alloc, place)
     }
 
-    /// Removes the outline under an id, if there is one, and its chunk, if that is empty then.
+    /// Removes the outline under an id, if any, and its chunk, if that is then empty.
     pub fn cut(&mut self, id: &str)
         ensures { (features : Features) → AreListedChunksOf self.old features →
             AreListedChunksOf self.new (remove features id.now) }
@@ -218,7 +222,7 @@ impl Chunks {
     }
 
     /// Whether to search the cells for the box. Without marks a page passes over each chunk by its
-    /// bounds. So if there are very many chunks for the number of cells that a search goes over,
+    /// bounds. So if the chunks are very many for the number of cells that a search goes over,
     /// the search is cheaper wherever the box lies. Otherwise it is cheaper if, without marks, a
     /// page would go over more chunks than the search goes over cells: a chunk costs more than a
     /// cell. If the order of ids follows places, few chunks are near a small box, and a search

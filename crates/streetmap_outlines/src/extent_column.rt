@@ -11,8 +11,8 @@ ghost use Rattle.streetmap_query.specs.Views.{query_value};
 ghost use Rattle.streetmap_ledger.specs.Pages.{passes, extent_overlaps, is_candidate};
 ghost use Rattle.streetmap_cells.specs.Envelopes.{overlaps};
 ghost use Rattle.streetmap_outlines.specs.Outlines.{IsOutlineOf, IsExtentIf, AreExtentsOf};
-ghost use Rattle.streetmap_outlines.specs.Selecting.{IsWindowOf};
-ghost use Rattle.streetmap_outlines.specs.Within.{TellsWhetherMet};
+ghost use Rattle.streetmap_outlines.specs.Selections.{IsWindowOf};
+ghost use Rattle.streetmap_outlines.specs.Within.{DecidesMeeting};
 ghost use Rattle.streetmap_outlines.specs.declared.kept.KeptOutline.{KeptOutline};
 
 use crate::kept::KeptOutline;
@@ -24,7 +24,7 @@ use streetmap_query::Query;
 /// How many extents are counted at a time: few enough for a count of 32 bits.
 const BLOCK: usize = 4_096;
 
-/// What is kept of an extent. If there is none it ends at the corner of the grid, so that no box
+/// The kept form of an extent. For no extent it ends at the corner of the grid, so that no box
 /// overlaps it.
 fn envelope_of(extent: Option<GridBox>) -> Envelope
     ensures { IsExtentIf result extent }
@@ -53,7 +53,7 @@ pub fn keep_extents(extents: &mut Vec<Envelope>, outlines: &[KeptOutline])
     }
 }
 
-/// The box that a query asks for, in the form of the kept extents; none if it asks for none.
+/// The box of a query, in the form of the kept extents; none if the query has none.
 pub fn window_of(query: &Query) -> Option<Envelope>
     ensures { IsWindowOf (query_value query.now) result }
 {
@@ -84,30 +84,30 @@ pub fn lies_outside(window: Option<Envelope>, extents: &[Envelope], place: usize
 }
 
 /// How many of the extents overlap the window, if each of these has three bounds in it; none if one
-/// has not. No branch depends on an extent: among extents in no order the processor mispredicts
+/// has fewer. No branch depends on an extent: with unsorted extents the processor mispredicts
 /// such a branch, and without it the processor compares four of them at once.
 fn count_in_block(window: &Envelope, extents: &[Envelope]) -> Option<u32>
     requires { length extents.now ≤ BLOCK }
     ensures count { IfSome result (λ count. count
         ≡ count_by (λ e. overlaps e window.now) extents.now) }
-    ensures told { IsSome result ↔ All (λ e. TellsWhetherMet e window.now) extents.now }
+    ensures reported { IsSome result ↔ All (λ e. DecidesMeeting e window.now) extents.now }
 {
     let mut count: u32 = 0;
-    let mut is_told = true;
+    let mut is_decided = true;
     for extent in extents {
         let overlaps = extent.overlaps(window);
         count += u32::from(overlaps);
-        is_told &= !overlaps | has_three_bounds_in(extent, window);
+        is_decided &= !overlaps | has_three_bounds_in(extent, window);
     }
-    if is_told { Some(count) } else { None }
+    if is_decided { Some(count) } else { None }
 }
 
 /// How many of the extents overlap the window, if each of these has three bounds in it; none if one
-/// has not.
+/// has fewer.
 pub fn count_in_window(window: &Envelope, extents: &[Envelope]) -> Option<u64>
     ensures count { IfSome result (λ count. count
         ≡ count_by (λ e. overlaps e window.now) extents.now) }
-    ensures told { IsSome result ↔ All (λ e. TellsWhetherMet e window.now) extents.now }
+    ensures reported { IsSome result ↔ All (λ e. DecidesMeeting e window.now) extents.now }
 {
     let mut count = 0;
     for block in extents.chunks(BLOCK) {

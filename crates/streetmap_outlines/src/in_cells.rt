@@ -12,7 +12,7 @@ use streetmap_grid::GridBox;
 /// Cells have room for this many extents more than twice the present number.
 const SPARE_ROOM: usize = 1024;
 
-/// Puts an extent into cells, if there is one, under a chunk's number.
+/// Puts an extent, if any, into cells under a chunk's number.
 pub fn list_extent(
     cells: &mut Cells,
     number: u32,
@@ -42,7 +42,7 @@ pub fn list_outlines(
     Ok(())
 }
 
-/// How many outlines there are in chunks.
+/// How many outlines chunks have.
 fn count_of(chunks: &[Chunk]) -> usize {
     let mut count: usize = 0;
     for chunk in chunks {

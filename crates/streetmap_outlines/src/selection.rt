@@ -1,4 +1,4 @@
-//! What an outline shows of a feature that a query asks for.
+//! What an outline shows of a feature that a query may select.
 ghost use Rattle.std.specs.Prelude.{◌≡◌, Option, IsTrue, IfSome, false, true, not};
 ghost use Rattle.std.specs.Prelude.{option_copied};
 ghost use Rattle.streetmap_grid.specs.Meeting.{geometry_meets};
@@ -6,19 +6,19 @@ ghost use Rattle.streetmap_moment.specs.Meeting.{meets, seconds_overlap};
 ghost use Rattle.streetmap_geojson.specs.FeatureValue.{FeatureValue};
 ghost use Rattle.streetmap_geojson.specs.FeatureInvariant.{IsFeature};
 ghost use Rattle.streetmap_query.specs.Views.{query_value};
-ghost use Rattle.streetmap_ledger.specs.Pages.{passes, interval_asked, selects};
+ghost use Rattle.streetmap_ledger.specs.Pages.{passes, requested_interval, selects};
 ghost use Rattle.streetmap_ledger.specs.Pages.{comes_after as comes_after_of};
 ghost use Rattle.streetmap_ledger.specs.Pages.{is_candidate as is_candidate_of};
 ghost use Rattle.streetmap_outlines.specs.Outlines.{IsOutlineOf, LiesWithin, IsTimedBy, IsBounded};
-ghost use Rattle.streetmap_outlines.specs.Selecting.{is_marked_if, IsCountedFor, CountsWhole};
-ghost use Rattle.streetmap_outlines.specs.Selecting.{AllComeAfter};
+ghost use Rattle.streetmap_outlines.specs.Selections.{is_marked_if, IsCountedFor, CountsWhole};
+ghost use Rattle.streetmap_outlines.specs.Selections.{AllComeAfter};
 ghost use Rattle.streetmap_outlines.specs.Chunks.{AreInOrder, BeginsAfter};
 ghost use Rattle.streetmap_outlines.specs.declared.kept.KeptOutline.{KeptOutline};
 
 use crate::chunk::Chunk;
 use crate::extent_column::count_in_window;
 use crate::kept::KeptOutline;
-use crate::within::tells_meeting;
+use crate::within::decides_meeting;
 use streetmap_cells::{Envelope, Marks};
 use streetmap_ledger::overlaps_box;
 use streetmap_query::Query;
@@ -26,7 +26,7 @@ use streetmap_query::Query;
 /// Whether the seconds overlap those of the interval, if the query has one.
 fn overlaps_interval(query: &Query, outline: &KeptOutline) -> bool
     ensures { (f : FeatureValue) → IsOutlineOf outline.now f
-        → result ≡ passes seconds_overlap f.time (interval_asked (query_value query.now)) }
+        → result ≡ passes seconds_overlap f.time (requested_interval (query_value query.now)) }
 {
     match &query.datetime {
         None => true,
@@ -57,7 +57,7 @@ pub fn is_passed_over(query: &Query, chunk: &Chunk) -> bool
     !overlaps_box(query, chunk.bounds)
 }
 
-/// Whether a chunk has no mark, if there are marks.
+/// Whether a chunk has no mark, if marks are given.
 pub fn is_unmarked(marks: Option<&Marks>, chunk: &Chunk) -> bool
     ensures { result ≡ not (is_marked_if (option_copied marks.entry) chunk.now.number) }
 {
@@ -73,7 +73,7 @@ pub fn is_unmarked(marks: Option<&Marks>, chunk: &Chunk) -> bool
 fn reaches_into_interval(query: &Query, seconds: Option<(i64, i64)>) -> bool
     ensures { IsTrue result → (outline : KeptOutline) (f : FeatureValue) →
         IsTimedBy outline.seconds seconds → IsOutlineOf outline f →
-        passes meets f.time (interval_asked (query_value query.now)) ≡ true }
+        passes meets f.time (requested_interval (query_value query.now)) ≡ true }
 {
     match &query.datetime {
         None => true,
@@ -92,7 +92,7 @@ pub fn is_selected(query: &Query, outline: &KeptOutline) -> bool
     ensures { IsTrue result → (f : FeatureValue) → IsOutlineOf outline.now f → IsFeature f
         → selects (query_value query.now) f ≡ true }
 {
-    tells_meeting(query, outline.extent()) && reaches_into_interval(query, outline.seconds)
+    decides_meeting(query, outline.extent()) && reaches_into_interval(query, outline.seconds)
 }
 
 /// Whether the chunk's bounds lie within the box, if the query has one. Then each feature with an
@@ -172,7 +172,7 @@ pub fn comes_after(query: &Query, outline: &KeptOutline) -> bool
     }
 }
 
-/// Whether the first outline of a chunk, if there is one, has an id after this one.
+/// Whether the first outline of a chunk, if any, has an id after this one.
 fn begins_after(chunk: &Chunk, id: &str) -> bool
     ensures { IsTrue result → BeginsAfter id.now chunk.now.outlines.items }
 {
@@ -186,7 +186,7 @@ fn begins_after(chunk: &Chunk, id: &str) -> bool
 /// known.
 pub fn all_come_after(query: &Query, chunk: &Chunk) -> Option<bool>
     ensures { AreInOrder chunk.now.outlines.items
-        → IfSome result (λ behind. AllComeAfter (query_value query.now) behind
+        → IfSome result (λ following. AllComeAfter (query_value query.now) following
         chunk.now.outlines.items) }
 {
     match &query.after {

@@ -14,7 +14,7 @@ use streetmap_grid::GridBox;
 use streetmap_query::Query;
 
 /// Whether a bound lies between two others, or is one of them. It always makes both comparisons,
-/// without a branch: among bounds in no order the processor mispredicts such a branch.
+/// without a branch: with unsorted bounds the processor mispredicts such a branch.
 fn lies_between(low: u32, high: u32, at: u32) -> bool
     ensures { result ≡ is_between low high at }
 {
@@ -36,7 +36,7 @@ pub fn has_three_bounds_in(extent: &Envelope, window: &Envelope) -> bool
 /// extent is the coordinate of a position. If three of the four lie between those of the box, the
 /// position at one of them lies in the box: the extent begins or ends there in one direction, and
 /// lies within the box in the other. So a line that crosses one edge of the box need not be read.
-pub fn tells_meeting(query: &Query, extent: Option<GridBox>) -> bool
+pub fn decides_meeting(query: &Query, extent: Option<GridBox>) -> bool
     ensures { IsTrue result → (geometry : Option GeometryValue)
         → option_map box_value extent ≡ option_map extent_of geometry → IsGeometryIf geometry
         → passes geometry_meets geometry (query_value query.now).bbox ≡ true }

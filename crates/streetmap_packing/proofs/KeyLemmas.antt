@@ -1,4 +1,4 @@
--- A key with a number behind it, and an edit alone in the batch of such a key.
+-- A key followed by a number, and an edit alone in the batch of such a key.
 use Rattle.std.proofs.Common.{◌≡◌, ◌≢◌, ℕ, ◌+◌, ◌<◌, ◌≤◌, ◌^◌, ◌%◌, Bool, true, false, ◌&&◌, IsTrue}
 use Rattle.std.proofs.Common.{codes, leb, List, [], ◌∷◌, ◌++◌, length, decimal, refl, sym, ap, ◌∙◌}
 use Rattle.std.proofs.Common.{arith, length-append}
@@ -15,7 +15,7 @@ use Rattle.streetmap_batch.specs.Names.{is_key, is_key_byte, is_long}
 use Rattle.streetmap_batch.specs.Text.{Text}
 use Rattle.streetmap_packing.specs.Packs.{numbered, numbered_key, passes}
 use Rattle.streetmap_packing.specs.Laws.{KeysHaveRoom}
-use Rattle.streetmap_packing.proofs.PackLemmas.{both_true, and_true, behind, text_long}
+use Rattle.streetmap_packing.proofs.PackLemmas.{both_true, and_true, following, text_long}
 use Rattle.streetmap_packing.proofs.TextLengths.{text_of, one_longer}
 
 all_append : (p : ℕ → Bool) (xs ys : List ℕ) → list_all p xs ≡ true → list_all p ys ≡ true →
@@ -58,10 +58,10 @@ plain_bytes (b ∷ s) h =
     let both = both_true (is_key_byte b) (list_all is_key_byte s) h in
     ap (λ l. l ++ escape s) (plain_byte b both.0) ∙ ap (λ l. b ∷ l) (plain_bytes s both.1)
 
--- what stands behind the edits of a batch is short
-behind_short : (key : Text) → IsTrue (is_key key) → length (behind key) ≤ 74
+-- what follows the edits of a batch is short
+after_short : (key : Text) → IsTrue (is_key key) → length (following key) ≤ 74
 unfolding is_key
-behind_short key named =
+after_short key named =
     let both = both_true (is_long 1 64 key) (list_all is_key_byte key) named in
     let most : length key ≤ 64 = leb-true (length key) 64
     (both_true (leb 1 (length key)) (leb (length key) 64) both.0).1 in
@@ -80,7 +80,7 @@ pub alone_passes : (each : ℕ) (key : Text) (n : ℕ) (e : EditValue) (size : �
 alone_passes each key n e size some named sized small =
     let text = text_long (numbered key n (e ∷ [])) in
     let one = one_longer EditValue edit_data [] e in
-    let short = behind_short (numbered_key key n) named in
+    let short = after_short (numbered_key key n) named in
     and_true _ _ (le-leb 1 each some)
     (le-leb (length (batch_text (numbered key n (e ∷ [])))) 8388608
     (omega (arith, text, one, short, sized, small)))
@@ -88,7 +88,7 @@ alone_passes each key n e size some named sized small =
 true_false : {P : Type 0} (b : Bool) → b ≡ true → b ≡ false → P
 true_false b t f = cc
 
--- what is under way takes it where that has no edit
+-- the current batch has an edit if it does not take one that an empty batch takes
 pub some_under_way : (each : ℕ) (key : Text) (n : ℕ) (es : List EditValue) (e : EditValue) →
     passes each key n (e ∷ []) ≡ true
     → passes each key n (es ++ e ∷ []) ≡ false → es ≢ []

@@ -14,7 +14,7 @@ use Rattle.streetmap_batch.proofs.TextFacts.{batch_text_is}
 use Rattle.streetmap_packing.specs.Runs.{AreRuns}
 use Rattle.streetmap_packing.specs.Packs.{numbered, numbered_all, passes}
 use Rattle.streetmap_packing.specs.Laws.{OneWay, GoesOn}
-use Rattle.streetmap_packing.specs.Packing.{comma_behind}
+use Rattle.streetmap_packing.specs.PackingState.{comma_after}
 use Rattle.streetmap_packing.proofs.RunLemmas.{one_way, begins_so}
 use Rattle.streetmap_packing.proofs.TextLengths.{text_of, one_longer, front_shorter}
 
@@ -25,31 +25,31 @@ both_true false b h = cc
 pub and_true : (a b : Bool) → a ≡ true → b ≡ true → (a && b) ≡ true
 and_true a b p q = rw (p, q) refl
 
--- what stands behind the edits
-abbrev pub behind : Text → List ℕ
-behind key = codes ",\"key\":" ++ (compact_text (string key) ++ codes "}")
+-- what follows the edits
+abbrev pub following : Text → List ℕ
+following key = codes ",\"key\":" ++ (compact_text (string key) ++ codes "}")
 
 pub text_long : (b : BatchValue) →
     length (batch_text b) ≡ length (codes "{\"edits\":[") +
-    (length (text_of EditValue edit_data false b.edits) + length (behind b.key))
+    (length (text_of EditValue edit_data false b.edits) + length (following b.key))
 text_long b =
     sym (ap length (batch_text_is b))
     ∙ (length-append (codes "{\"edits\":[")
-    (text_of EditValue edit_data false b.edits ++ behind b.key)
+    (text_of EditValue edit_data false b.edits ++ following b.key)
     ∙ ap (λ n. length (codes "{\"edits\":[") + n)
-    (length-append (text_of EditValue edit_data false b.edits) (behind b.key)))
+    (length-append (text_of EditValue edit_data false b.edits) (following b.key)))
 
--- a batch text with one edit more
+-- a batch text with one more edit
 pub batch_longer : (key : Text) (n : ℕ) (es : List EditValue) (e : EditValue) →
     length (batch_text (numbered key n (es ++ e ∷ []))) ≡ length (batch_text (numbered key n es)) +
-    (length (comma_behind es) + length (compact_text (edit_data e)))
+    (length (comma_after es) + length (compact_text (edit_data e)))
 batch_longer key n es e =
     let more = text_long (numbered key n (es ++ e ∷ [])) in
     let less = text_long (numbered key n es) in
     let one = one_longer EditValue edit_data es e in
     omega (arith, more, less, one)
 
--- what begins a batch within the limits is within them
+-- a prefix of a batch within the limits is within them
 pub shorter : (each : ℕ) (key : Text) (n : ℕ) (xs ys : List EditValue) →
     passes each key n (xs ++ ys) ≡ true → passes each key n xs ≡ true
 shorter each key n xs ys h =
@@ -104,11 +104,11 @@ goes_on each key es more left bs all first whole =
 
 -- ---- the packer
 
--- the batch under way takes an edit where its text has room for it
+-- the current batch takes an edit if its text has room for it
 pub takes_if :
     (each : ℕ) (key : Text) (n : ℕ) (es : List EditValue) (e : EditValue) (bytes comma size : ℕ) →
     length es < each → bytes ≡ length (batch_text (numbered key n es)) →
-    comma ≡ length (comma_behind es) → length (compact_text (edit_data e)) ≡ size →
+    comma ≡ length (comma_after es) → length (compact_text (edit_data e)) ≡ size →
     leb (bytes + (comma + size)) 8388608 ≡ passes each key n (es ++ e ∷ [])
 takes_if each key n es e bytes comma size few measured comma_is sized =
     let long = length-append es (e ∷ []) in
@@ -120,11 +120,11 @@ takes_if each key n es e bytes comma size few measured comma_is sized =
     ap (λ k. leb k 8388608) same ∙ sym
     (ap (λ b. b && leb (length (batch_text (numbered key n (es ++ e ∷ [])))) 8388608) counts)
 
--- with an edit that it takes the text has so many bytes
+-- the size of the text with an edit that it takes
 pub takes_bytes :
     (each : ℕ) (key : Text) (n : ℕ) (es : List EditValue) (e : EditValue) (bytes comma size : ℕ) →
     passes each key n (es ++ e ∷ []) ≡ true → bytes ≡ length (batch_text (numbered key n es)) →
-    comma ≡ length (comma_behind es) → length (compact_text (edit_data e)) ≡ size →
+    comma ≡ length (comma_after es) → length (compact_text (edit_data e)) ≡ size →
     (bytes + (comma + size) ≡ length (batch_text (numbered key n (es ++ e ∷ [])))) ×
     (bytes + (comma + size) ≤ 8388608) × (length es + 1 ≤ each)
 takes_bytes each key n es e bytes comma size h measured comma_is sized =

@@ -1,4 +1,4 @@
--- Runs: there is one way to cut a list, and it is made element by element.
+-- Runs: the cut of a list is unique, and it is made element by element.
 use Rattle.std.proofs.Common.{◌≡◌, ◌≢◌, ℕ, ◌+◌, Bool, true, false, List, [], ◌∷◌, ◌++◌, ◌⊎◌, inl}
 use Rattle.std.proofs.Common.{inr, length, refl, sym, ap, subst, ◌∙◌, arith, append_assoc}
 use Rattle.std.proofs.lemmas.List.{append-nil}
@@ -13,7 +13,7 @@ heads x y xs ys e = cc
 tails : {A : Type 0} (x y : A) (xs ys : List A) → x ∷ xs ≡ y ∷ ys → xs ≡ ys
 tails x y xs ys e = cc
 
--- one of two fronts of a list goes on as the other
+-- two ways to split a list in two: us is at least as long as xs, and begins with it
 abbrev Longer : {A : Type 0} → List A → List A → List A → List A → Type 0
 Longer {A} xs ys us vs = (zs : List A) × (us ≡ xs ++ zs) × (ys ≡ zs ++ vs)
 
@@ -39,7 +39,7 @@ true_false b t f = cc
 
 module _ (A : Type 0) (passes : ℕ → List A → Bool)
     (shorter : (n : ℕ) (xs ys : List A) → passes n (xs ++ ys) ≡ true → passes n xs ≡ true) where
-  -- a run that stops is not a front of another one that passes
+  -- a run that stops is not a proper prefix of another run that passes
   no_longer : (n : ℕ) (run rest us vs : List A) → Stops passes n run rest → passes n us ≡ true →
       Longer run rest us vs → (run ≡ us) × (rest ≡ vs)
   no_longer n run rest us vs stops passed l = by_more l.0 rest l.1 l.2 stops where
@@ -61,13 +61,13 @@ module _ (A : Type 0) (passes : ℕ → List A → Bool)
     by (inl l) = no_longer n run rest us vs a.stops b.passed l
     by (inr l) = let e = no_longer n us vs run rest b.stops a.passed l in (sym e.0, sym e.1)
 
-  -- nothing is no front
+  -- an empty list has no longest run
   no_front : {P : Type 0} (n : ℕ) (xs run rest : List A) → xs ≡ [] → IsLongestRun passes n xs run rest →
       P
   no_front n xs [] rest e f = absurd (f.some refl)
   no_front n xs (x ∷ run) rest e f = nil_cons x (run ++ rest) (sym e ∙ f.whole)
 
-  -- what stops a run stops it also with more behind the list
+  -- what stops a run still stops it if the list is longer
   stops_with : (n : ℕ) (run rest more : List A) → Stops passes n run rest →
       TakesNoMore passes n run rest → Stops passes n run (rest ++ more)
   stops_with n run [] [] stops full = tt
@@ -88,7 +88,7 @@ module _ (A : Type 0) (passes : ℕ → List A → Bool)
   full_with n run [] more full e x = full refl x
   full_with n run (y ∷ rest) more full e x = nil_cons y (rest ++ more) (sym e)
 
-  -- ---- one way
+  -- ---- the cut is unique
 
   pub one_way : (n : ℕ) (xs : List A) (runs others : List (List A)) → AreRuns passes n xs runs →
       AreRuns passes n xs others → runs ≡ others
@@ -105,7 +105,7 @@ module _ (A : Type 0) (passes : ℕ → List A → Bool)
   pub none_done : (n : ℕ) → AreDone passes n [] [] []
   none_done n = refl
 
-  -- one element more
+  -- one more element
   pub one_more : (n : ℕ) (xs : List A) (runs : List (List A)) (left : List A) (x : A) →
       AreDone passes n xs runs left → AreDone passes n (xs ++ x ∷ []) runs (left ++ x ∷ [])
   one_more n xs [] left x d = ap (λ t. t ++ x ∷ []) d
@@ -116,7 +116,7 @@ module _ (A : Type 0) (passes : ℕ → List A → Bool)
     one_more (n + 1) d.0 runs left x d.3,
   )
 
-  -- one run more
+  -- one more run
   pub one_done : (n m : ℕ) (xs : List A) (runs : List (List A)) (run rest : List A) →
       m ≡ n + length runs → AreDone passes n xs runs (run ++ rest) → run ≢ [] →
       passes m run ≡ true → Stops passes m run rest → TakesNoMore passes m run rest →
@@ -152,9 +152,9 @@ module _ (A : Type 0) (passes : ℕ → List A → Bool)
   last_short n m xs (r ∷ rs) run e d some passed =
       (d.0, d.1, last_short (n + 1) m d.0 rs run (omega arith) d.3 some passed)
 
-  -- ---- going on
+  -- ---- longer lists
 
-  -- the runs that are done are the first of each list that begins so
+  -- the complete runs of a list are the first runs of each longer list
   pub begins_so :
       (n : ℕ) (xs more : List A) (runs : List (List A)) (left : List A) (all : List (List A)) →
       AreDone passes n xs runs left → AreRuns passes n (xs ++ more) all →

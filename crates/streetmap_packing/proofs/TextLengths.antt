@@ -1,10 +1,10 @@
--- How long the text of a list is, and of a list that begins so.
+-- How long the text of a list is, and that of a longer list.
 use Rattle.std.proofs.Common.{◌≡◌, ℕ, ◌+◌, ◌≤◌, Bool, true, false, List, [], ◌∷◌, ◌++◌, map, length}
 use Rattle.std.proofs.Common.{ap, ◌∙◌, arith, length-append}
 use Rattle.serde_json.specs.Data.{Data}
 use Rattle.serde_json.specs.View.{items_of}
 use Rattle.serde_json.specs.Written.{compact_text, items_text, comma_if}
-use Rattle.streetmap_packing.specs.Packing.{comma_behind}
+use Rattle.streetmap_packing.specs.PackingState.{comma_after}
 
 module _ (A : Type 0) (f : A → Data) where
   abbrev pub text_of : Bool → List A → List ℕ
@@ -26,10 +26,10 @@ module _ (A : Type 0) (f : A → Data) where
       let i = later_more xs x in
       omega (arith, e, h, i)
 
-  -- one element more
+  -- one more element
   pub one_longer : (xs : List A) (x : A) →
       length (text_of false (xs ++ x ∷ [])) ≡ length (text_of false xs) +
-      (length (comma_behind xs) + length (compact_text (f x)))
+      (length (comma_after xs) + length (compact_text (f x)))
   one_longer [] x = let e = long false x [] in omega (arith, e)
   one_longer (y ∷ xs) x =
       let e = long false y (xs ++ x ∷ []) in
@@ -44,7 +44,7 @@ module _ (A : Type 0) (f : A → Data) where
       let i = bracket true xs in
       omega (arith, e, i)
 
-  -- no list is shorter than its front
+  -- the text of a list is not shorter than that of its prefix
   pub front_shorter : (later : Bool) (xs ys : List A) →
       length (text_of later xs) ≤ length (text_of later (xs ++ ys))
   front_shorter later [] ys = bracket later ys

@@ -1,4 +1,4 @@
--- Edits that were packed so far: the runs that are done, and what is under way.
+-- Edits that were packed so far: the complete runs, and the current batch.
 use Rattle.std.proofs.Common.{◌≡◌, ◌≢◌, ℕ, ◌+◌, ◌<◌, ◌≤◌, Bool, true, false, ◌&&◌, leb, List, []}
 use Rattle.std.proofs.Common.{◌∷◌, ◌++◌, length, refl, sym, ap, subst, arith, length-append}
 use Rattle.std.proofs.lemmas.List.{append-nil}
@@ -22,7 +22,7 @@ false_from : (each n : ℕ) (b : Bool) → each < n → (leb n each && b) ≡ fa
 false_from each n b h = let over : leb n each ≡ false = grind (arith, nat_tests) in ap (λ t. t && b)
     over
 
--- so many edits take no more
+-- a run of `each` edits takes no more
 pub is_full : (each : ℕ) (key : Text) (n : ℕ) (run rest : List EditValue) → each ≤ length run →
     TakesNoMore (passes each key) n run rest
 is_full each key n run rest many none e =
@@ -31,7 +31,7 @@ is_full each key n run rest many none e =
 
 module _ (each : ℕ) (key : Text) (es : List EditValue) (sent : List (List EditValue))
     (left : List EditValue) (it : Underway each key es sent left) where
-  -- an edit that the batch under way takes
+  -- an edit that the current batch takes
   pub takes_on : (e : EditValue) → passes each key (1 + length sent) (left ++ e ∷ []) ≡ true →
       Underway each key (es ++ e ∷ []) sent (left ++ e ∷ [])
   takes_on e h = record {
@@ -69,7 +69,7 @@ module _ (each : ℕ) (key : Text) (es : List EditValue) (sent : List (List Edit
         passing = λ some. absurd (some refl);
       }
 
-  -- the end, where no edit is left
+  -- the end, if no edit is left
   pub packs_done : left ≡ [] → Packs each key es (numbered_all key 1 sent)
   packs_done none = (
     sent,
@@ -83,7 +83,7 @@ module _ (each : ℕ) (key : Text) (es : List EditValue) (sent : List (List Edit
       (1 + length sent) left ∷ []
   one_batch = numbered_append key 1 sent (left ∷ [])
 
-  -- the end, where some are
+  -- the end, if some edits are left
   pub packs_last : left ≢ [] →
       Packs each key es (numbered_all key 1 sent ++ numbered key (1 + length sent) left ∷ [])
   packs_last some = (
@@ -93,7 +93,7 @@ module _ (each : ℕ) (key : Text) (es : List EditValue) (sent : List (List Edit
     sym one_batch,
   )
 
--- how many edits the runs that are done have
+-- how many edits the complete runs have
 pub counts :
     (each : ℕ) (key : Text) (n : ℕ) (es : List EditValue) (sent : List (List EditValue))
     (left : List EditValue) →

@@ -1,6 +1,6 @@
 pub mod Runs
 pub mod Packs
-pub mod Packing
+pub mod PackingState
 pub mod Underway
 pub mod PackerView
 pub mod Laws

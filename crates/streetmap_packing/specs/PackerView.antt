@@ -6,7 +6,7 @@ use Rattle.streetmap_batch.specs.Text.{Text}
 use Rattle.streetmap_batch.specs.BatchValue.{EditValue}
 use Rattle.streetmap_batch.specs.BatchView.{batch_value, edit_values}
 use Rattle.streetmap_batch.specs.declared.batch.Batch.{Batch}
-use Rattle.streetmap_packing.specs.Packing.{Packing, under_way, is_passing, with_edit, next}
+use Rattle.streetmap_packing.specs.PackingState.{Packing, under_way, is_passing, with_edit, next}
 use Rattle.streetmap_packing.specs.declared.packer.Packer.{Packer}
 
 abbrev pub packing : Packer → Packing

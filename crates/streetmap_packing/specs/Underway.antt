@@ -4,7 +4,7 @@ use Rattle.streetmap_batch.specs.Text.{Text}
 use Rattle.streetmap_batch.specs.BatchValue.{EditValue}
 use Rattle.streetmap_packing.specs.Runs.{AreDone}
 use Rattle.streetmap_packing.specs.Packs.{passes}
-use Rattle.streetmap_packing.specs.Packing.{Packing}
+use Rattle.streetmap_packing.specs.PackingState.{Packing}
 
 -- the state after these runs
 abbrev pub packing_at : (each : ℕ) (key : Text) → List (List EditValue) → List EditValue → Packing

@@ -5,7 +5,7 @@ ghost use Rattle.streetmap_batch.specs.BatchView.{edit_values};
 ghost use Rattle.streetmap_batch.specs.Names.{is_key};
 ghost use Rattle.streetmap_packing.specs.Packs.{numbered};
 
-use crate::numbering::{comma_len, empty_bytes, has_room, numbered_batch};
+use crate::numbers::{comma_len, empty_bytes, has_room, numbered_batch};
 use std::alloc::{AllocError, Global};
 use std::mem;
 use streetmap_batch::{Batch, Edit};
@@ -39,7 +39,7 @@ impl Packer {
     ghost use Rattle.streetmap_batch.specs.BatchText.{edit_data};
     ghost use Rattle.streetmap_batch.specs.BatchValue.{EditValue};
     ghost use Rattle.streetmap_batch.specs.BatchView.{edit_value};
-    ghost use Rattle.streetmap_packing.specs.Packing.{is_passing, with_edit, under_way, next};
+    ghost use Rattle.streetmap_packing.specs.PackingState.{is_passing, with_edit, under_way, next};
     ghost use Rattle.streetmap_packing.specs.PackerView.{packing, begun, GivesOut, Adds, Fills};
     ghost use Rattle.streetmap_packing.specs.PackerView.{Finishes};
 

@@ -1,4 +1,4 @@
--- No two outcomes.
+-- At most one outcome.
 use Rattle.std.proofs.Common.{◌≡◌, Bool, true, false, inl, inr, ℕ, suc, List, Option, Some, None, Result, Ok, Err, sym, ap, subst, ◌∙◌}
 use Rattle.json.specs.Json as json
 use Rattle.serde_json.specs.Data.{array, object, item, Members, no_members, put}
@@ -8,7 +8,7 @@ use Rattle.streetmap_decimal.specs.declared.placement.Placement.{Placement}
 use Rattle.streetmap_decimal.proofs.Once.{placed_once}
 use Rattle.streetmap_placing.specs.Placed.{Then, Made, IsPlacedCoordinate, NumberBy, Becomes, ItemsBecome, MembersBecome, items_count, coordinate_or_fault}
 use Rattle.streetmap_placing.specs.Roles.{member_role, element_role}
-use Rattle.streetmap_placing.specs.Text.{IsReadAs, ReadsBy, TextBecomes, asks, utf8_tree}
+use Rattle.streetmap_placing.specs.Text.{IsReadAs, ReadsBy, TextBecomes, is_requested, utf8_tree}
 use Rattle.streetmap_placing.specs.declared.fault.PlacingFault.{PlacingFault}
 use Rattle.streetmap_placing.specs.declared.numbers.Numbers.{Numbers}
 use Rattle.streetmap_placing.specs.declared.numbers.Fractions.{Fractions}
@@ -16,7 +16,7 @@ use Rattle.streetmap_placing.specs.declared.numbers.Fractions.TheVariants.{Numbe
 use Rattle.streetmap_placing.specs.declared.role.Role.{Role}
 use Rattle.streetmap_placing.specs.declared.role.Role.TheVariants.{Feature, Geometry, Geometries, Coordinates, Coordinate, Properties, Other}
 
--- an outcome that there is once
+-- a relation of at most one outcome
 abbrev Once : {A : Type 0} → (Result A PlacingFault → Type 0) → Type 0
 Once {A} R = (r s : Result A PlacingFault) → R r → R s → r ≡ s
 
@@ -117,7 +117,7 @@ tree_once n None = is_once _
 tree_once n (Some j) = becomes_once n Feature j
 
 pub read_once : (n : Numbers) (text : List ℕ) → Once (IsReadAs n text)
-read_once n text = by (asks n.placement n.fractions) where
+read_once n text = by (is_requested n.placement n.fractions) where
   by : (b : Bool) → Once (ReadsBy b n text)
   by true = tree_once n (utf8_tree text)
   by false = is_once _

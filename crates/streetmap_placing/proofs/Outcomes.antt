@@ -1,4 +1,4 @@
--- Outcomes, the one after the other.
+-- Outcomes, one after the other.
 use Rattle.std.proofs.Common.{inl, inr, Result, Ok, Err, refl}
 use Rattle.streetmap_placing.specs.Placed.{Then, Made, Answers}
 use Rattle.streetmap_placing.specs.declared.fault.PlacingFault.{PlacingFault}
@@ -18,7 +18,7 @@ pub then_next : {A B : Type 0} (First : Result A PlacingFault → Type 0)
 then_next First Next a (Ok b) h k = (a, (h, k))
 then_next First Next a (Err f) h k = inr (a, (h, k))
 
--- a fault is handed on, where it is one of what follows
+-- a fault of a part is passed on, if it is a fault of the whole too
 pub handed_on : {X Y V W : Type 0} (view : X → Y) (shown : V → W) (fault : PlacingFault)
     (First : Result Y PlacingFault → Type 0) (All : Result W PlacingFault → Type 0)
     → ((f : PlacingFault) → First (Err f) → All (Err f)) → Answers view (Err fault) First
@@ -29,7 +29,7 @@ handed_on view shown TooManyDigits First All on h = on TooManyDigits h
 handed_on view shown OutOfGrid First All on h = on OutOfGrid h
 handed_on view shown Fraction First All on h = on Fraction h
 
--- a fault that is an outcome is answered
+-- the result may be a fault that is an outcome
 pub answered : {X Y : Type 0} (view : X → Y) (fault : PlacingFault)
     (Outcome : Result Y PlacingFault → Type 0) → Outcome (Err fault)
     → Answers view (Err fault) Outcome

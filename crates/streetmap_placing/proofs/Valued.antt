@@ -3,13 +3,13 @@ use Rattle.std.proofs.Common.{◌≡◌, Bool, true, false, inl, inr, ℕ, suc, 
 use Rattle.json.specs.Json as json
 use Rattle.serde_json.specs.Data.{Data, array, object, item, Members, no_members, put}
 use Rattle.streetmap_decimal.specs.Axes.{shift_of}
-use Rattle.streetmap_decimal.specs.Placing.{placed_text}
+use Rattle.streetmap_decimal.specs.Placements.{placed_text}
 use Rattle.streetmap_decimal.specs.declared.axis.Axis.{Axis}
 use Rattle.streetmap_decimal.specs.declared.placement.Placement.{Placement}
 use Rattle.streetmap_decimal.proofs.Placed.{placed_is}
 use Rattle.streetmap_placing.specs.Placed.{Then, Made, Answers, IsPlacedCoordinate, NumberBy, Becomes, ItemsBecome, MembersBecome, items_count}
 use Rattle.streetmap_placing.specs.Roles.{member_role, element_role}
-use Rattle.streetmap_placing.specs.Text.{IsReadAs, ReadsBy, TextBecomes, asks, utf8_tree}
+use Rattle.streetmap_placing.specs.Text.{IsReadAs, ReadsBy, TextBecomes, is_requested, utf8_tree}
 use Rattle.streetmap_placing.specs.Value.{◌>>=◌, placed_number, number_by, value_in, items_in, members_in, value_of_tree, value_by, value_of, Gives}
 use Rattle.streetmap_placing.specs.declared.fault.PlacingFault.{PlacingFault}
 use Rattle.streetmap_placing.specs.declared.fault.PlacingFault.TheVariants.{Memory, NotJson, TooManyDigits, OutOfGrid, Fraction}
@@ -20,7 +20,7 @@ use Rattle.streetmap_placing.specs.declared.role.Role.{Role}
 use Rattle.streetmap_placing.specs.declared.role.Role.TheVariants.{Feature, Geometry, Geometries, Coordinates, Coordinate, Properties, Other}
 use Rattle.streetmap_placing.proofs.Once.{read_once}
 
--- the next step, where each gives its own
+-- two steps, if each satisfies its own relation
 then_is : {A B : Type 0} (First : Result A PlacingFault → Type 0)
     (Next : A → Result B PlacingFault → Type 0) (r : Result A PlacingFault)
     (next : A → Result B PlacingFault) → First r → ((a : A) → Next a (next a))
@@ -100,7 +100,7 @@ reads_by false n text = refl
 
 pub read_is : (n : Numbers) (text : List ℕ) → IsReadAs n text (value_of n text)
 unfolding value_of
-read_is n text = reads_by (asks n.placement n.fractions) n text
+read_is n text = reads_by (is_requested n.placement n.fractions) n text
 
 -- so what was answered is that value
 pub given : {X : Type 0} (view : X → Data) (n : Numbers) (text : List ℕ)

@@ -14,30 +14,30 @@ use Rattle.streetmap_placing.specs.declared.fault.PlacingFault.{PlacingFault}
 use Rattle.streetmap_placing.specs.declared.numbers.Numbers.{Numbers}
 use Rattle.streetmap_placing.specs.declared.role.Role.{Role}
 
--- ---- elements behind others
+-- ---- elements after others
 
 abbrev pub before : List Data → Items → Items
 before [] rest = rest
 before (d ∷ ds) rest = item d (before ds rest)
 
--- what the elements become, behind those that stand before them
-abbrev pub behind : List Data → Result Items PlacingFault → Result Items PlacingFault
-behind ds (Ok rest) = Ok (before ds rest)
-behind ds (Err f) = Err f
+-- what the remaining elements become, after those already placed
+abbrev pub following : List Data → Result Items PlacingFault → Result Items PlacingFault
+following ds (Ok rest) = Ok (before ds rest)
+following ds (Err f) = Err f
 
 one_more : (ds : List Data) (d : Data) (rest : Items)
     → before ds (item d rest) ≡ before (ds ++ d ∷ []) rest
 one_more [] d rest = refl
 one_more (e ∷ ds) d rest = ap (item e) (one_more ds d rest)
 
-pub behind_one_more : (ds : List Data) (d : Data) (r : Result Items PlacingFault)
-    → behind ds (behind (d ∷ []) r) ≡ behind (ds ++ d ∷ []) r
-behind_one_more ds d (Ok rest) = ap Ok (one_more ds d rest)
-behind_one_more ds d (Err f) = refl
+pub after_one_more : (ds : List Data) (d : Data) (r : Result Items PlacingFault)
+    → following ds (following (d ∷ []) r) ≡ following (ds ++ d ∷ []) r
+after_one_more ds d (Ok rest) = ap Ok (one_more ds d rest)
+after_one_more ds d (Err f) = refl
 
-pub behind_none : (r : Result Items PlacingFault) → r ≡ behind [] r
-behind_none (Ok rest) = refl
-behind_none (Err f) = refl
+pub after_none : (r : Result Items PlacingFault) → r ≡ following [] r
+after_none (Ok rest) = refl
+after_none (Err f) = refl
 
 pub before_none : (vs : List Value) → before (map view vs) no_items ≡ items_view vs
 before_none [] = refl
@@ -53,7 +53,7 @@ module _ (n : Numbers) (role : Role) where
   pub next_item : (count index : ℕ) (j : json.Json) (js : json.Items) (d : Data)
       (r : Result Items PlacingFault) → Becomes n (element_role role count index) j (Ok d)
       → ItemsBecome n role count (suc index) js r
-      → ItemsBecome n role count index (json.item j js) (behind (d ∷ []) r)
+      → ItemsBecome n role count index (json.item j js) (following (d ∷ []) r)
   next_item count index j js d (Ok rest) h k = (d, (h, (rest, (k, refl))))
   next_item count index j js d (Err e) h k = inr (d, (h, inl k))
 
@@ -83,14 +83,14 @@ module _ (n : Numbers) (role : Role) (xs : List (Tree Global)) where
   abbrev pub Becoming : (index : ℕ) → json.Items → Result Items PlacingFault → Type 0
   Becoming index = ItemsBecome n role (items_count (json_items xs)) index
 
-  -- the element at the index, and those behind it
+  -- the element at the index, and those after it
   pub items_step : (i : ℕ) (x : Tree Global) (w : Role) (placed pushed : List Value) (v : Value)
       → ((r : Result Items PlacingFault) → Becoming i (json_items (drop i xs)) r
-      → Becoming 0 (json_items xs) (behind (map view placed) r)) → drop i xs ≡ x ∷ drop (i + 1) xs
+      → Becoming 0 (json_items xs) (following (map view placed) r)) → drop i xs ≡ x ∷ drop (i + 1) xs
       → w ≡ element_role role (items_count (json_items xs)) i
       → Becomes n w (value_view x) (Ok (view v)) → pushed ≡ placed ++ v ∷ []
       → (r : Result Items PlacingFault) → Becoming (i + 1) (json_items (drop (i + 1) xs)) r
-      → Becoming 0 (json_items xs) (behind (map view pushed) r)
+      → Becoming 0 (json_items xs) (following (map view pushed) r)
   items_step i x w placed pushed v inv here is one added r k =
       let count = items_count (json_items xs) in
       let later = json_items (drop (i + 1) xs) in
@@ -98,17 +98,17 @@ module _ (n : Numbers) (role : Role) (xs : List (Tree Global)) where
       let first = subst (λ (q : Role). Becomes n q (value_view x) (Ok (view v))) is one in
       let both = next_item n role count i (value_view x) later (view v) r first rest in
       let there = subst
-      (λ (ys : List (Tree Global)). Becoming i (json_items ys) (behind (view v ∷ []) r))
+      (λ (ys : List (Tree Global)). Becoming i (json_items ys) (following (view v ∷ []) r))
       (sym here) both in
       let seen : map view placed ++ view v ∷ [] ≡ map view pushed =
       sym (ap (map view) added ∙ map-append view placed (v ∷ [])) in
       subst (Becoming 0 (json_items xs))
-      (behind_one_more (map view placed) (view v) r ∙ ap (λ (ds : List Data). behind ds r) seen)
-      (inv (behind (view v ∷ []) r) there)
+      (after_one_more (map view placed) (view v) r ∙ ap (λ (ds : List Data). following ds r) seen)
+      (inv (following (view v ∷ []) r) there)
 
   pub items_fault : (i : ℕ) (x : Tree Global) (w : Role) (placed : List Value) (e : PlacingFault)
       → ((r : Result Items PlacingFault) → Becoming i (json_items (drop i xs)) r
-      → Becoming 0 (json_items xs) (behind (map view placed) r)) → drop i xs ≡ x ∷ drop (i + 1) xs
+      → Becoming 0 (json_items xs) (following (map view placed) r)) → drop i xs ≡ x ∷ drop (i + 1) xs
       → w ≡ element_role role (items_count (json_items xs)) i → Becomes n w (value_view x) (Err e)
       → Becoming 0 (json_items xs) (Err e)
   items_fault i x w placed e inv here is one =
@@ -120,7 +120,7 @@ module _ (n : Numbers) (role : Role) (xs : List (Tree Global)) where
 
   pub items_end : (i : ℕ) (placed : List Value)
       → ((r : Result Items PlacingFault) → Becoming i (json_items (drop i xs)) r
-      → Becoming 0 (json_items xs) (behind (map view placed) r)) → length xs ≤ i
+      → Becoming 0 (json_items xs) (following (map view placed) r)) → length xs ≤ i
       → Becoming 0 (json_items xs) (Ok (items_view placed))
   items_end i placed inv end =
       let none : [] ≡ drop i xs = sym (drop_all i xs end) in
@@ -133,7 +133,7 @@ abbrev pub Named : Type 0
 Named = Bor (List ℕ) × Tree Global
 
 module _ (n : Numbers) (role : Role) (xs : List Named) where
-  -- the member at the index, and those behind it
+  -- the member at the index, and those after it
   pub members_step : (i : ℕ) (x : Named) (w : Role) (found more : Members) (v : Value)
       → ((r : Result Members PlacingFault) → MembersBecome n role (json_members (drop i xs)) found r
       → MembersBecome n role (json_members xs) no_members r) → drop i xs ≡ x ∷ drop (i + 1) xs

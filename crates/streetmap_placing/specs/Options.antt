@@ -1,4 +1,4 @@
--- The placement that options ask for.
+-- The placement that options give.
 use Rattle.std.specs.Prelude.{◌≡◌, ◌^◌, pos, Option, Some, None}
 use Rattle.streetmap_decimal.specs.declared.placement.Placement.{Placement}
 use Rattle.streetmap_decimal.specs.declared.rounding.Rounding.{Rounding}
@@ -20,7 +20,7 @@ abbrev pub IsShiftOf : Option Shift → Shift → Type 0
 IsShiftOf (Some s) shift = shift ≡ s
 IsShiftOf None shift = (shift.easting ≡ pos 0) × (shift.northing ≡ pos 0)
 
--- there is a placement if an option is given
+-- the placement is present if an option is given
 abbrev pub IsPlacementOf : Option Scale → Option Shift → Rounding → Option Placement → Type 0
 IsPlacementOf scale shift rounding None = IsNoneGiven scale shift rounding
 IsPlacementOf scale shift rounding (Some p) =

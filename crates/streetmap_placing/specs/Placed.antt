@@ -83,7 +83,7 @@ kept text (Some d) = if is_fraction d then string text else d
 abbrev pub KeptAs : List ℕ → Result Data PlacingFault → Type 0
 KeptAs text r = r ≡ Ok (kept text (json_value text))
 
--- a coordinate is placed if there is a placement, a number within properties is kept as the option
+-- a coordinate is placed if a placement is given, a number within properties is kept as the option
 -- says, and every other number stays
 abbrev pub NumberBy : Option Placement → Fractions → Role → List ℕ
     → Result Data PlacingFault → Type 0

@@ -39,22 +39,22 @@ ParsesAs view (Err TooManyDigits) ts = ⊥
 ParsesAs view (Err OutOfGrid) ts = ⊥
 ParsesAs view (Err Fraction) ts = ⊥
 
--- what the value of a feature becomes, or that there is none
+-- what the value of a feature becomes, or `NotJson` if the text has none
 abbrev pub TextBecomes : Numbers → Option Json → Result Data PlacingFault → Type 0
 TextBecomes n None r = r ≡ Err NotJson
 TextBecomes n (Some j) r = Becomes n Feature j r
 
--- whether anything is asked for
-abbrev pub asks : Option Placement → Fractions → Bool
-asks None Number = false
-asks None Text = true
-asks (Some p) f = true
+-- whether the options change anything
+abbrev pub is_requested : Option Placement → Fractions → Bool
+is_requested None Number = false
+is_requested None Text = true
+is_requested (Some p) f = true
 
--- if something is asked for, what the value of the feature becomes, and otherwise the value of the
--- JSON text
+-- what the value of the feature becomes, if the options change anything, and otherwise the value
+-- of the JSON text
 abbrev pub ReadsBy : Bool → Numbers → List ℕ → Result Data PlacingFault → Type 0
 ReadsBy true n text r = TextBecomes n (utf8_tree text) r
 ReadsBy false n text r = r ≡ value_or_fault (json_value text)
 
 abbrev pub IsReadAs : Numbers → List ℕ → Result Data PlacingFault → Type 0
-IsReadAs n = ReadsBy (asks n.placement n.fractions) n
+IsReadAs n = ReadsBy (is_requested n.placement n.fractions) n

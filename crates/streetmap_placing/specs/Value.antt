@@ -5,13 +5,13 @@ use Rattle.json.specs.Json as json
 use Rattle.serde_json.specs.Data.{Data, null, boolean, string, array, object, Items, no_items, item}
 use Rattle.serde_json.specs.Data.{Members, no_members, put}
 use Rattle.streetmap_decimal.specs.Axes.{shift_of}
-use Rattle.streetmap_decimal.specs.Placing.{placed_text}
+use Rattle.streetmap_decimal.specs.Placements.{placed_text}
 use Rattle.streetmap_decimal.specs.declared.axis.Axis.{Axis}
 use Rattle.streetmap_decimal.specs.declared.placement.Placement.{Placement}
 use Rattle.streetmap_json.specs.JsonText.{json_value}
 use Rattle.streetmap_placing.specs.Placed.{value_or_fault, coordinate_or_fault, kept, items_count}
 use Rattle.streetmap_placing.specs.Roles.{member_role, element_role}
-use Rattle.streetmap_placing.specs.Text.{utf8_tree, asks}
+use Rattle.streetmap_placing.specs.Text.{utf8_tree, is_requested}
 use Rattle.streetmap_placing.specs.declared.fault.PlacingFault.{PlacingFault}
 use Rattle.streetmap_placing.specs.declared.fault.PlacingFault.TheVariants.{Memory, NotJson}
 use Rattle.streetmap_placing.specs.declared.fault.PlacingFault.TheVariants.{TooManyDigits}
@@ -40,7 +40,7 @@ placed_number p axis text =
 abbrev pub staying : List ℕ → Result Data PlacingFault
 staying text = value_or_fault (json_value text)
 
--- a coordinate is placed if there is a placement, a number within properties is kept as the option
+-- a coordinate is placed if a placement is given, a number within properties is kept as the option
 -- says, and every other number stays
 abbrev pub number_by : Option Placement → Fractions → Role → List ℕ → Result Data PlacingFault
 number_by None fractions (Coordinate axis) text = staying text
@@ -77,24 +77,24 @@ abbrev mutual
   members_in n role (json.member name j ms) found =
       value_in n (member_role role name) j >>= λ d. members_in n role ms (put name d found)
 
--- the value of a feature, or that there is none
+-- the value of a feature, or `NotJson` if the text has none
 abbrev pub value_of_tree : Numbers → Option json.Json → Result Data PlacingFault
 value_of_tree n None = Err NotJson
 value_of_tree n (Some j) = value_in n Feature j
 
 abbrev pub value_by : Bool → Numbers → List ℕ → Result Data PlacingFault
-value_by asked n text = if asked then value_of_tree n (utf8_tree text) else staying text
+value_by requested n text = if requested then value_of_tree n (utf8_tree text) else staying text
 
--- the value of a feature's text if something is asked for, and otherwise that of the JSON text
+-- the value of a feature's text if the options change anything, otherwise that of the JSON text
 unfoldable pub value_of : Numbers → List ℕ → Result Data PlacingFault
-value_of n text = value_by (asks n.placement n.fractions) n text
+value_of n text = value_by (is_requested n.placement n.fractions) n text
 
--- the result is what is asked for, unless memory ran out
+-- the result is the expected one, unless memory ran out
 abbrev pub Gives : {X Y : Type 0} → (X → Y) → Result X PlacingFault → Result Y PlacingFault
     → Type 0
-Gives view (Ok x) asked = asked ≡ Ok (view x)
-Gives view (Err Memory) asked = Unit {0}
-Gives view (Err NotJson) asked = asked ≡ Err NotJson
-Gives view (Err TooManyDigits) asked = asked ≡ Err TooManyDigits
-Gives view (Err OutOfGrid) asked = asked ≡ Err OutOfGrid
-Gives view (Err Fraction) asked = asked ≡ Err Fraction
+Gives view (Ok x) requested = requested ≡ Ok (view x)
+Gives view (Err Memory) requested = Unit {0}
+Gives view (Err NotJson) requested = requested ≡ Err NotJson
+Gives view (Err TooManyDigits) requested = requested ≡ Err TooManyDigits
+Gives view (Err OutOfGrid) requested = requested ≡ Err OutOfGrid
+Gives view (Err Fraction) requested = requested ≡ Err Fraction

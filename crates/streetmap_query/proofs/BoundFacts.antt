@@ -16,7 +16,7 @@ use Rattle.streetmap_query.specs.Box.{in_order}
 bound_true : (z : ℤ) → IsBound z → is_bound z ≡ true
 bound_true z h = grind (arith, nat_tests)
 
--- where nothing is left, both tests of the order decide
+-- if nothing is left, both tests of the order decide
 abbrev both : BoxValue → Bool
 both b = int_le b.x0 b.x1 && int_le b.y0 b.y1
 

@@ -28,11 +28,11 @@ abbrev IsStop : List ℕ → Type 0
 IsStop [] = Unit {0}
 IsStop (b ∷ rest) = b ≡ 44
 
--- a chain that gives a value has gone on from one
+-- a chain gives a value only if its first step gives one
 via : {A B P : Type 0} (f : A → Option B) (o : Option A) (y : B) → (o >>= f) ≡ Some y → ((x : A) → o ≡ Some x → f x ≡ Some y → P) → P
 via f o y e k = option_and_then_some f o y e k
 
--- ---- what is read is spelled so
+-- ---- what is read is spelled that way
 
 -- a digit more: ten times the number before it, and what it counts
 digit_more : (n b : ℕ) → is_ascii_digit b ≡ true → 10 * n + (b - 48) ≡ n * 10 + digit_value b
@@ -113,11 +113,11 @@ unsigned_takes : (text : List ℕ) (z : ℤ) (rest : List ℕ) → unsigned_at t
 unfolding unsigned_at
 unsigned_takes text z rest e =
     via _ (whole_at text) _ e (λ number number_is e.
-    via _ (fraction_at number.1) _ e (λ behind behind_is e.
+    via _ (fraction_at number.1) _ e (λ following after_is e.
     let w = whole_takes text number.0 number.1 number_is in
-    let f = fraction_takes number.1 behind behind_is in
-    let parts = cond_some (nat_le number.0 reach) (pos number.0, behind) (z, rest) e in
-    let ends = some_pair_parts (pos number.0) z behind rest (ap Some parts.1) in
+    let f = fraction_takes number.1 following after_is in
+    let parts = cond_some (nat_le number.0 reach) (pos number.0, following) (z, rest) e in
+    let ends = some_pair_parts (pos number.0) z following rest (ap Some parts.1) in
     let within : number.0 ≤ reach = grind (arith, nat_tests, parts.0) in
     (w.0, f.0, w.1, w.2, w.3, cc (w.4, f.1, ends.1), sym ends.0 ∙ ap pos w.5, subst (λ m. m ≤ reach) w.5 within)))
 
@@ -141,8 +141,8 @@ bound_takes (b ∷ text) z rest e =
           let u = unsigned_takes text x.0 x.1 x_is in
           let front : b ≡ 45 = grind (arith, nat_tests, is_it) in
           let value : z ≡ neg_ℤ (pos (digits_value 10 u.0)) = sym (ap (λ p. p.0) ends) ∙ ap neg_ℤ u.6 in
-          let behind : text ≡ (u.0 ++ zeros_spelled u.1) ++ rest = u.5 ∙ (sym (append_assoc u.0 (zeros_spelled u.1) x.1) ∙ ap (λ r. (u.0 ++ zeros_spelled u.1) ++ r) (ap (λ p. p.1) ends)) in
-          (record { minus = true; digits = u.0; zeros = u.1 }, record { decimal = u.2; some = u.3; few = u.4 }, (λ i. front i ∷ behind i), value, subst IsBound (sym value) (bound_neg (digits_value 10 u.0) u.7)))
+          let following : text ≡ (u.0 ++ zeros_spelled u.1) ++ rest = u.5 ∙ (sym (append_assoc u.0 (zeros_spelled u.1) x.1) ∙ ap (λ r. (u.0 ++ zeros_spelled u.1) ++ r) (ap (λ p. p.1) ends)) in
+          (record { minus = true; digits = u.0; zeros = u.1 }, record { decimal = u.2; some = u.3; few = u.4 }, (λ i. front i ∷ following i), value, subst IsBound (sym value) (bound_neg (digits_value 10 u.0) u.7)))
       | inr is_not ↦
           let u = unsigned_takes (b ∷ text) z rest (rw is_not at e) in
           (record { minus = false; digits = u.0; zeros = u.1 }, record { decimal = u.2; some = u.3; few = u.4 }, u.5 ∙ sym (append_assoc u.0 (zeros_spelled u.1) rest), u.6, subst IsBound (sym u.6) (bound_pos (digits_value 10 u.0) u.7))
@@ -160,33 +160,33 @@ nil_is : (rest : List ℕ) → (length rest == 0) ≡ true → rest ≡ []
 nil_is [] h = refl
 nil_is (b ∷ rest) h = absurd (grind (arith, nat_tests, h))
 
--- what stands before a comma
-joined : (text front behind rest : List ℕ) → text ≡ front ++ behind → behind ≡ 44 ∷ rest → text ≡ front ++ 44 ∷ rest
-joined text front behind rest e h = e ∙ ap (λ r. front ++ r) h
+-- what comes before a comma
+joined : (text front following rest : List ℕ) → text ≡ front ++ following → following ≡ 44 ∷ rest → text ≡ front ++ 44 ∷ rest
+joined text front following rest e h = e ∙ ap (λ r. front ++ r) h
 
 pub box_takes : (text : List ℕ) (b : BoxValue) → box_of text ≡ Some b → IsBoxText text b
 unfolding box_of
 box_takes text b e =
     via _ (bound_at text) _ e (λ x0 x0_is e.
-    via _ (comma_at x0.1) _ e (λ behind_x0 comma_x0 e.
-    via _ (bound_at behind_x0) _ e (λ y0 y0_is e.
-    via _ (comma_at y0.1) _ e (λ behind_y0 comma_y0 e.
-    via _ (bound_at behind_y0) _ e (λ x1 x1_is e.
-    via _ (comma_at x1.1) _ e (λ behind_x1 comma_x1 e.
-    via _ (bound_at behind_x1) _ e (λ y1 y1_is e.
+    via _ (comma_at x0.1) _ e (λ after_x0 comma_x0 e.
+    via _ (bound_at after_x0) _ e (λ y0 y0_is e.
+    via _ (comma_at y0.1) _ e (λ after_y0 comma_y0 e.
+    via _ (bound_at after_y0) _ e (λ x1 x1_is e.
+    via _ (comma_at x1.1) _ e (λ after_x1 comma_x1 e.
+    via _ (bound_at after_x1) _ e (λ y1 y1_is e.
     let n0 = bound_takes text x0.0 x0.1 x0_is in
-    let n1 = bound_takes behind_x0 y0.0 y0.1 y0_is in
-    let n2 = bound_takes behind_y0 x1.0 x1.1 x1_is in
-    let n3 = bound_takes behind_x1 y1.0 y1.1 y1_is in
+    let n1 = bound_takes after_x0 y0.0 y0.1 y0_is in
+    let n2 = bound_takes after_y0 x1.0 x1.1 x1_is in
+    let n3 = bound_takes after_x1 y1.0 y1.1 y1_is in
     let box : BoxValue = record { x0 = x0.0; y0 = y0.0; x1 = x1.0; y1 = y1.0 } in
     let parts = cond_some ((length y1.1 == 0) && int_le x0.0 x1.0 && int_le y0.0 y1.0) box b e in
     let ends : (length y1.1 == 0) ≡ true = grind (arith, nat_tests, parts.0) in
     let wide : x0.0 ≤ℤ x1.0 = grind (arith, nat_tests, parts.0) in
     let tall : y0.0 ≤ℤ y1.0 = grind (arith, nat_tests, parts.0) in
-    let t3 : behind_x1 ≡ number_spelled n3.0 = n3.2 ∙ (ap (λ r. number_spelled n3.0 ++ r) (nil_is y1.1 ends) ∙ append-nil (number_spelled n3.0)) in
-    let t2 : behind_y0 ≡ number_spelled n2.0 ++ 44 ∷ number_spelled n3.0 = joined behind_y0 (number_spelled n2.0) x1.1 _ n2.2 (comma_takes x1.1 behind_x1 comma_x1 ∙ ap (λ r. 44 ∷ r) t3) in
-    let t1 : behind_x0 ≡ number_spelled n1.0 ++ 44 ∷ (number_spelled n2.0 ++ 44 ∷ number_spelled n3.0) = joined behind_x0 (number_spelled n1.0) y0.1 _ n1.2 (comma_takes y0.1 behind_y0 comma_y0 ∙ ap (λ r. 44 ∷ r) t2) in
-    let t0 : text ≡ number_spelled n0.0 ++ 44 ∷ (number_spelled n1.0 ++ 44 ∷ (number_spelled n2.0 ++ 44 ∷ number_spelled n3.0)) = joined text (number_spelled n0.0) x0.1 _ n0.2 (comma_takes x0.1 behind_x0 comma_x0 ∙ ap (λ r. 44 ∷ r) t1) in
+    let t3 : after_x1 ≡ number_spelled n3.0 = n3.2 ∙ (ap (λ r. number_spelled n3.0 ++ r) (nil_is y1.1 ends) ∙ append-nil (number_spelled n3.0)) in
+    let t2 : after_y0 ≡ number_spelled n2.0 ++ 44 ∷ number_spelled n3.0 = joined after_y0 (number_spelled n2.0) x1.1 _ n2.2 (comma_takes x1.1 after_x1 comma_x1 ∙ ap (λ r. 44 ∷ r) t3) in
+    let t1 : after_x0 ≡ number_spelled n1.0 ++ 44 ∷ (number_spelled n2.0 ++ 44 ∷ number_spelled n3.0) = joined after_x0 (number_spelled n1.0) y0.1 _ n1.2 (comma_takes y0.1 after_y0 comma_y0 ∙ ap (λ r. 44 ∷ r) t2) in
+    let t0 : text ≡ number_spelled n0.0 ++ 44 ∷ (number_spelled n1.0 ++ 44 ∷ (number_spelled n2.0 ++ 44 ∷ number_spelled n3.0)) = joined text (number_spelled n0.0) x0.1 _ n0.2 (comma_takes x0.1 after_x0 comma_x0 ∙ ap (λ r. 44 ∷ r) t1) in
     let is : IsBox box = (n0.4, n1.4, n2.4, n3.4, wide, tall) in
     record {
       x0 = n0.0;
@@ -202,7 +202,7 @@ box_takes text b e =
       kept = subst IsBox parts.1 is;
     })))))))
 
--- ---- what is spelled so is read
+-- ---- what is spelled that way is read
 
 digits_again : (room n : ℕ) (ds rest : List ℕ) → all_ascii_digits ds ≡ true → length ds ≤ room → digit_at rest ≡ None → digits_at room n (ds ++ rest) ≡ Some (digits_value_after 10 n ds, rest)
 unfolding digits_at digit_at
@@ -251,7 +251,7 @@ unsigned_again ds k rest all some few stop within =
     let test : nat_le (digits_value 10 ds) reach ≡ true = grind (arith, nat_tests) in
     rw (whole_again ds (zeros_spelled k ++ rest) all some few (zeros_digit k rest stop), fraction_again k rest stop, test) refl
 
--- no minus stands before digits
+-- no minus comes before digits
 plain_again : (ds rest : List ℕ) → all_ascii_digits ds ≡ true → 1 ≤ length ds → bound_at (ds ++ rest) ≡ unsigned_at (ds ++ rest)
 unfolding bound_at
 plain_again [] rest all some = absurd (omega arith)
@@ -289,7 +289,7 @@ pub found : (text : List ℕ) (o : Option GridBox) → option_map box_value o �
 found text None e = tt
 found text (Some g) e = box_takes text (box_value g) (sym e)
 
--- ---- what is written is spelled so
+-- ---- what is written is spelled that way
 
 pub numerals : IsNumeralModel (λ ds. all_ascii_digits ds ≡ true) (digits_value 10)
 numerals = numerals_by_value _ tells_all_ascii_digits

@@ -17,13 +17,13 @@ digit_counts c h =
     let high : c ≤ 57 = grind (arith, nat_tests) in
     omega (arith, digit_value_digit c (low, high))
 
-digits_behind : (xs ys : List ℕ) → all_ascii_digits xs ≡ true → all_ascii_digits (xs ++ ys) ≡ all_ascii_digits ys
-digits_behind [] ys h = refl
-digits_behind (x ∷ xs) ys h = grind (arith, common_steps, digits_behind xs ys)
+digits_after : (xs ys : List ℕ) → all_ascii_digits xs ≡ true → all_ascii_digits (xs ++ ys) ≡ all_ascii_digits ys
+digits_after [] ys h = refl
+digits_after (x ∷ xs) ys h = grind (arith, common_steps, digits_after xs ys)
 
 pub digits_take : (text : List ℕ) (i : ℕ) → i < length text → all_ascii_digits (take i text) ≡ true → is_ascii_digit (get_or text i 0) ≡ true → all_ascii_digits (take (i + 1) text) ≡ true
 digits_take text i h all one =
-    rw (take_more text i 0 h, digits_behind (take i text) (get_or text i 0 ∷ []) all, one) refl
+    rw (take_more text i 0 h, digits_after (take i text) (get_or text i 0 ∷ []) all, one) refl
 
 pub number_take : (text : List ℕ) (i n : ℕ) → i < length text → is_ascii_digit (get_or text i 0) ≡ true → n ≡ min (digits_value 10 (take i text)) 1000 → min (10 * n + (get_or text i 0 - 48)) 1000 ≡ min (digits_value 10 (take (i + 1) text)) 1000
 number_take text i n h one e =
@@ -31,6 +31,6 @@ number_take text i n h one e =
 
 pub no_limit : (text : List ℕ) (i : ℕ) → i < length text → all_ascii_digits (take i text) ≡ true → is_ascii_digit (get_or text i 0) ≡ false → limit_of text ≡ None
 no_limit text i h all one =
-    let parts : all_ascii_digits (take i text ++ drop i text) ≡ false = rw (digits_behind (take i text) (drop i text) all, drop-cons text i 0 h, one) refl in
+    let parts : all_ascii_digits (take i text ++ drop i text) ≡ false = rw (digits_after (take i text) (drop i text) all, drop-cons text i 0 h, one) refl in
     let whole : all_ascii_digits text ≡ false = ap all_ascii_digits (sym (take-append-drop i text)) ∙ parts in
     rw whole (grind (arith, common_steps))

@@ -13,7 +13,7 @@ unfolding digit_at
 digit_shorter [] n rest e = grind (arith, common_steps)
 digit_shorter (b ∷ text) n rest e = grind (arith, common_steps)
 
--- behind the digits
+-- after the digits
 pub digits_end : (room n : ℕ) (text : List ℕ) → digit_at text ≡ None → digits_at room n text ≡ Some (n, text)
 unfolding digit_at digits_at
 digits_end room n [] e = refl
@@ -33,10 +33,10 @@ digits_step room less n (b ∷ text) d rest e h =
     let parts = cond_some (is_ascii_digit b) (b - 48, text) (d, rest) e in
     let is_digit = parts.0 in
     let number : b - 48 ≡ d = ap (λ p. p.0) parts.1 in
-    let behind : text ≡ rest = ap (λ p. p.1) parts.1 in
+    let following : text ≡ rest = ap (λ p. p.1) parts.1 in
     let positive : (room == 0) ≡ false = grind (arith, nat_tests) in
     let fewer : room - 1 ≡ less = omega arith in
-    rw (is_digit, positive, fewer, ← number, ← behind) refl
+    rw (is_digit, positive, fewer, ← number, ← following) refl
 
 -- a digit more, and a place more
 pub longer : (n d k : ℕ) → n < 10 ^ k → d < 10 → 10 * n + d < 10 ^ (k + 1)

@@ -35,5 +35,5 @@ pub reads_again : {A E : Type 0} (q : Query) (a : Option (List ℕ)) (r : Result
     → IfOk r (λ text. string_bytes text ≡ query_text (record (query_value q) { after = a }))
     → IfOk r (λ _. ForSome a IsText) → IfOk r (λ _. ForSome (query_value q).datetime (λ x. IsText x.text))
     → IfOk r (λ text. query_of (Some (string_bytes text)) ≡ Ok (record (query_value q) { after = a }))
-reads_again q a (Ok text) is e behind dt = query_again (record (query_value q) { after = a }) (string_bytes text) (is_query q a is) behind dt e
-reads_again q a (Err _) is e behind dt = tt
+reads_again q a (Ok text) is e following dt = query_again (record (query_value q) { after = a }) (string_bytes text) (is_query q a is) following dt e
+reads_again q a (Err _) is e following dt = tt

@@ -14,12 +14,12 @@ in_order b rest = if (length rest == 0) && int_le b.x0 b.x1 && int_le b.y0 b.y1 
 unfoldable pub box_of : List ℕ → Option BoxValue
 box_of text = do
   x0 ← bound_at text
-  behind_x0 ← comma_at x0.1
-  y0 ← bound_at behind_x0
-  behind_y0 ← comma_at y0.1
-  x1 ← bound_at behind_y0
-  behind_x1 ← comma_at x1.1
-  y1 ← bound_at behind_x1
+  after_x0 ← comma_at x0.1
+  y0 ← bound_at after_x0
+  after_y0 ← comma_at y0.1
+  x1 ← bound_at after_y0
+  after_x1 ← comma_at x1.1
+  y1 ← bound_at after_x1
   in_order (record { x0 = x0.0; y0 = y0.0; x1 = x1.0; y1 = y1.0 }) y1.1
 
 -- the text that is written for a box

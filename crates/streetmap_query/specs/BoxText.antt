@@ -7,7 +7,7 @@ use Rattle.streetmap_grid.specs.Values.{BoxValue}
 use Rattle.streetmap_grid.specs.WellFormed.{IsBox}
 
 -- a number as it is written: a minus or none, digits, and after a point this number of zeros; no
--- point if there are none
+-- point without zeros
 pub record NumberText : Type 0 where
   pub minus : Bool
   pub digits : List ℕ

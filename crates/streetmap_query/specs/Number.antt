@@ -8,7 +8,7 @@ use Rattle.std.specs.Char.{is_ascii_digit}
 abbrev pub reach : ℕ
 reach = 2_000_000_000
 
--- continues with a value, if there is one
+-- continues with a value, if any
 infixl 10 ◌>>=◌
 abbrev pub ◌>>=◌ : {A B : Type 0} → Option A → (A → Option B) → Option B
 o >>= f = option_and_then f o
@@ -22,7 +22,7 @@ unfoldable pub digit_at : List ℕ → Option (ℕ × List ℕ)
 digit_at [] = None
 digit_at (b ∷ rest) = if is_ascii_digit b then Some (b - 48, rest) else None
 
--- the digits after those of `n`, as many as there are; none if they are more than `room`
+-- the number with the run of digits after those of `n`; none if they are more than `room`
 unfoldable pub digits_at : (room n : ℕ) → List ℕ → Option (ℕ × List ℕ)
 digits_at room n [] = Some (n, [])
 digits_at room n (b ∷ rest) =

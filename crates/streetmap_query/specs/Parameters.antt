@@ -15,7 +15,7 @@ use Rattle.streetmap_query.specs.Limit.{limit_of, default_limit}
 use Rattle.streetmap_query.specs.Box.{box_of}
 use Rattle.streetmap_query.specs.QueryValue.{DatetimeValue, QueryValue}
 
--- continues with a value, and stops at a fault
+-- continues with a value, and ends at a fault
 infixl 10 ◌>>=◌
 abbrev pub ◌>>=◌ : {A B : Type 0} → Result A QueryFault → (A → Result B QueryFault)
     → Result B QueryFault

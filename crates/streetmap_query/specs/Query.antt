@@ -38,7 +38,7 @@ has_pair (Some text) = nat_lt 0 (length (raw_pairs text))
 
 -- ---- writing
 
--- a pair of this name, if there is a value, and others after it
+-- a pair of this name, if a value is given, and others after it
 abbrev pub pair_if : List ℕ → Option (List ℕ) → List (List ℕ × List ℕ) → List (List ℕ × List ℕ)
 pair_if name None others = others
 pair_if name (Some value) others = (name, value) ∷ others

@@ -1,4 +1,4 @@
--- What a query asks for, as a plain value.
+-- A query as a plain value.
 use Rattle.std.specs.Prelude.{ℕ, List, Option}
 use Rattle.streetmap_grid.specs.Values.{BoxValue}
 use Rattle.streetmap_moment.specs.IntervalValue.{IntervalValue}

@@ -6,7 +6,7 @@ ghost use Rattle.streetmap_grid.specs.Views.{box_value};
 ghost use Rattle.streetmap_query.specs.Box.{in_order, box_of, box_text};
 ghost use Rattle.streetmap_query.specs.BoxText.{IsBoxText};
 
-use crate::numbers::{behind_comma, bound};
+use crate::numbers::{after_comma, bound};
 use std::alloc::{AllocError, Global};
 use streetmap_grid::GridBox;
 
@@ -31,9 +31,9 @@ fn box_at(text: &[u8]) -> Option<GridBox>
     ensures { option_map box_value result ≡ box_of text.now }
 {
     let (x0, rest) = bound(text)?;
-    let (y0, rest) = bound(behind_comma(rest)?)?;
-    let (x1, rest) = bound(behind_comma(rest)?)?;
-    let (y1, rest) = bound(behind_comma(rest)?)?;
+    let (y0, rest) = bound(after_comma(rest)?)?;
+    let (x1, rest) = bound(after_comma(rest)?)?;
+    let (y1, rest) = bound(after_comma(rest)?)?;
     ordered(x0, y0, x1, y1, rest)
 }
 

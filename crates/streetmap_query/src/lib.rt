@@ -6,7 +6,8 @@
 //! query reads as that query again.
 //!
 //! In the order of reading: `queries` and `datetimes` (the types), `fault`, `numbers` and
-//! `box_texts` (the value of `bbox`), `reading` (a query text), `writing` (a query), `laws`.
+//! `box_texts` (the value of `bbox`), `query_parser` (a query text), `query_texts` (a query),
+//! `laws`.
 #![tactic(auto)]
 
 mod box_texts;
@@ -15,11 +16,11 @@ mod fault;
 pub mod laws;
 mod numbers;
 mod queries;
-mod reading;
-mod writing;
+mod query_parser;
+mod query_texts;
 
 pub use datetimes::Datetime;
 pub use fault::QueryFault;
 pub use queries::Query;
-pub use reading::{has_parameter, read_query};
-pub use writing::{next_query, self_query};
+pub use query_parser::{has_parameter, read_query};
+pub use query_texts::{next_query, self_query};

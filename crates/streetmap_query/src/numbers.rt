@@ -18,47 +18,47 @@ fn digit(text: &[u8]) -> Option<(u64, &[u8])>
     }
 }
 
-// One to nineteen digits, as many as there are.
+// The longest run of digits, one to nineteen of them.
 #[tactic(auto, unfolding(crate::specs::Number::whole_at))]
 fn whole(text: &[u8]) -> Option<(u64, &[u8])>
     ensures { read_view result ≡ whole_at text.now }
 {
     let (mut number, mut rest) = digit(text)?;
     let mut places = 1u32;
-    while let Some((next, behind)) = digit(rest) {
+    while let Some((next, following)) = digit(rest) {
         if places == 19 {
             return None;
         }
         number = 10 * number + next;
         places += 1;
-        rest = behind;
+        rest = following;
     }
     Some((number, rest))
 }
 
 // What follows the zeros.
 #[tactic(auto, unfolding(crate::specs::Number::zeros_from))]
-fn behind_zeros(text: &[u8]) -> &[u8]
+fn after_zeros(text: &[u8]) -> &[u8]
     ensures { result.now ≡ zeros_from text.now }
 {
     let mut rest = text;
-    while let Some((&first, behind)) = rest.split_first() {
+    while let Some((&first, following)) = rest.split_first() {
         if first != b'0' {
             return rest;
         }
-        rest = behind;
+        rest = following;
     }
     rest
 }
 
-// What follows a point and one or more zeros, or the whole text if there is no point.
+// What follows a point and one or more zeros, or the whole text if no point comes first.
 #[tactic(auto, unfolding(crate::specs::Number::fraction_at))]
 fn fraction(text: &[u8]) -> Option<&[u8]>
     ensures { option_copied result ≡ fraction_at text.now }
 {
     match text.split_first() {
         Some((&b'.', rest)) => match rest.split_first() {
-            Some((&b'0', rest)) => Some(behind_zeros(rest)),
+            Some((&b'0', rest)) => Some(after_zeros(rest)),
             _ => None,
         },
         _ => Some(text),
@@ -87,9 +87,9 @@ pub(crate) fn bound(text: &[u8]) -> Option<(i64, &[u8])>
     ensures value { read_view result ≡ bound_at text.now }
     ensures within { IfSome result (λ x. IsBound x.0) }
 {
-    let (&first, behind) = text.split_first()?;
+    let (&first, following) = text.split_first()?;
     if first == b'-' {
-        let (number, rest) = unsigned(behind)?;
+        let (number, rest) = unsigned(following)?;
         Some((-number, rest))
     } else {
         unsigned(text)
@@ -98,7 +98,7 @@ pub(crate) fn bound(text: &[u8]) -> Option<(i64, &[u8])>
 
 /// What follows a comma.
 #[tactic(auto, unfolding(crate::specs::Number::comma_at))]
-pub(crate) fn behind_comma(text: &[u8]) -> Option<&[u8]>
+pub(crate) fn after_comma(text: &[u8]) -> Option<&[u8]>
     ensures { option_copied result ≡ comma_at text.now }
 {
     match text.split_first() {

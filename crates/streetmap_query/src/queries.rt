@@ -19,7 +19,7 @@ pub(crate) struct Parameters {
     pub ghost named: { ForSome after (λ id. IsTrue (is_id id)) },
 }
 
-/// What a request for a page of features asks for (OGC 17-069, 7.15).
+/// A query for a page of features (OGC 17-069, 7.15).
 #[derive(Drop)]
 pub struct Query {
     /// Only features that meet this box, in millimetres.

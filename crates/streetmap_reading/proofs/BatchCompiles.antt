@@ -1,4 +1,4 @@
--- What the statements mean, wherever our tables stand.
+-- What the statements mean, wherever our tables are.
 use Rattle.std.proofs.Common.{ℕ, List, [], ◌∷◌, codes, refl, arith}
 use Rattle.sqlite.specs.Term.{Term, col}
 use Rattle.sqlite_tied.specs.Compute.{everything}
@@ -60,13 +60,13 @@ select_serial_never = select_never selects_serial select_serial_is
 abbrev past_serial : List Part
 past_serial = where_above (codes "serial", 7) (given 1) ∷ []
 
--- the serial is behind the parameter
-abbrev pub behind_serial : List Term
-behind_serial = meant past_serial
+-- the serial is after the parameter
+abbrev pub after_serial : List Term
+after_serial = meant past_serial
 
-abbrev selects_behind : Selection
-selects_behind = record {
-  text = text.select_behind;
+abbrev selects_after : Selection
+selects_after = record {
+  text = text.select_after;
   parameters = a_number ∷ [];
   table = batches;
   shown = all_columns;
@@ -74,16 +74,16 @@ selects_behind = record {
   by = (codes "serial", 7) ∷ [];
 }
 
-select_behind_is : IsSelect selects_behind
+select_after_is : IsSelect selects_after
 unfolding everything
-select_behind_is = record {
+select_after_is = record {
   says = (refl, refl, omega arith, refl);
   resolved = λ schema tree it. rw (it.named, it.listed, it.listed, it.listed, it.listed) refl;
   accepted = λ schema tree it. rw (it.low, it.by_tree) (refl, λ z. refl);
 }
 
-pub select_behind_means : SelectMeans selects_behind
-select_behind_means = select_means selects_behind select_behind_is
+pub select_after_means : SelectMeans selects_after
+select_after_means = select_means selects_after select_after_is
 
-pub select_behind_never : SelectNever selects_behind
-select_behind_never = select_never selects_behind select_behind_is
+pub select_after_never : SelectNever selects_after
+select_after_never = select_never selects_after select_after_is

@@ -14,7 +14,7 @@ use Rattle.sqlite.proofs.Callers.{unchanged_then}
 use Rattle.streetmap_geojson.specs.FeatureValue.{FeatureValue}
 use Rattle.streetmap_rows.specs.Rows.{feature_text}
 use Rattle.streetmap_reading.specs.Candidates.{candidate_row}
-use Rattle.streetmap_reading.specs.Taking.{Stopped}
+use Rattle.streetmap_reading.specs.FoldStops.{Stopped}
 use Rattle.streetmap_rows.specs.declared.fault.ReadFault.{ReadFault}
 use Rattle.streetmap_rows.specs.declared.fault.ReadFault.TheVariants.{Memory, Store, Unread}
 
@@ -48,5 +48,5 @@ keeps_on a b c same kept = keeps_then a b c (record { was_open = λ _. same.0.wa
 pub stopped_on : (a b c : Seen) (fault : ReadFault) → IsUnchanged a b → a.faults ≤ b.faults
     → Stopped b c fault → Stopped a c fault
 stopped_on a b c Memory same counts h = unchanged_then a b c same h
-stopped_on a b c (Store e) same counts h = (h.0, (λ live tells. omega (arith, counts, h.1 same.0.is_open tells)), keeps_on a b c same h.2)
+stopped_on a b c (Store e) same counts h = (h.0, (λ live reports. omega (arith, counts, h.1 same.0.is_open reports)), keeps_on a b c same h.2)
 stopped_on a b c Unread same counts h = h

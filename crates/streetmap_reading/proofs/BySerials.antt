@@ -62,7 +62,7 @@ module _ (s : State) (sound : IsState s) where
   Shows es = (e : Numbered) → Has es e
       → (b : KeyedBatch) × (batch_in s e.0 ≡ Some b) × (e.1 ≡ row_of b)
 
-  -- each batch behind a serial is shown
+  -- each batch after a serial is shown
   abbrev pub ShowsAll : ℕ → List Numbered → Type 0
   ShowsAll n es = (m : ℕ) (b : KeyedBatch) → n < m → batch_in s m ≡ Some b
       → (row : Row) × Has es (m, row)
@@ -348,7 +348,7 @@ module _ (tree : ℕ) (tests project : List Term) (params : Row) where
     twice [] = refl
     twice (x ∷ xs) = ap (λ l. x.1 ∷ l) (twice xs)
 
-    -- the query shows the batches behind a serial, in order of their serials
+    -- the query shows the batches after a serial, in order of their serials
     pub shows_next : shown ≡ map row_of (batches_next s n k)
     shows_next =
         answer.shown ∙ (ap (map (λ (o : Output). o.1)) (sym ordered_is)

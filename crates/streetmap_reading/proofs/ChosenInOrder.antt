@@ -51,7 +51,7 @@ ChoosesIn s terms params name test = (r : Row) (p : KeyPair) (f : FeatureValue) 
 abbrev pub Shows : List Term → Row → (Text → FeatureValue → Row) → Type 0
 Shows project params view = (r : Row) (p : KeyPair) (f : FeatureValue) → drop 1 r ≡ feature_cells p f → eval_all project (params ∷ r ∷ []) ≡ view p.1 f
 
--- the row of a feature of a collection shows this, where it is one of these rows
+-- the row of a feature of a collection shows this, if it is one of these rows
 abbrev pub ShowsIn : List Row → Text → List Term → Row → (Text → FeatureValue → Row) → Type 0
 ShowsIn rows name project params view = (r : Row) (f : FeatureValue) → Has rows r → (pair_key r).0 ≡ name → drop 1 r ≡ feature_cells (pair_key r) f → eval_all project (params ∷ r ∷ []) ≡ view (pair_key r).1 f
 
@@ -111,7 +111,7 @@ module _ (s : State) (roots : Roots) (db : Trees) (of : AreOf s roots db) (name 
 
 module _ (s : State) (roots : Roots) (db : Trees) (of : AreOf s roots db) (name : Text) (kept : Features) (kept_is : (q : Text) → get kept q ≡ feature_at s (name, q)) (terms : List Term) (params : Row) (test : FeatureValue → Bool) (chooses : Chooses terms params name test)
     (project : List Term) (view : Text → FeatureValue → Row) (shows : Shows project params view) where
-  -- the same, where the terms choose so in any state
+  -- the same, if the terms choose so in any state
   pub shows_chosen : nat_le (2 ^ 31) roots.features ≡ false → (shown : List Row) → IsAnswerAs Null (ordered_query roots.features terms project 2) (overlay db []) params shown → shown ≡ map (λ e. view e.0 e.1) (passing test (entries kept))
   shows_chosen = shows_chosen_in s roots db of name kept kept_is terms params test (λ r p f cells is. chooses r p f cells) project view (λ r f h of cells. shows r (pair_key r) f cells)
 

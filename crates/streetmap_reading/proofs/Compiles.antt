@@ -1,4 +1,4 @@
--- What the statements over all features of a collection mean, wherever our tables stand.
+-- What the statements over all features of a collection mean, wherever our tables are.
 use Rattle.std.proofs.Common.{◌≡◌, ℕ, ◌^◌, true, false, List, [], ◌∷◌, codes, refl, arith}
 use Rattle.std.specs.Prelude.{nat_lt, nat_le}
 use Rattle.std.proofs.lemmas.Bool.{lt-ltb, leb-false}
@@ -19,7 +19,7 @@ in_turn = where_equal_in_turn (codes "collection", 1) (given 1) ∷ []
 abbrev extent_columns : List Column
 extent_columns = (codes "x0", 4) ∷ (codes "y0", 5) ∷ (codes "x1", 6) ∷ (codes "y1", 7) ∷ []
 
--- a table that is stored has rowids, which one that a statement computes has not
+-- a stored table has rowids, and one that a statement computes has none
 pub is_stored : (tree : ℕ) → nat_le (2 ^ 31) tree ≡ false → nat_lt tree (2 ^ 31) ≡ true
 is_stored tree low = lt-ltb tree (2 ^ 31) (leb-false (2 ^ 31) tree low)
 

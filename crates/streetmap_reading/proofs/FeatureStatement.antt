@@ -29,7 +29,7 @@ use Rattle.streetmap_rows.proofs.OneRowChosen.{chosen, shown_as, staged}
 use Rattle.streetmap_rows.proofs.OrderedRows.{if_passes}
 use Rattle.streetmap_rows.proofs.HeldKeys.{filter_one}
 use Rattle.streetmap_rows.proofs.TextKeys.{pair_is, pair_self, column_later}
-use Rattle.streetmap_rows.specs.Keeping.{Keeps}
+use Rattle.streetmap_rows.specs.KeptStates.{Keeps}
 use Rattle.streetmap_rows.specs.Rows.{AreOf, feature_cells, feature_text, seconds_in}
 use Rattle.streetmap_reading.specs.Statements.{select_text, select_text_at}
 use Rattle.streetmap_rows.specs.Tables.{Roots, features, features_name}
@@ -41,9 +41,9 @@ use Rattle.streetmap_rows.proofs.TablesInSchema as placing
 use Rattle.streetmap_rows.specs.declared.fault.ReadFault.{ReadFault}
 use Rattle.streetmap_rows.specs.declared.fault.ReadFault.TheVariants.{Memory}
 use Rattle.streetmap_reading.specs.Candidates.{dated_row, ShowsOf}
-use Rattle.streetmap_reading.specs.Looking.{IsTextRowIfFound}
+use Rattle.streetmap_reading.specs.ReadResults.{IsTextRowIfFound}
 use Rattle.streetmap_rows.specs.Stored.{IsStored}
-use Rattle.streetmap_reading.specs.Taking.{Stopped}
+use Rattle.streetmap_reading.specs.FoldStops.{Stopped}
 use Rattle.streetmap_reading.proofs.PageRowsShown.{shows_by}
 
 -- ---- a row that passes two tests, of which one alone is passed by one row at most
@@ -117,7 +117,7 @@ module _ (db : Database) (s : State) (keeps : Keeps s db) (name id : Text) where
       (λ rows a. chosen db.trees roots.features both text_terms (keys_of key) (staged db.trees roots.features both (keys_of key) in_features.low) (has_pair key) (both_is s roots db.trees of key) found one_found rows a
       ∙ ap option_to_list (shown_is (keys_of key)))
 
-  -- ---- the row of a feature, where it has a rowid
+  -- ---- the row of a feature, if it has this rowid
 
   module _ (rowid : ℤ) where
     abbrev pub params : Row
@@ -146,13 +146,13 @@ module _ (db : Database) (s : State) (keeps : Keeps s db) (name id : Text) where
     unfolding row_at
     row_at_is = shown_if has_rowid (shown params) found _ (shown_is params)
 
-  -- a feature of a state has the time that its collection's property tells
+  -- a feature of a state has the time that its collection's property gives
   pub stored_at : (c : Collection) → get s.collections name ≡ Some c → (f : FeatureValue) → feature_in s name id ≡ Some f → IsStored c.time f
   stored_at c there f is =
       let under : get c.features id ≡ Some f = sym (ap (option_and_then (λ (d : Collection). get d.features id)) there) ∙ is in
       record { kept = keeps.rows.readable.features key f is; timed = ((keeps.well.made name c there).holds id f under).timed }
 
--- ---- looks, one after the other
+-- ---- reads, one after the other
 
 pub text_is : (o : Option FeatureValue) (row : Row) → Some row ≡ option_map dated_row o → (f : FeatureValue) × (o ≡ Some f) × (row ≡ dated_row f)
 text_is None row e = absurd (cc)
@@ -178,7 +178,7 @@ no_second : (t : Option IntervalValue) → or_null Int (option_map (λ (p : ℤ 
 no_second None e = refl
 no_second (Some i) e = absurd (cc)
 
--- a feature has a time where it has a first second
+-- a feature has a time if it has a first second
 pub null_is : (f : FeatureValue) (row : Row) → row ≡ dated_row f → column row 1 ≡ Null → f.time ≡ None
 unfolding seconds_in
 null_is f row is null = no_second f.time (sym (ap (λ r. column r 1) is) ∙ null)
@@ -193,7 +193,7 @@ pub read_on : (a b : Seen) (f : FeatureValue) (r : Result FeatureValue ReadFault
 read_on a b f (Ok g) same h = (h, same)
 read_on a b f (Err e) same h = subst (Stopped a b) (sym h) same
 
--- the collection of a feature that is there
+-- the collection of an existing feature
 pub holder : (o : Option Collection) (id : Text) (f : FeatureValue) → option_and_then (λ (d : Collection). get d.features id) o ≡ Some f → (d : Collection) × (o ≡ Some d)
 holder None id f e = absurd (cc)
 holder (Some d) id f e = (d, refl)

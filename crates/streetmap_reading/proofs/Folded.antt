@@ -1,4 +1,4 @@
--- What a fold of a query tells whose rows are known.
+-- What a fold of a query returns if its rows are known.
 use Rattle.std.proofs.Common.{◌≡◌, inl, inr, ℕ, List, [], ◌++◌, None, Ok, Err, Result, MatchResult}
 use Rattle.std.proofs.Common.{Bool, true, false, IsTrue, refl, sym, subst}
 use Rattle.std.proofs.lemmas.Bool.{cases_Bool}
@@ -7,16 +7,16 @@ use Rattle.sqlite.specs.Command.TheVariants.{Select}
 use Rattle.sqlite.specs.State.{State as Seen, IsUnchanged}
 use Rattle.sqlite.specs.declared.error.Error.{Error}
 use Rattle.sqlite.proofs.Callers.{begins_as}
-use Rattle.streetmap_rows.specs.Failing.{IsOfStore, is_of_store}
+use Rattle.streetmap_rows.specs.Failures.{IsOfStore, is_of_store}
 use Rattle.streetmap_rows.specs.declared.fault.ReadFault.{ReadFault}
 use Rattle.streetmap_rows.specs.declared.fault.ReadFault.TheVariants.{Memory, Store, Unread}
 use Rattle.streetmap_reading.specs.Candidates.{ShowsSuch, ShowsOf}
-use Rattle.streetmap_reading.specs.Folding.{TakesAll, TakesSome, StopsQuery}
-use Rattle.streetmap_reading.specs.Seeing.{QueryBegins, QueryIsRefused}
-use Rattle.streetmap_reading.specs.Taking.{Stopped}
+use Rattle.streetmap_reading.specs.FoldEffects.{TakesAll, TakesSome, StopsQuery}
+use Rattle.streetmap_reading.specs.ShownQueries.{QueryBegins, QueryIsRefused}
+use Rattle.streetmap_reading.specs.FoldStops.{Stopped}
 use Rattle.streetmap_reading.proofs.WholeQueries.{answered}
-use Rattle.streetmap_reading.proofs.Seeing.{plain_simple, undone_keeps}
-use Rattle.streetmap_reading.proofs.QueryFails.{told}
+use Rattle.streetmap_reading.proofs.ShownQueries.{plain_simple, undone_keeps}
+use Rattle.streetmap_reading.proofs.QueryFails.{reported}
 
 module _ (sql : List ℕ) (params : Row) (old : Seen) (Are : List Row → Type 0)
     (shows : ShowsSuch sql params old.now Are) where
@@ -28,7 +28,7 @@ module _ (sql : List ℕ) (params : Row) (old : Seen) (Are : List Row → Type 0
       shows.is shows.plain shows.unlisted given h)
 
   never_refused : old.step_limit ≡ None → QueryIsRefused sql params old → ⊥
-  never_refused limit h = h.1 (told sql params old old Are shows limit h.0 h.2).0
+  never_refused limit h = h.1 (reported sql params old old Are shows limit h.0 h.2).0
 
   of_store : (e : Error) → old.step_limit ≡ None
       → ((IsOfStore e → ⊥) → QueryIsRefused sql params old) → IsOfStore e
@@ -53,7 +53,7 @@ module _ {F : Type 0} (Holds : F → F → List Row → Type 0) (IsGood : F → 
       stopped (Store e) h =
           (of_store sql params old Are shows e limit h.0, h.2, undone_keeps old new h.1)
 
-      -- the rows that a query shows which no rule refuses are taken, where they are good
+      -- the rows of a query that no rule refuses are taken, if they are good
       pub folded_such : (r : Result (Unit {0}) ReadFault)
           → TakesAll Holds IsGood sql params old new before after r → Holds before before []
           → MatchResult r (λ _. ((rows : List Row) × Are rows × Holds before after rows)
@@ -65,7 +65,7 @@ module _ {F : Type 0} (Holds : F → F → List Row → Type 0) (IsGood : F → 
       folded_such (Err fault) all held =
           stopped fault (all (plain_simple old.now.schema sql shows.plain) held)
 
-      -- where the first rows are taken, and these are all
+      -- if the first rows are taken, and these are all
       pub folded_some : (r : Result Bool ReadFault)
           → TakesSome Holds IsGood sql params old new before after r → Holds before before []
           → MatchResult r (λ all. (IsTrue all

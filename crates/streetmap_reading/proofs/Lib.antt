@@ -12,7 +12,7 @@ pub mod WholeQueries
 pub mod PageStatements
 pub mod RowReadings
 pub mod BetweenRows
-pub mod Seeing
+pub mod ShownQueries
 pub mod PageRowsShown
 pub mod RunRows
 pub mod ShownOutlines
@@ -24,6 +24,6 @@ pub mod BatchCompiles
 pub mod RowBySerial
 pub mod SerialStatement
 pub mod BySerials
-pub mod BehindSerial
+pub mod AfterSerial
 pub mod ScannedBatches
 pub mod NextBatches

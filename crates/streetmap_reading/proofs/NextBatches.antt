@@ -1,4 +1,4 @@
--- The first of the batches behind a serial are the next ones.
+-- The first of the batches after a serial are the next ones.
 use Rattle.std.proofs.Common.{◌≡◌, inl, inr, ◌⊎◌, ℕ, ℤ, zero, suc, pos, ◌+◌, ◌-◌, ◌<◌, ◌≤◌, ◌^◌}
 use Rattle.std.proofs.Common.{min, List, [], ◌∷◌, ◌++◌, length}
 use Rattle.std.proofs.Common.{Option, None, Some, Result, Ok, Err, MatchResult, FitsSigned, w64}
@@ -13,14 +13,14 @@ use Rattle.sqlite_rules.specs.Lists.{Has}
 use Rattle.sqlite_rules.proofs.ListLemmas.{all_from}
 use Rattle.streetmap_ledger.specs.State.{State}
 use Rattle.streetmap_ledger.specs.WellFormed.{IsState}
-use Rattle.streetmap_reading.specs.Taking.{Stopped}
+use Rattle.streetmap_reading.specs.FoldStops.{Stopped}
 use Rattle.streetmap_rows.specs.declared.fault.ReadFault.{ReadFault}
 use Rattle.streetmap_reading.proofs.BetweenRows.{stopped_on}
 use Rattle.streetmap_ledger.specs.Kept.{KeyedBatch, batch_in, batch_count, batches_next}
-use Rattle.streetmap_ledger.specs.Kept.{batches_behind, AreNext}
+use Rattle.streetmap_ledger.specs.Kept.{batches_after, AreNext}
 use Rattle.streetmap_ledger.proofs.AllThere.{as_many}
 use Rattle.streetmap_ledger.proofs.Nexts.{nexts_split}
-use Rattle.streetmap_reading.specs.Scanning.{HaveKeys, AreFirst}
+use Rattle.streetmap_reading.specs.Scans.{HaveKeys, AreFirst}
 use Rattle.streetmap_reading.specs.Serials.{most_serial}
 use Rattle.streetmap_reading.proofs.SerialStatement.{key_read}
 
@@ -48,8 +48,8 @@ next_has s n (suc k) b h =
       | inr back ↦ (n + suc k, has_one (batch_in s (n + suc k)) b back)
     ]
 
-pub keys_behind : (s : State) (n : ℕ) → IsState s → HaveKeys (batches_behind s n)
-keys_behind s n sound = all_from _ (batches_behind s n) (λ b h.
+pub keys_after : (s : State) (n : ℕ) → IsState s → HaveKeys (batches_after s n)
+keys_after s n sound = all_from _ (batches_after s n) (λ b h.
     let at = next_has s n (batch_count s - n) b h in key_read s at.0 b sound at.1)
 
 -- ---- the first of them
@@ -70,7 +70,7 @@ no_more [] h = refl
 no_more (x ∷ xs) h = absurd (omega (arith, h))
 
 module _ (s : State) (after room : ℕ) (found : List KeyedBatch) (sound : IsState s)
-    (first : AreFirst room (batches_behind s (most_serial after)) found) where
+    (first : AreFirst room (batches_after s (most_serial after)) found) where
   abbrev m : ℕ
   m = min after (2 ^ 63 - 1)
 
@@ -138,7 +138,7 @@ taken_on a b c P (Err fault) same counts h = stopped_on a b c fault same counts 
 pub next_of : {T : Type 0} (s : State) (after room : ℕ) (keyed : T → List KeyedBatch) (same : T
     → Type 0)
     (stopped : ReadFault → Type 0) (r : Result T ReadFault) → IsState s
-    → MatchResult r (λ x. AreFirst room (batches_behind s (most_serial after)) (keyed x)
+    → MatchResult r (λ x. AreFirst room (batches_after s (most_serial after)) (keyed x)
     × same x) stopped
     → MatchResult r (λ x. AreNext s after room (keyed x) × same x) stopped
 next_of s after room keyed same stopped (Ok x) sound h =

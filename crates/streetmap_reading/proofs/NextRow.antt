@@ -9,9 +9,9 @@ use Rattle.sqlite.specs.Given.{HasGiven, Advances, FailsToAdvance}
 use Rattle.sqlite.specs.Held.{Held, state}
 use Rattle.sqlite.specs.State.{State as Seen, IsUnchanged, KeepsCommit}
 use Rattle.sqlite.proofs.Callers.{reads_as, begins_as, given_begin}
-use Rattle.streetmap_rows.specs.Failing.{IsOfStore, HasReason}
+use Rattle.streetmap_rows.specs.Failures.{IsOfStore, HasReason}
 use Rattle.streetmap_reading.specs.Candidates.{ShowsOf}
-use Rattle.streetmap_reading.proofs.QueryFails.{told}
+use Rattle.streetmap_reading.proofs.QueryFails.{reported}
 
 cancel : {A : Type 0} (xs ys zs : List A) → xs ++ ys ≡ xs ++ zs → ys ≡ zs
 cancel [] ys zs e = e
@@ -36,7 +36,7 @@ module _ {S : Type 0} (g : Ghosts S) (old new : Held S) (sql : List ℕ) (params
 
   pub at_fault : (e : Error) → (state g old).step_limit ≡ None → FailsToAdvance g old new e
       → IsOfStore e × HasReason (state g old) (state g new) e × KeepsCommit (state g old) (state g new)
-  at_fault e limit fails = told sql params (state g old) (state g new) _ shows limit e (fails sql params done given)
+  at_fault e limit fails = reported sql params (state g old) (state g new) _ shows limit e (fails sql params done given)
 
 -- the rows that a query shows of a database that is unchanged
 pub shows_still : (a b : Seen) (sql : List ℕ) (params : Row) (rows others : List Row) → IsUnchanged a b → rows ≡ others → ShowsOf sql params a.now rows → ShowsOf sql params b.now others

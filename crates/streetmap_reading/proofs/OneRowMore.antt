@@ -1,4 +1,4 @@
--- One row more.
+-- One more row.
 use Rattle.std.proofs.Common.{refl, ◌≡◌, List, [], ◌∷◌, ◌++◌, map, Option, Some, None, Vec, option_map, sym, ap, subst, ◌∙◌}
 use Rattle.std.specs.declared.alloc.Global.{Global}
 use Rattle.std.specs.List.{AllByRecursion}
@@ -24,30 +24,30 @@ use Rattle.streetmap_query.specs.QueryValue.{QueryValue}
 use Rattle.streetmap_ledger.specs.Folds.{IsFoldOf}
 use Rattle.streetmap_rows.specs.Rows.{collection_cells}
 use Rattle.streetmap_rows.specs.Stored.{IsStored}
-use Rattle.streetmap_rows.specs.Stands.{HasTextNames}
+use Rattle.streetmap_rows.specs.Representations.{HasTextNames}
 use Rattle.streetmap_rows.specs.Views.{collection_view}
 use Rattle.streetmap_rows.specs.declared.fault.ReadFault.{ReadFault}
 use Rattle.streetmap_rows.specs.declared.fault.ReadFault.TheVariants.{Memory, Store, Unread}
 use Rattle.streetmap_reading.proofs.BetweenRows.{map_append}
 use Rattle.streetmap_reading.specs.Candidates.{candidate_row}
-use Rattle.streetmap_reading.specs.Folding.{IsForMemory, Refuses}
+use Rattle.streetmap_reading.specs.FoldEffects.{IsForMemory, Refuses}
 use Rattle.streetmap_reading.specs.declared.candidates.PageRows.{PageRows}
 use Rattle.streetmap_reading.specs.Held.{HoldsOutlines, head_of, IsCandidate, HoldsPage}
-use Rattle.streetmap_reading.specs.Telling.{features_in, IsExtentIn, CompletesHead}
+use Rattle.streetmap_reading.specs.PassResults.{features_in, IsExtentIn, CompletesHead}
 use Rattle.streetmap_reading.specs.Views.{PlacedOutline, placed_row, IsOutline, extent_row, feature_extent}
 use Rattle.streetmap_reading.proofs.PositionBounds.{feature_bounds}
 use Rattle.streetmap_reading.proofs.RowsInTurn.{ends_with, all_before, none_mapped, one_of}
 
--- a list with one value more, where the rows end with the row of that value
-pub one_more : {A B C : Type 0} (value : A → C) (told : B → C) (row_of : B → Row) (Fine : B → Type 0) (items next : List A) (item : A) (rows : List Row) (row : Row) → next ≡ items ++ item ∷ []
-    → ((vs : List B) → rows ≡ map row_of vs → AllByRecursion Fine vs → map value items ≡ map told vs) → ((v : B) → row ≡ row_of v → Fine v → value item ≡ told v)
-    → (vs : List B) → rows ++ row ∷ [] ≡ map row_of vs → AllByRecursion Fine vs → map value next ≡ map told vs
-one_more value told row_of Fine items next item rows row more held reads vs is fine =
+-- a list with one more value, if the rows end with the row of that value
+pub one_more : {A B C : Type 0} (value : A → C) (reported : B → C) (row_of : B → Row) (Fine : B → Type 0) (items next : List A) (item : A) (rows : List Row) (row : Row) → next ≡ items ++ item ∷ []
+    → ((vs : List B) → rows ≡ map row_of vs → AllByRecursion Fine vs → map value items ≡ map reported vs) → ((v : B) → row ≡ row_of v → Fine v → value item ≡ reported v)
+    → (vs : List B) → rows ++ row ∷ [] ≡ map row_of vs → AllByRecursion Fine vs → map value next ≡ map reported vs
+one_more value reported row_of Fine items next item rows row more held reads vs is fine =
     let end = ends_with row_of rows row vs is in
     let all = all_before Fine end.before end.last (subst (AllByRecursion Fine) end.is fine) in
-    let front : map value items ≡ map told end.before = held end.before end.rest all.0 in
-    let last : value item ≡ told end.last = reads end.last end.same all.1 in
-    ap (map value) more ∙ map_append value items (item ∷ []) ∙ (λ i. front i ++ last i ∷ []) ∙ sym (map_append told end.before (end.last ∷ [])) ∙ ap (map told) (sym end.is)
+    let front : map value items ≡ map reported end.before = held end.before end.rest all.0 in
+    let last : value item ≡ reported end.last = reads end.last end.same all.1 in
+    ap (map value) more ∙ map_append value items (item ∷ []) ∙ (λ i. front i ++ last i ∷ []) ∙ sym (map_append reported end.before (end.last ∷ [])) ∙ ap (map reported) (sym end.is)
 
 -- no outlines
 pub outlines_begun : (os : Vec FeatureOutline Global) → os.items ≡ [] → HoldsOutlines os []
@@ -55,7 +55,7 @@ outlines_begun os none ps is fine =
     let empty = sym (none_mapped placed_row ps is) in
     (ap feature_outline_values none ∙ ap (map (λ (p : PlacedOutline). p.0)) empty, ap (map (λ (o : FeatureOutline). o.rowid)) none ∙ ap (map (λ (p : PlacedOutline). Some p.1)) empty)
 
--- outlines, with one outline more
+-- outlines, with one more outline
 pub outlines_more : (before after : Vec FeatureOutline Global) (outline : FeatureOutline) (rows : List Row) (row : Row) → after.items ≡ before.items ++ outline ∷ [] → HoldsOutlines before rows
     → ((p : PlacedOutline) → row ≡ placed_row p → IsOutline p.0 → (feature_outline_value outline ≡ p.0) × (outline.rowid ≡ Some p.1)) → HoldsOutlines after (rows ++ row ∷ [])
 outlines_more before after outline rows row more held reads ps is fine = (
@@ -63,7 +63,7 @@ outlines_more before after outline rows row more held reads ps is fine = (
   one_more (λ o. o.rowid) (λ p. Some p.1) placed_row (λ p. IsOutline p.0) before.items after.items outline rows row more (λ vs here good. (held vs here good).1) (λ p here good. (reads p here good).1) ps is fine,
 )
 
--- bounds of features, with one feature more
+-- bounds of features, with one more feature
 pub wider_bounds : (rows : List Row) (row : Row) (old extent new : Option GridBox) → ((fs : List FeatureValue) → rows ≡ map (λ f. extent_row (feature_extent f)) fs → AllByRecursion (λ f. IsGeometryIf f.geometry) fs → AreBounds (all_vertices fs) old)
     → ((f : FeatureValue) → row ≡ extent_row (feature_extent f) → IsGeometryIf f.geometry → option_map box_value extent ≡ feature_extent f) → ((ps qs : List PositionValue) → AreBounds ps old → AreBounds qs extent → AreBounds (ps ++ qs) new)
     → (fs : List FeatureValue) → rows ++ row ∷ [] ≡ map (λ f. extent_row (feature_extent f)) fs → AllByRecursion (λ f. IsGeometryIf f.geometry) fs → AreBounds (all_vertices fs) new
@@ -83,7 +83,7 @@ not_taken IsGood rows row Unread refuses reads = λ later all.
     absurd (let clash = reads (one_of IsGood rows row later all) in cc)
 not_taken IsGood rows row (Store e) refuses reads = absurd refuses
 
--- ---- what is told of a collection
+-- ---- what is read of a collection
 
 pub extended : (s : State) (h : Summary) (key : Text) (e : Option GridBox) → key ≡ (summary_value h).id → IsExtentIn key s e → CompletesHead h s (record { id = h.id; title = h.title; time = h.time; extent = e })
 extended s h key e is extent name c there head =
@@ -94,11 +94,11 @@ extended s h key e is extent name c there head =
     let bounds = extent ∙ ap (λ fs. extent_if (all_vertices (values fs))) at in
     λ i. record { id = id i; title = title i; time = time i; extent = bounds i }
 
-pub outlines_told : (o : Option Collection) (row : Row) (os : List FeatureOutlineValue) → Some row ≡ option_map collection_view o → os ≡ map (λ e. feature_outline_of e.0 e.1) (entries (option_map_or (λ (c : Collection). c.features) o empty)) → Some os ≡ option_map feature_outlines_of o
-outlines_told None row os there is = absurd (cc)
-outlines_told (Some c) row os there is = ap Some is
+pub outlines_reported : (o : Option Collection) (row : Row) (os : List FeatureOutlineValue) → Some row ≡ option_map collection_view o → os ≡ map (λ e. feature_outline_of e.0 e.1) (entries (option_map_or (λ (c : Collection). c.features) o empty)) → Some os ≡ option_map feature_outlines_of o
+outlines_reported None row os there is = absurd (cc)
+outlines_reported (Some c) row os there is = ap Some is
 
--- heads, with one head more
+-- heads, with one more head
 pub one_head_more : (items next : List Summary) (item : Summary) (rows : List Row) (row : Row) → next ≡ items ++ item ∷ []
     → ((es : List (Text × Collection)) → rows ≡ map (λ e. collection_cells e.0 e.1) es → AllByRecursion (λ e. HasTextNames e.0 e.1) es → summary_values items ≡ map (λ e. head_of e.0 e.1) es)
     → ((id : Text) (c : Collection) → row ≡ collection_cells id c → HasTextNames id c → summary_value item ≡ head_of id c)
@@ -112,7 +112,7 @@ one_head_more items next item rows row more held reads =
 pub read_so : (start now : PageRows) (rows : List Row) → HoldsPage start now rows → (f : FeatureValue) → IsStored (option_copied start.property) f → IsStored (option_copied now.property) f
 read_so start now rows held f fine = subst (λ p. IsStored (option_copied p) f) (sym held.property) fine
 
--- a page with one candidate more
+-- a page with one more candidate
 pub page_more : (start before after : PageRows) (feature : FeatureValue) (rows : List Row) (row : Row) → HoldsPage start before rows → after.property ≡ before.property
     → ((f : FeatureValue) → row ≡ candidate_row f → IsStored (option_copied before.property) f → feature ≡ f)
     → ((q : QueryValue) (fs : List FeatureValue) → IsFoldOf q before.fold fs → IsFoldOf q after.fold (fs ++ feature ∷ []))

@@ -22,7 +22,7 @@ use Rattle.streetmap_batch.specs.Text.{Text}
 use Rattle.streetmap_ledger.specs.State.{State, Collection}
 use Rattle.streetmap_rows.specs.Holds.{first_key, is_first}
 use Rattle.streetmap_rows.specs.Rows.{AreOf, feature_at, collection_cells}
-use Rattle.streetmap_rows.specs.Keeping.{Keeps}
+use Rattle.streetmap_rows.specs.KeptStates.{Keeps}
 use Rattle.streetmap_rows.specs.Statements.{select_all, select_in_box, select_in_time, select_in_both, select_collection}
 use Rattle.streetmap_rows.proofs.HeldKeys.{cells_of, filter_one}
 use Rattle.streetmap_rows.proofs.TextKeys.{first_is, first_self, column_later}
@@ -33,11 +33,11 @@ use Rattle.streetmap_rows.proofs.OneRowChosen.{chosen, shown_as, staged}
 use Rattle.streetmap_rows.specs.Tables.{Roots, features, collections, features_name, collections_name}
 use Rattle.streetmap_rows.proofs.Compiles.{one, select_all_means, select_all_never, select_in_box_means, select_in_box_never, select_in_time_means, select_in_time_never, select_in_both_means, select_in_both_never, select_collection_means, select_collection_never}
 use Rattle.streetmap_rows.proofs.PutCollection.{name_cell}
-use Rattle.streetmap_rows.proofs.KeyLooks.{named_is}
+use Rattle.streetmap_rows.proofs.KeyReads.{named_is}
 use Rattle.streetmap_rows.proofs.TablesInSchema as placing
 use Rattle.streetmap_reading.specs.Candidates.{candidate_row, ShowsSuch, ShowsOf}
 use Rattle.streetmap_rows.specs.Stored.{IsStored}
-use Rattle.streetmap_reading.specs.Choosing.{is_chosen, chosen_of}
+use Rattle.streetmap_reading.specs.Choices.{is_chosen, chosen_of}
 use Rattle.streetmap_rows.specs.Views.{collection_view}
 use Rattle.streetmap_moment.specs.Meeting.{first_second, last_second}
 use Rattle.streetmap_rows.proofs.OrderedRows.{find_has, mapped_has}

@@ -20,16 +20,16 @@ use Rattle.streetmap_ledger.specs.State.{State, Collection}
 use Rattle.streetmap_ledger.specs.Pages.{selects, selected, is_candidate, candidates, page_of, page_over}
 use Rattle.streetmap_ledger.specs.Folds.{IsFoldOf}
 use Rattle.streetmap_ledger.proofs.Examining.{selected_are_candidates, same_page}
-use Rattle.streetmap_rows.specs.Keeping.{Keeps}
+use Rattle.streetmap_rows.specs.KeptStates.{Keeps}
 use Rattle.streetmap_rows.specs.declared.fault.ReadFault.{ReadFault}
 use Rattle.streetmap_reading.specs.Candidates.{candidate_row, ShowsOf}
 use Rattle.streetmap_rows.specs.Stored.{IsStored}
 use Rattle.streetmap_reading.specs.declared.candidates.PageRows.{PageRows}
-use Rattle.streetmap_reading.specs.Taking.{Stopped}
-use Rattle.streetmap_reading.specs.Folding.{TakesAll}
+use Rattle.streetmap_reading.specs.FoldStops.{Stopped}
+use Rattle.streetmap_reading.specs.FoldEffects.{TakesAll}
 use Rattle.streetmap_reading.specs.Held.{IsCandidate, HoldsPage}
-use Rattle.streetmap_reading.specs.Choosing.{chosen_of, TakesChosen}
-use Rattle.streetmap_reading.specs.Looking.{Stays}
+use Rattle.streetmap_reading.specs.Choices.{chosen_of, TakesChosen}
+use Rattle.streetmap_reading.specs.ReadResults.{Stays}
 use Rattle.streetmap_rows.specs.Views.{collection_view}
 use Rattle.streetmap_reading.proofs.Folded.{folded}
 use Rattle.streetmap_reading.proofs.PageRowsShown.{chosen_stored}
@@ -87,7 +87,7 @@ whole_of q property (f ∷ fs) h = elim (cases_Bool (is_candidate (query_value q
 pub page_is : (q : Query) (property : Option Text) (fs : List FeatureValue) → AllByRecursion (IsStored property) fs → page_of (query_value q) (length (candidates (query_value q) fs)) (candidates (query_value q) fs) ≡ page_over (query_value q) fs
 page_is q property fs h = same_page (query_value q) (length (candidates (query_value q) fs)) (candidates (query_value q) fs) fs (whole_of q property fs h)
 
--- ---- looks, one after the other
+-- ---- reads, one after the other
 
 pub there_is : (o : Option Collection) (row : Row) → Some row ≡ option_map collection_view o → (d : Collection) × (o ≡ Some d) × (row ≡ collection_view d)
 there_is None row e = absurd (cc)

@@ -8,7 +8,7 @@ use Rattle.sqlite.specs.Effect.{RefusesQuery, RefusesToRead}
 use Rattle.sqlite.specs.Clock.{timed}
 use Rattle.sqlite.specs.State.{State as Seen, IsNotRun, FailsToQuery, FailsToShow, IsTooLate, KeepsCommit}
 use Rattle.sqlite.proofs.Callers.{IsPlain, command_of}
-use Rattle.streetmap_rows.specs.Failing.{IsOfStore, HasReason}
+use Rattle.streetmap_rows.specs.Failures.{IsOfStore, HasReason}
 use Rattle.streetmap_rows.proofs.ErrorReasons.{queried}
 use Rattle.streetmap_rows.proofs.StoreErrors.{failure_is}
 use Rattle.streetmap_reading.specs.Candidates.{IsOneStatement, ShowsSuch}
@@ -34,9 +34,9 @@ module _ (sql : List ℕ) (params : Row) (old new : Seen) (Are : List Row → Ty
       let three = subst (λ q. RefusesQuery old.step_limit old.now shows.program q e) full two in
       absurd (shows.never e (subst (λ l. RefusesQuery l old.now shows.program params e) limit three))
 
-  pub told : (e : Error) → FailsToQuery sql params old new e
+  pub reported : (e : Error) → FailsToQuery sql params old new e
       → IsOfStore e × HasReason old new e × KeepsCommit old new
-  told e h = let it = by e h in (it.0, queried old new sql params e h, it.1)
+  reported e h = let it = by e h in (it.0, queried old new sql params e h, it.1)
 
   pub not_late : (e : Error) → IsTooLate sql params old new e → ⊥
   not_late e h = let bare = subst IsPlain h.1.is shows.plain in absurd (let some = subst IsSome bare.0 h.2 in cc)

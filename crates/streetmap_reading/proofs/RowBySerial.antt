@@ -141,7 +141,7 @@ module _ (s : State) (roots : Roots) (db : Trees) (sound : IsState s) (of : AreO
       let same = serial_of n x a on ∙ sym (serial_of n y b too) in
       sound.one_each (first_key x) (first_key y) a.kept b.kept a.at b.at same
 
-  -- the row of a batch that is kept is there
+  -- the row of a batch that is kept exists
   pub row_there : (b : KeyedBatch) → get s.keys b.0 ≡ Some b.1
       → (r : Row) × Has (db roots.batches) r × (column r 7 ≡ Int (pos b.1.serial))
   row_there b at =

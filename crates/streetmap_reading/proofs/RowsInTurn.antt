@@ -10,7 +10,7 @@ pub none_mapped : {A B : Type 0} (f : A → B) (xs : List A) → [] ≡ map f xs
 none_mapped f [] e = refl
 none_mapped f (x ∷ xs) e = absurd cc
 
--- the last of a list, and what stands before it
+-- the last of a list, and what is before it
 pub record EndsWith {A B : Type 0} (f : A → B) (ys : List B) (y : B) (xs : List A) : Type 0 where
   pub before : List A
   pub last : A

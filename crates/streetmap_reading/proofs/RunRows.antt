@@ -15,7 +15,7 @@ use Rattle.streetmap_ledger.specs.State.{State, Collection}
 use Rattle.streetmap_ledger.specs.Pages.{is_between, run_of}
 use Rattle.streetmap_rows.specs.Holds.{KeyPair}
 use Rattle.streetmap_rows.specs.Rows.{feature_at}
-use Rattle.streetmap_rows.specs.Keeping.{Keeps}
+use Rattle.streetmap_rows.specs.KeptStates.{Keeps}
 use Rattle.streetmap_rows.specs.Stored.{IsStored}
 use Rattle.streetmap_rows.specs.Tables.{features, features_name}
 use Rattle.streetmap_rows.specs.declared.fault.ReadFault.{ReadFault}
@@ -24,10 +24,10 @@ use Rattle.streetmap_rows.proofs.Resolving.{is_plain}
 use Rattle.streetmap_rows.proofs.TablesInSchema as placing
 use Rattle.streetmap_reading.specs.declared.run.FeatureRows.{FeatureRows}
 use Rattle.streetmap_reading.specs.Candidates.{candidate_row, ShowsOf}
-use Rattle.streetmap_reading.specs.Folding.{TakesAll}
+use Rattle.streetmap_reading.specs.FoldEffects.{TakesAll}
 use Rattle.streetmap_reading.specs.Held.{HoldsRun, IsCandidate}
 use Rattle.streetmap_reading.specs.Statements.{select_run}
-use Rattle.streetmap_reading.specs.Taking.{Stopped}
+use Rattle.streetmap_reading.specs.FoldStops.{Stopped}
 use Rattle.streetmap_reading.proofs.ChosenInOrder.{page_query, lists_chosen}
 use Rattle.streetmap_reading.proofs.Compiles.{select_run_means, select_run_never}
 use Rattle.streetmap_reading.proofs.Folded.{folded}
@@ -40,7 +40,7 @@ module _ (db : Database) (s : State) (keeps : Keeps s db) where
   in_features : IsFound db.schema features_name (features keeps.rows.roots.features)
   in_features = placing.features_found keeps.rows.roots db keeps.rows.ours keeps.rows.sound
 
-  -- a feature of a state stands under its own id
+  -- a feature of a state is under its own id
   placed : (p : KeyPair) (f : FeatureValue) → feature_at s p ≡ Some f → f.id ≡ p.1
   placed p f is = go (get s.collections p.0) refl is
     where
@@ -69,7 +69,7 @@ run_reads start now rows held f fine = subst (λ p. IsStored (option_copied p) f
 pub run_begun : (run : FeatureRows) → HoldsRun run run []
 run_begun run = record { property = refl; features = λ fs none is fine. none ∙ sym (none_mapped candidate_row fs is) }
 
--- a run with one feature more
+-- a run with one more feature
 pub run_more : (start before after : FeatureRows) (feature : FeatureValue) (rows : List Row) (row : Row) → HoldsRun start before rows → after.property ≡ before.property → after.features.items ≡ before.features.items ++ feature ∷ []
     → ((f : FeatureValue) → row ≡ candidate_row f → IsStored (option_copied before.property) f → feature ≡ f)
     → HoldsRun start after (rows ++ row ∷ [])

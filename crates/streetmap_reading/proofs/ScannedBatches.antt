@@ -14,7 +14,7 @@ use Rattle.streetmap_reading.proofs.BetweenRows.{map_append, given_open, survive
 use Rattle.streetmap_ledger.specs.Kept.{KeyedBatch, text_bytes}
 use Rattle.streetmap_ledger.specs.KeptView.{keyed_batch, keyed_batches}
 use Rattle.streetmap_ledger.specs.declared.kept_batch.KeptBatch.{KeptBatch}
-use Rattle.streetmap_reading.specs.Scanning.{HaveKeys, AreFirst, TookBatch}
+use Rattle.streetmap_reading.specs.Scans.{HaveKeys, AreFirst, TookBatch}
 use Rattle.streetmap_reading.specs.Serials.{row_of}
 
 pub mapped_first : (rest : List KeyedBatch) (r : Row) (later : List Row) → map row_of rest
@@ -124,7 +124,7 @@ module _ {S : Type 0} (g : Ghosts S) where
 
 -- ---- where it ends
 
--- how many bytes with one text more, as a number can tell them
+-- how many bytes with one more text, up to the largest number
 pub bytes_more : (items next : List KeptBatch) (batch : KeptBatch) (bytes total room len : ℕ)
     → next ≡ items ++ batch ∷ [] → text_bytes (keyed_batches items) ≡ bytes
     → len ≡ length batch.text.items → total ≡ min (bytes + len) (2 ^ 64 - 1)

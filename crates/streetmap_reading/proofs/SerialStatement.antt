@@ -21,7 +21,7 @@ use Rattle.streetmap_batch.specs.Text.{Text}
 use Rattle.streetmap_ledger.specs.State.{State}
 use Rattle.streetmap_ledger.specs.WellFormed.{IsState}
 use Rattle.streetmap_rows.specs.Holds.{first_key}
-use Rattle.streetmap_rows.specs.Keeping.{Keeps}
+use Rattle.streetmap_rows.specs.KeptStates.{Keeps}
 use Rattle.streetmap_rows.specs.Queries.{over}
 use Rattle.streetmap_rows.specs.Tables.{Roots, batches, batches_name}
 use Rattle.streetmap_rows.proofs.OneRowChosen.{chosen, staged}

@@ -27,20 +27,20 @@ use Rattle.streetmap_rows.proofs.NamedTables.{IsFound}
 use Rattle.streetmap_rows.proofs.HeldKeys.{cells_of, there, find_own}
 use Rattle.streetmap_rows.proofs.TextKeys.{first_is, first_self, pair_is, pair_self, column_later}
 use Rattle.streetmap_rows.proofs.OrderedRows.{Says, AreRowsOf, keeps, ordered_query, shows_entries, if_passes, passed, passing, mapped_has, find_has}
-use Rattle.streetmap_rows.specs.Keeping.{Keeps}
+use Rattle.streetmap_rows.specs.KeptStates.{Keeps}
 use Rattle.streetmap_rows.specs.Rows.{AreOf, feature_at, feature_cells, collection_cells, extent_in, seconds_in}
-use Rattle.streetmap_rows.specs.Stands.{HasTextNames}
+use Rattle.streetmap_rows.specs.Representations.{HasTextNames}
 use Rattle.streetmap_rows.specs.Statements.{select_collections}
 use Rattle.streetmap_rows.specs.Tables.{Roots, features, collections, features_name, collections_name}
 use Rattle.streetmap_rows.proofs.Compiles.{select_collections_means, select_collections_never}
 use Rattle.streetmap_rows.proofs.TablesInSchema as placing
 use Rattle.streetmap_reading.specs.Candidates.{ShowsSuch, ShowsOf}
-use Rattle.streetmap_reading.specs.Choosing.{is_chosen}
+use Rattle.streetmap_reading.specs.Choices.{is_chosen}
 use Rattle.streetmap_reading.proofs.TermsChoose.{in_collection, in_collection_in_turn, all_chooses, chooses_in_turn}
 use Rattle.streetmap_reading.proofs.ChosenInOrder.{ShowsIn, shows_chosen_in, shows_chosen_once}
 use Rattle.streetmap_reading.proofs.PageRowsShown.{shows_by, shows_such}
 use Rattle.streetmap_reading.specs.Statements.{select_outlines, select_outlines_in_turn, select_extents}
-use Rattle.streetmap_reading.specs.Telling.{features_in}
+use Rattle.streetmap_reading.specs.PassResults.{features_in}
 use Rattle.streetmap_reading.specs.Views.{PlacedOutline, placed_row, extent_row, feature_extent, IsOutline, IsOutlineRow, IsExtentRow, IsHeadRow}
 use Rattle.streetmap_reading.proofs.PositionBounds.{extent_is_box}
 use Rattle.streetmap_reading.proofs.Compiles.{select_extents_means, select_extents_never}
@@ -59,7 +59,7 @@ use Rattle.streetmap_rows.specs.Queries.{over}
 use Rattle.streetmap_reading.proofs.RowsInTurn.{map_again}
 use Rattle.streetmap_reading.proofs.SortedOutlines.{sorted_are}
 use Rattle.streetmap_reading.specs.Held.{HoldsOutlines, HoldsBounds}
-use Rattle.streetmap_reading.specs.Telling.{comes_before}
+use Rattle.streetmap_reading.specs.PassResults.{comes_before}
 use Rattle.streetmap_ledger.specs.OutlineView.{feature_outline_values}
 use Rattle.streetmap_ledger.specs.declared.outline.FeatureOutline.{FeatureOutline}
 use Rattle.std.specs.declared.alloc.Global.{Global}
@@ -176,11 +176,11 @@ module _ (db : Database) (s : State) (kept : Keeps s db) where
 
     -- ---- what is shown can be read
 
-    stands_at : (e : Text × FeatureValue) → Has (entries (features_in s name)) e → feature_at s (name, e.0) ≡ Some e.1
-    stands_at e h = sym (get_in e.0) ∙ get-entries (features_in s name) e.0 ∙ find_has (entries (features_in s name)) e.0 e.1 (entries_sorted (features_in s name)) h
+    feature_is_at : (e : Text × FeatureValue) → Has (entries (features_in s name)) e → feature_at s (name, e.0) ≡ Some e.1
+    feature_is_at e h = sym (get_in e.0) ∙ get-entries (features_in s name) e.0 ∙ find_has (entries (features_in s name)) e.0 e.1 (entries_sorted (features_in s name)) h
 
     fine_at : (e : Text × FeatureValue) → Has (entries (features_in s name)) e → IsFeature e.1
-    fine_at e h = kept.rows.readable.features (name, e.0) e.1 (stands_at e h)
+    fine_at e h = kept.rows.readable.features (name, e.0) e.1 (feature_is_at e h)
 
     id_text : (q : Text) (f : FeatureValue) → feature_at s (name, q) ≡ Some f → IsUtf8 q
     id_text q f is = go (get s.collections name) refl is
@@ -193,7 +193,7 @@ module _ (db : Database) (s : State) (kept : Keeps s db) where
     outline_of_stored e is = record { id = id_text e.0 e.1 is; extent = extent_is_box e.1.geometry (kept.rows.readable.features (name, e.0) e.1 is).made }
 
     outline_fine : (e : Text × FeatureValue) → Has (entries (features_in s name)) e → IsOutline (feature_outline_of e.0 e.1)
-    outline_fine e h = outline_of_stored e (stands_at e h)
+    outline_fine e h = outline_of_stored e (feature_is_at e h)
 
     pub outlines_fine : AllByRecursion (λ (p : PlacedOutline). IsOutline p.0) (map placed (entries (features_in s name)))
     unfolding placed
@@ -210,12 +210,12 @@ module _ (db : Database) (s : State) (kept : Keeps s db) where
 
     -- ---- the rows of the outlines in any order
 
-    once_stands : (rows : List Row) (once : AreOnce rows) (e : Text × FeatureValue) → Has once.es e → get (features_in s name) e.0 ≡ Some e.1
-    once_stands rows once e h = (passed (is_chosen None None) (get (features_in s name) e.0) e.1 (once.each e h)).0
+    once_shown : (rows : List Row) (once : AreOnce rows) (e : Text × FeatureValue) → Has once.es e → get (features_in s name) e.0 ≡ Some e.1
+    once_shown rows once e h = (passed (is_chosen None None) (get (features_in s name) e.0) e.1 (once.each e h)).0
 
     -- each row is that of an outline
     once_outline : (rows : List Row) (once : AreOnce rows) (e : Text × FeatureValue) → Has once.es e → IsOutline (feature_outline_of e.0 e.1)
-    once_outline rows once e h = outline_of_stored e (sym (get_in e.0) ∙ once_stands rows once e h)
+    once_outline rows once e h = outline_of_stored e (sym (get_in e.0) ∙ once_shown rows once e h)
 
     pub once_fine : (rows : List Row) → AreOnce rows → AllByRecursion IsOutlineRow rows
     unfolding placed
@@ -227,16 +227,16 @@ module _ (db : Database) (s : State) (kept : Keeps s db) where
     pub outlines_once : (rows : List Row) (once : AreOnce rows) (os : Vec FeatureOutline Global) (sorted : List FeatureOutline) → HoldsOutlines os rows → IsPermutation os.items sorted → IsSortedBy comes_before sorted → feature_outline_values sorted ≡ map (λ e. feature_outline_of e.0 e.1) (entries (features_in s name))
     unfolding placed
     outlines_once rows once os sorted holds same up =
-        let told = holds (map placed once.es) (once.is ∙ sym (map_again placed_row placed once.es)) (all_from (λ (p : PlacedOutline). IsOutline p.0) _ (λ p h. let e = mapped_has placed once.es p h in subst (λ (x : PlacedOutline). IsOutline x.0) (sym e.2) (once_outline rows once e.0 e.1))) in
-        sorted_are (features_in s name) once.es once.apart (once_stands rows once) (λ q f is. once.all q f (ap (if_passes (is_chosen None None)) is)) os.items sorted (told.0 ∙ map_again (λ p. p.0) placed once.es) same up
+        let reported = holds (map placed once.es) (once.is ∙ sym (map_again placed_row placed once.es)) (all_from (λ (p : PlacedOutline). IsOutline p.0) _ (λ p h. let e = mapped_has placed once.es p h in subst (λ (x : PlacedOutline). IsOutline x.0) (sym e.2) (once_outline rows once e.0 e.1))) in
+        sorted_are (features_in s name) once.es once.apart (once_shown rows once) (λ q f is. once.all q f (ap (if_passes (is_chosen None None)) is)) os.items sorted (reported.0 ∙ map_again (λ p. p.0) placed once.es) same up
 
     -- ---- the rows of the extents in any order
 
-    extent_stands : (rows : List Row) (once : AreExtentsOnce rows) (e : Text × FeatureValue) → Has once.es e → get (features_in s name) e.0 ≡ Some e.1
-    extent_stands rows once e h = (passed (is_chosen None None) (get (features_in s name) e.0) e.1 (once.each e h)).0
+    extent_shown : (rows : List Row) (once : AreExtentsOnce rows) (e : Text × FeatureValue) → Has once.es e → get (features_in s name) e.0 ≡ Some e.1
+    extent_shown rows once e h = (passed (is_chosen None None) (get (features_in s name) e.0) e.1 (once.each e h)).0
 
     geometry_fine : (rows : List Row) (once : AreExtentsOnce rows) (e : Text × FeatureValue) → Has once.es e → IsGeometryIf e.1.geometry
-    geometry_fine rows once e h = (kept.rows.readable.features (name, e.0) e.1 (sym (get_in e.0) ∙ extent_stands rows once e h)).made
+    geometry_fine rows once e h = (kept.rows.readable.features (name, e.0) e.1 (sym (get_in e.0) ∙ extent_shown rows once e h)).made
 
     pub extents_once_fine : (rows : List Row) → AreExtentsOnce rows → AllByRecursion IsExtentRow rows
     extents_once_fine rows once = all_from IsExtentRow rows (λ r h.
@@ -247,17 +247,17 @@ module _ (db : Database) (s : State) (kept : Keeps s db) where
     pub extents_once : (rows : List Row) (once : AreExtentsOnce rows) (o : Option GridBox) → HoldsBounds o rows → AreBounds (all_vertices (values (features_in s name))) o
     extents_once rows once o holds =
         let fs = map (λ (e : Text × FeatureValue). e.1) once.es in
-        let told = holds fs (once.is ∙ sym (map_again (λ f. extent_row (feature_extent f)) (λ e. e.1) once.es)) (all_from (λ (f : FeatureValue). IsGeometryIf f.geometry) fs (λ f h. let e = mapped_has (λ (e : Text × FeatureValue). e.1) once.es f h in subst (λ (x : FeatureValue). IsGeometryIf x.geometry) (sym e.2) (geometry_fine rows once e.0 e.1))) in
-        bounds_turned fs (values (features_in s name)) (λ f h. to f (mapped_has (λ (e : Text × FeatureValue). e.1) once.es f h)) (λ f h. from f (mapped_has (λ (e : Text × FeatureValue). e.1) (entries (features_in s name)) f h)) o told
+        let reported = holds fs (once.is ∙ sym (map_again (λ f. extent_row (feature_extent f)) (λ e. e.1) once.es)) (all_from (λ (f : FeatureValue). IsGeometryIf f.geometry) fs (λ f h. let e = mapped_has (λ (e : Text × FeatureValue). e.1) once.es f h in subst (λ (x : FeatureValue). IsGeometryIf x.geometry) (sym e.2) (geometry_fine rows once e.0 e.1))) in
+        bounds_turned fs (values (features_in s name)) (λ f h. to f (mapped_has (λ (e : Text × FeatureValue). e.1) once.es f h)) (λ f h. from f (mapped_has (λ (e : Text × FeatureValue). e.1) (entries (features_in s name)) f h)) o reported
       where
         to : (f : FeatureValue) → (e : Text × FeatureValue) × Has once.es e × (f ≡ e.1) → Has (values (features_in s name)) f
-        to f e = subst (Has (values (features_in s name))) (sym e.2) (has_mapped (λ (x : Text × FeatureValue). x.1) (entries (features_in s name)) e.0 (found_in (entries (features_in s name)) e.0.0 e.0.1 (sym (get-entries (features_in s name) e.0.0) ∙ extent_stands rows once e.0 e.1)))
+        to f e = subst (Has (values (features_in s name))) (sym e.2) (has_mapped (λ (x : Text × FeatureValue). x.1) (entries (features_in s name)) e.0 (found_in (entries (features_in s name)) e.0.0 e.0.1 (sym (get-entries (features_in s name) e.0.0) ∙ extent_shown rows once e.0 e.1)))
 
         from : (f : FeatureValue) → (e : Text × FeatureValue) × Has (entries (features_in s name)) e × (f ≡ e.1) → Has (map (λ (e : Text × FeatureValue). e.1) once.es) f
         from f e =
             let at : get (features_in s name) e.0.0 ≡ Some e.0.1 = get-entries (features_in s name) e.0.0 ∙ find_has (entries (features_in s name)) e.0.0 e.0.1 (entries_sorted (features_in s name)) e.1 in
             let x = mapped_has (λ (x : Text × FeatureValue). x.0) once.es e.0.0 (once.all e.0.0 e.0.1 (ap (if_passes (is_chosen None None)) at)) in
-            let both : Some x.0.1 ≡ Some e.0.1 = sym (extent_stands rows once x.0 x.1) ∙ ap (get (features_in s name)) (sym x.2) ∙ at in
+            let both : Some x.0.1 ≡ Some e.0.1 = sym (extent_shown rows once x.0 x.1) ∙ ap (get (features_in s name)) (sym x.2) ∙ at in
             let same : x.0.1 ≡ e.0.1 = cc in
             subst (Has (map (λ (e : Text × FeatureValue). e.1) once.es)) (same ∙ sym e.2) (has_mapped (λ (x : Text × FeatureValue). x.1) once.es x.0 x.1)
 

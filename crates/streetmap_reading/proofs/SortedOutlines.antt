@@ -15,7 +15,7 @@ use Rattle.streetmap_ledger.specs.State.{Features}
 use Rattle.streetmap_ledger.specs.Outlines.{FeatureOutlineValue, feature_outline_of}
 use Rattle.streetmap_ledger.specs.OutlineView.{feature_outline_value, feature_outline_values}
 use Rattle.streetmap_ledger.specs.declared.outline.FeatureOutline.{FeatureOutline}
-use Rattle.streetmap_reading.specs.Telling.{comes_before}
+use Rattle.streetmap_reading.specs.PassResults.{comes_before}
 use Rattle.streetmap_rows.specs.Holds.{same_text}
 use Rattle.streetmap_rows.proofs.OrderedRows.{AreListed, listed_is, rising, rises, text_flips}
 use Rattle.streetmap_rows.proofs.OrderedRows.{has_mapped, mapped_has, moved}

@@ -8,15 +8,15 @@ use Rattle.sqlite.specs.Given.{HasGiven, Advances, FailsToAdvance}
 use Rattle.sqlite.specs.Held.{Held, state}
 use Rattle.sqlite.specs.State.{State as Seen, IsUnchanged, FailsToQuery}
 use Rattle.sqlite.proofs.Callers.{given_begin, unchanged_then}
-use Rattle.streetmap_rows.specs.Failing.{IsOfStore, HasReason}
+use Rattle.streetmap_rows.specs.Failures.{IsOfStore, HasReason}
 use Rattle.streetmap_rows.proofs.ErrorReasons.{queried, reason_on}
 use Rattle.streetmap_rows.specs.declared.fault.ReadFault.{ReadFault}
 use Rattle.streetmap_rows.specs.declared.fault.ReadFault.TheVariants.{Memory, Store, Unread}
-use Rattle.streetmap_reading.specs.Seeing.{IsSimpleIn, QueryShows, QueryIsRefused}
-use Rattle.streetmap_reading.specs.Folding.{Refuses, IsSameOrUndone, AreWrong, StopsQuery}
-use Rattle.streetmap_reading.specs.Folding.{ShowsOrBegins}
-use Rattle.streetmap_reading.proofs.Seeing.{undone_then, shown_there, begins_there, fails_there}
-use Rattle.streetmap_reading.proofs.Seeing.{failed_undone, seen, unseen}
+use Rattle.streetmap_reading.specs.ShownQueries.{IsSimpleIn, QueryShows, QueryIsRefused}
+use Rattle.streetmap_reading.specs.FoldEffects.{Refuses, IsSameOrUndone, AreWrong, StopsQuery}
+use Rattle.streetmap_reading.specs.FoldEffects.{ShowsOrBegins}
+use Rattle.streetmap_reading.proofs.ShownQueries.{undone_then, shown_there, begins_there, fails_there}
+use Rattle.streetmap_reading.proofs.ShownQueries.{failed_undone, seen, unseen}
 
 module _ (sql : List ℕ) (params : Row) where
   module _ (a b : Seen) (simple : IsSimpleIn a.now.schema sql) (same : IsUnchanged a b) where

@@ -27,7 +27,7 @@ use Rattle.streetmap_rows.specs.Rows.{feature_at, feature_cells, extent_in, seco
 use Rattle.streetmap_rows.specs.Holds.{KeyPair}
 use Rattle.streetmap_rows.proofs.TextKeys.{truth_is, equal_texts, column_later}
 use Rattle.streetmap_rows.proofs.Drafts.{equal_terms, at_most, at_least}
-use Rattle.streetmap_reading.specs.Choosing.{is_chosen}
+use Rattle.streetmap_reading.specs.Choices.{is_chosen}
 use Rattle.streetmap_rows.proofs.OrderedRows.{keeps}
 use Rattle.streetmap_reading.proofs.ChosenInOrder.{Chooses, ChoosesIn}
 
@@ -132,7 +132,7 @@ in_time_is i f = go f.time
 abbrev pub in_collection : Term
 in_collection = equal_terms (col 1 1) (col 0 0)
 
--- the same, where no row is looked for by it
+-- the same, but no row is looked up by it
 abbrev pub in_collection_in_turn : Term
 in_collection_in_turn = equal_terms (op2 Coalesce (col 1 1) (lit Null)) (col 0 0)
 
@@ -234,6 +234,6 @@ time_chooses name i r p f cells = time_rows r p f cells name i
 pub both_chooses : (name : Text) (b : BoxValue) (i : IntervalValue) → Chooses (in_collection ∷ box_terms (time_terms 5)) (Words name ∷ box_params b (time_params i)) name (is_chosen (Some b) (Some i))
 both_chooses name b i r p f cells = both_rows r p f cells name b i
 
--- a feature of the state stands under its own id
+-- a feature of the state is under its own id
 pub run_chooses : (s : State) → ((p : KeyPair) (f : FeatureValue) → feature_at s p ≡ Some f → f.id ≡ p.1) → (name first last : Text) → ChoosesIn s run_terms (run_params name first last) name (is_between first last)
 run_chooses s placed name first last r p f cells is = run_rows r p f cells name first last (placed p f is)

@@ -7,6 +7,6 @@ select_serial =
     codes "SELECT key, body, opened, inserted, replaced, deleted, serial FROM streetmap_batches WHERE serial = ?1"
 
 -- all columns of the batches after a serial, in order of their serials
-abbrev pub select_behind : List ℕ
-select_behind =
+abbrev pub select_after : List ℕ
+select_after =
     codes "SELECT key, body, opened, inserted, replaced, deleted, serial FROM streetmap_batches WHERE serial > ?1 ORDER BY serial"

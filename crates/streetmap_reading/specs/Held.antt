@@ -19,7 +19,7 @@ use Rattle.streetmap_query.specs.QueryValue.{QueryValue}
 use Rattle.streetmap_ledger.specs.Folds.{IsFoldOf}
 use Rattle.streetmap_rows.specs.Rows.{collection_cells}
 use Rattle.streetmap_rows.specs.Stored.{IsStored}
-use Rattle.streetmap_rows.specs.Stands.{HasTextNames}
+use Rattle.streetmap_rows.specs.Representations.{HasTextNames}
 use Rattle.streetmap_reading.specs.declared.candidates.PageRows.{PageRows}
 use Rattle.streetmap_reading.specs.declared.run.FeatureRows.{FeatureRows}
 use Rattle.streetmap_reading.specs.Candidates.{candidate_row}

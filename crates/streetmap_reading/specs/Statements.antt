@@ -6,7 +6,7 @@ abbrev pub select_outlines : List ℕ
 select_outlines = codes
     "SELECT id, x0, y0, x1, y1, s0, s1, rowid FROM streetmap_features WHERE collection = ?1 ORDER BY id"
 
--- the same in any order, by a pass over the rows of the table, without looking up any
+-- the same in any order, by a pass over the rows of the table, without a lookup
 abbrev pub select_outlines_in_turn : List ℕ
 select_outlines_in_turn = codes
     "SELECT id, x0, y0, x1, y1, s0, s1, rowid FROM streetmap_features WHERE +collection = ?1"
@@ -16,7 +16,7 @@ abbrev pub select_extents : List ℕ
 select_extents = codes
     "SELECT x0, y0, x1, y1 FROM streetmap_features WHERE collection = ?1 ORDER BY id"
 
--- the same in any order, by a pass over the rows of the table, without looking up any
+-- the same in any order, by a pass over the rows of the table, without a lookup
 abbrev pub select_extents_in_turn : List ℕ
 select_extents_in_turn = codes
     "SELECT x0, y0, x1, y1 FROM streetmap_features WHERE +collection = ?1"

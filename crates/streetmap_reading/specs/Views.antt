@@ -12,7 +12,7 @@ use Rattle.streetmap_batch.specs.Text.{Text}
 use Rattle.streetmap_ledger.specs.State.{Collection}
 use Rattle.streetmap_ledger.specs.Outlines.{FeatureOutlineValue}
 use Rattle.streetmap_rows.specs.Rows.{collection_cells}
-use Rattle.streetmap_rows.specs.Stands.{HasTextNames}
+use Rattle.streetmap_rows.specs.Representations.{HasTextNames}
 
 -- the four bounds of an extent, or NULLs
 abbrev pub extent_row : Option BoxValue → Row

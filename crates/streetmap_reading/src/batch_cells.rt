@@ -6,7 +6,7 @@ ghost use Rattle.sqlite.specs.declared.types.Value.TheVariants.{Int, Text as Wor
 ghost use Rattle.streetmap_batch.specs.Text.{Text};
 ghost use Rattle.streetmap_ledger.specs.State.{AcceptedBatch};
 ghost use Rattle.streetmap_ledger.specs.KeptView.{keyed_batch};
-ghost use Rattle.streetmap_reading.specs.Folding.{IsForMemory};
+ghost use Rattle.streetmap_reading.specs.FoldEffects.{IsForMemory};
 ghost use Rattle.streetmap_rows.specs.Rows.{batch_cells};
 
 use crate::cells::text_at;

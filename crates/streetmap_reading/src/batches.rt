@@ -2,12 +2,12 @@
 ghost use Rattle.std.specs.Prelude.{◌≡◌, ℕ, pos, false};
 ghost use Rattle.sqlite.specs.Held.{state};
 ghost use Rattle.sqlite.specs.State.{HasCleanDisk, Survives};
-ghost use Rattle.streetmap_reading.specs.Looking.{LooksInto, Stays};
+ghost use Rattle.streetmap_reading.specs.ReadResults.{ReadsState, Stays};
 ghost use Rattle.streetmap_reading.specs.Serials.{column_serial, most_serial, IsBatchRow};
 ghost use Rattle.streetmap_reading.specs.Serials.{IsBatchOf, AreNextOf};
 
 use crate::batch_cells::batch_in;
-use crate::scanning::first_batches;
+use crate::scans::first_batches;
 use sqlite::{Alter, Connection, Row, params};
 use std::alloc::Global;
 use streetmap_ledger::KeptBatch;
@@ -33,10 +33,10 @@ fn most_of(serial: u64) -> i64
     }
 }
 
-/// The row of the batch that is kept with a serial; none if there is none.
+/// The row of the batch that is kept with a serial, if any.
 fn batch_row<S: Alter>(conn: &mut Connection<S>, serial: i64) -> Result<Option<Row>, ReadFault>
     ensures finds { (n : ℕ) → serial ≡ pos n → HasCleanDisk (state S.Store conn.new) →
-        LooksInto (IsBatchRow n) (state S.Store conn.old) (state S.Store conn.new) result }
+        ReadsState (IsBatchRow n) (state S.Store conn.old) (state S.Store conn.new) result }
     ensures mode { conn.old.in_transaction ≡ false → conn.new.in_transaction ≡ false }
     ensures survives { Survives (state S.Store conn.old) (state S.Store conn.new) (λ _. Unit {0}) }
     ensures stays { Stays (state S.Store conn.old) (state S.Store conn.new) }
@@ -50,7 +50,7 @@ fn batch_row<S: Alter>(conn: &mut Connection<S>, serial: i64) -> Result<Option<R
     }
 }
 
-/// The batch that was accepted with a serial; `None` if there is none.
+/// The batch that was accepted with a serial; `None` if no batch was.
 ///
 /// # Errors
 ///
@@ -63,7 +63,7 @@ pub fn batch_of<S: Alter>(
     serial: u64,
 ) -> Result<Option<KeptBatch>, ReadFault>
     ensures shows { HasCleanDisk (state S.Store conn.new) →
-        LooksInto (IsBatchOf serial) (state S.Store conn.old) (state S.Store conn.new) result }
+        ReadsState (IsBatchOf serial) (state S.Store conn.old) (state S.Store conn.new) result }
     ensures mode { conn.old.in_transaction ≡ false → conn.new.in_transaction ≡ false }
     ensures survives { Survives (state S.Store conn.old) (state S.Store conn.new) (λ _. Unit {0}) }
     ensures stays { Stays (state S.Store conn.old) (state S.Store conn.new) }
@@ -88,7 +88,7 @@ pub fn batches_of<S: Alter>(
     room: usize,
 ) -> Result<Vec<KeptBatch>, ReadFault>
     ensures shows { HasCleanDisk (state S.Store conn.new) →
-        LooksInto (AreNextOf after room) (state S.Store conn.old) (state S.Store conn.new) result }
+        ReadsState (AreNextOf after room) (state S.Store conn.old) (state S.Store conn.new) result }
     ensures mode { conn.old.in_transaction ≡ false → conn.new.in_transaction ≡ false }
     ensures survives { Survives (state S.Store conn.old) (state S.Store conn.new) (λ _. Unit {0}) }
     ensures stays { Stays (state S.Store conn.old) (state S.Store conn.new) }

@@ -6,7 +6,7 @@ ghost use Rattle.sqlite.specs.declared.types.Value.TheVariants.{Text as Words};
 ghost use Rattle.streetmap_geojson.specs.FeatureValue.{FeatureValue};
 ghost use Rattle.streetmap_rows.specs.Rows.{feature_text};
 ghost use Rattle.streetmap_rows.specs.Stored.{IsStored};
-ghost use Rattle.streetmap_reading.specs.Folding.{Refuses};
+ghost use Rattle.streetmap_reading.specs.FoldEffects.{Refuses};
 
 use crate::fold::RowFold;
 use json::Scratch;

@@ -9,7 +9,7 @@ ghost use Rattle.streetmap_batch.specs.Text.{Text};
 ghost use Rattle.streetmap_grid.specs.Values.{BoxValue};
 ghost use Rattle.streetmap_grid.specs.Views.{box_value};
 ghost use Rattle.streetmap_grid.specs.WellFormed.{IsBox};
-ghost use Rattle.streetmap_reading.specs.Folding.{IsForMemory, Refuses};
+ghost use Rattle.streetmap_reading.specs.FoldEffects.{IsForMemory, Refuses};
 
 use sqlite::Row;
 use sqlite::types::ValueRef;

@@ -7,9 +7,9 @@ ghost use Rattle.streetmap_grid.specs.Bounds.{AreBounds};
 ghost use Rattle.streetmap_grid.specs.Values.{BoxValue, PositionValue};
 ghost use Rattle.streetmap_grid.specs.Views.{box_value};
 ghost use Rattle.streetmap_grid.specs.WellFormed.{IsBox};
-ghost use Rattle.streetmap_reading.specs.Folding.{Refuses};
-ghost use Rattle.streetmap_reading.specs.Looking.{LooksInto, Stays};
-ghost use Rattle.streetmap_reading.specs.Telling.{IsExtentIn, IsExtentIfIn};
+ghost use Rattle.streetmap_reading.specs.FoldEffects.{Refuses};
+ghost use Rattle.streetmap_reading.specs.ReadResults.{ReadsState, Stays};
+ghost use Rattle.streetmap_reading.specs.PassResults.{IsExtentIn, IsExtentIfIn};
 ghost use Rattle.streetmap_reading.specs.Views.{extent_row};
 
 use crate::cells::box_at;
@@ -63,7 +63,7 @@ fn extent_by_ids<S: Alter>(
     most: u64,
 ) -> Result<Option<Option<GridBox>>, ReadFault>
     ensures shows { HasCleanDisk (state S.Store conn.new)
-        → LooksInto (IsExtentIfIn collection.now) (state S.Store conn.old) (state S.Store conn.new)
+        → ReadsState (IsExtentIfIn collection.now) (state S.Store conn.old) (state S.Store conn.new)
         result }
     ensures mode { conn.old.in_transaction ≡ false → conn.new.in_transaction ≡ false }
     ensures survives { Survives (state S.Store conn.old) (state S.Store conn.new) (λ _. Unit {0}) }
@@ -89,7 +89,7 @@ fn extent_by_rows<S: Alter>(
     collection: &str,
 ) -> Result<Option<GridBox>, ReadFault>
     ensures shows { HasCleanDisk (state S.Store conn.new)
-        → LooksInto (IsExtentIn collection.now) (state S.Store conn.old) (state S.Store conn.new)
+        → ReadsState (IsExtentIn collection.now) (state S.Store conn.old) (state S.Store conn.new)
         result }
     ensures mode { conn.old.in_transaction ≡ false → conn.new.in_transaction ≡ false }
     ensures survives { Survives (state S.Store conn.old) (state S.Store conn.new) (λ _. Unit {0}) }
@@ -112,7 +112,7 @@ pub fn extent_of<S: Alter>(
     collection: &str,
 ) -> Result<Option<GridBox>, ReadFault>
     ensures shows { HasCleanDisk (state S.Store conn.new)
-        → LooksInto (IsExtentIn collection.now) (state S.Store conn.old) (state S.Store conn.new)
+        → ReadsState (IsExtentIn collection.now) (state S.Store conn.old) (state S.Store conn.new)
         result }
     ensures mode { conn.old.in_transaction ≡ false → conn.new.in_transaction ≡ false }
     ensures survives { Survives (state S.Store conn.old) (state S.Store conn.new) (λ _. Unit {0}) }

@@ -5,9 +5,9 @@ ghost use Rattle.sqlite.specs.State.{HasCleanDisk, Survives, CommitsShowing};
 ghost use Rattle.sqlite.specs.Values.{bound};
 ghost use Rattle.streetmap_geojson.specs.FeatureValue.{FeatureValue};
 ghost use Rattle.streetmap_reading.specs.Candidates.{dated_row};
-ghost use Rattle.streetmap_reading.specs.Looking.{LooksInto, Stays, IsTextRow, IsFeatureOf};
-ghost use Rattle.streetmap_reading.specs.Looking.{IsOnlyRow, IsTextRowIfFound, IsFeatureIn};
-ghost use Rattle.streetmap_reading.specs.Looking.{IsFeatureFound};
+ghost use Rattle.streetmap_reading.specs.ReadResults.{ReadsState, Stays, IsTextRow, IsFeatureOf};
+ghost use Rattle.streetmap_reading.specs.ReadResults.{IsOnlyRow, IsTextRowIfFound, IsFeatureIn};
+ghost use Rattle.streetmap_reading.specs.ReadResults.{IsFeatureFound};
 
 use crate::candidates::read_row;
 use crate::page::{collection_row, property_in};
@@ -46,7 +46,7 @@ fn text_row<S: Alter>(
     id: &str,
 ) -> Result<Option<Row>, ReadFault>
     ensures finds { HasCleanDisk (state S.Store conn.new)
-        → LooksInto (IsTextRow collection.now id.now) (state S.Store conn.old)
+        → ReadsState (IsTextRow collection.now id.now) (state S.Store conn.old)
         (state S.Store conn.new) result }
     ensures mode { conn.old.in_transaction ≡ false → conn.new.in_transaction ≡ false }
     ensures survives { Survives (state S.Store conn.old) (state S.Store conn.new) (λ _. Unit {0}) }
@@ -67,7 +67,7 @@ fn text_row_at<S: Alter>(
     rowid: i64,
 ) -> Result<Option<Row>, ReadFault>
     ensures finds { HasCleanDisk (state S.Store conn.new)
-        → LooksInto (IsTextRowIfFound collection.now id.now) (state S.Store conn.old)
+        → ReadsState (IsTextRowIfFound collection.now id.now) (state S.Store conn.old)
         (state S.Store conn.new) result }
     ensures mode { conn.old.in_transaction ≡ false → conn.new.in_transaction ≡ false }
     ensures survives { Survives (state S.Store conn.old) (state S.Store conn.new) (λ _. Unit {0}) }
@@ -88,7 +88,7 @@ fn outlined_row<S: Alter>(
     outline: &FeatureOutline,
 ) -> Result<Option<Row>, ReadFault>
     ensures finds { HasCleanDisk (state S.Store conn.new)
-        → LooksInto (IsTextRow collection.now (string_bytes outline.now.id))
+        → ReadsState (IsTextRow collection.now (string_bytes outline.now.id))
         (state S.Store conn.old) (state S.Store conn.new) result }
     ensures mode { conn.old.in_transaction ≡ false → conn.new.in_transaction ≡ false }
     ensures survives { Survives (state S.Store conn.old) (state S.Store conn.new) (λ _. Unit {0}) }
@@ -156,7 +156,7 @@ fn feature_in<S: Alter>(
     }
 }
 
-/// The feature of a row that a query looked for; `None` if it found none.
+/// The feature of the row that a query found; `None` if it found none.
 fn found_feature<S: Alter>(
     alloc: Global,
     scratch: &mut Scratch,
@@ -191,7 +191,7 @@ pub fn feature_of<S: Alter>(
     id: &str,
 ) -> Result<Option<Feature>, ReadFault>
     ensures shows { HasCleanDisk (state S.Store conn.new)
-        → LooksInto (IsFeatureOf collection.now id.now) (state S.Store conn.old)
+        → ReadsState (IsFeatureOf collection.now id.now) (state S.Store conn.old)
         (state S.Store conn.new) result }
     ensures mode { conn.old.in_transaction ≡ false → conn.new.in_transaction ≡ false }
     ensures survives { Survives (state S.Store conn.old) (state S.Store conn.new) (λ _. Unit {0}) }
@@ -203,7 +203,7 @@ pub fn feature_of<S: Alter>(
 
 /// The feature of a collection that an outline is of, by the outline's id; `None` if the collection
 /// or the feature does not exist. It reads the row with the outline's rowid first, and reads by the
-/// id if there is no such row or the row is another feature's.
+/// id if that row does not exist or is another feature's.
 ///
 /// # Errors
 ///
@@ -216,7 +216,7 @@ pub fn feature_outlined_of<S: Alter>(
     outline: &FeatureOutline,
 ) -> Result<Option<Feature>, ReadFault>
     ensures shows { HasCleanDisk (state S.Store conn.new)
-        → LooksInto (IsFeatureOf collection.now (string_bytes outline.now.id))
+        → ReadsState (IsFeatureOf collection.now (string_bytes outline.now.id))
         (state S.Store conn.old) (state S.Store conn.new) result }
     ensures mode { conn.old.in_transaction ≡ false → conn.new.in_transaction ≡ false }
     ensures survives { Survives (state S.Store conn.old) (state S.Store conn.new) (λ _. Unit {0}) }

@@ -4,8 +4,8 @@ ghost use Rattle.sqlite.specs.Held.{state};
 ghost use Rattle.sqlite.specs.Order.{Row as Cells};
 ghost use Rattle.sqlite.specs.State.{HasCleanDisk, Survives, CommitsShowing};
 ghost use Rattle.sqlite.specs.Values.{bound};
-ghost use Rattle.streetmap_reading.specs.Folding.{TakesRow, TakesNext, TakesFirst};
-ghost use Rattle.streetmap_reading.specs.Folding.{TakesSome, TakesAll};
+ghost use Rattle.streetmap_reading.specs.FoldEffects.{TakesRow, TakesNext, TakesFirst};
+ghost use Rattle.streetmap_reading.specs.FoldEffects.{TakesSome, TakesAll};
 
 use sqlite::types::ValueRef;
 use sqlite::{Alter, Connection, Error, ErrorCode, Row, Rows};
@@ -25,7 +25,7 @@ pub trait RowFold {
         ensures { TakesRow holds is_good row.now self.old self.new result };
 }
 
-/// Takes the next row, if there is one.
+/// Takes the next row, if any.
 fn take_next<S: Alter, F: RowFold>(rows: &mut Rows<'_, S>, fold: &mut F) -> Result<bool, ReadFault>
     ensures same_reference { rows.new.conn.ghost_name ≡ rows.old.conn.ghost_name }
     ensures takes { HasCleanDisk (state S.Store rows.new.conn.now)

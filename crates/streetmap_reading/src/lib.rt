@@ -26,7 +26,7 @@
 //! In the order of reading: `candidates` (rows of a query, one after the other), `page`, `feature`,
 //! `run`; `cells` (a value of a row), `fold` (rows taken one by one), `ordering` (by ids or in the
 //! order of the table), `extents`, `summaries`, `outlines`; `batch_cells` (a batch from its row),
-//! `scanning`, `batches` (reads by a serial).
+//! `scans`, `batches` (reads by a serial).
 #![tactic(auto)]
 
 mod batch_cells;
@@ -40,7 +40,7 @@ mod ordering;
 mod outlines;
 mod page;
 mod run;
-mod scanning;
+mod scans;
 mod summaries;
 
 pub use batches::{batch_of, batches_of};

@@ -2,7 +2,7 @@
 ghost use Rattle.std.specs.Prelude.{◌≡◌, false};
 ghost use Rattle.sqlite.specs.Held.{state};
 ghost use Rattle.sqlite.specs.State.{HasCleanDisk, Survives};
-ghost use Rattle.streetmap_reading.specs.Looking.{LooksInto, Stays};
+ghost use Rattle.streetmap_reading.specs.ReadResults.{ReadsState, Stays};
 
 use crate::fold::{RowFold, fold_first};
 use sqlite::{Alter, Connection, Row, params};
@@ -28,13 +28,13 @@ impl RowFold for Passing {
     }
 }
 
-/// The most rows of a collection that are to be read in order of ids. If it has more, one pass
+/// The most rows of a collection that are read in order of ids. If it has more, one pass
 /// reads all rows of the table in their own order. In order of ids each row is looked up in the
 /// table, which takes several times as long as the step to the next one. But if a file has many
 /// collections, a pass over all rows for each of them would take longer.
 pub fn most_by_ids<S: Alter>(conn: &mut Connection<S>) -> Result<u64, ReadFault>
     ensures shows { HasCleanDisk (state S.Store conn.new)
-        → LooksInto (λ _ _. Unit {0}) (state S.Store conn.old) (state S.Store conn.new) result }
+        → ReadsState (λ _ _. Unit {0}) (state S.Store conn.old) (state S.Store conn.new) result }
     ensures mode { conn.old.in_transaction ≡ false → conn.new.in_transaction ≡ false }
     ensures survives { Survives (state S.Store conn.old) (state S.Store conn.new) (λ _. Unit {0}) }
     ensures stays { Stays (state S.Store conn.old) (state S.Store conn.new) }

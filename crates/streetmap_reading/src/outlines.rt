@@ -3,10 +3,10 @@ ghost use Rattle.std.specs.Prelude.{◌≡◌, Some, false, IfErr, MatchResult};
 ghost use Rattle.sqlite.specs.Held.{state};
 ghost use Rattle.sqlite.specs.State.{HasCleanDisk, Survives};
 ghost use Rattle.streetmap_ledger.specs.OutlineView.{feature_outline_value};
-ghost use Rattle.streetmap_reading.specs.Looking.{LooksInto, Stays};
-ghost use Rattle.streetmap_reading.specs.Folding.{IsForMemory, Refuses};
-ghost use Rattle.streetmap_reading.specs.Telling.{AreOutlinesOf, AreOutlinesIn};
-ghost use Rattle.streetmap_reading.specs.Telling.{AreOutlinesIfIn, comes_before};
+ghost use Rattle.streetmap_reading.specs.ReadResults.{ReadsState, Stays};
+ghost use Rattle.streetmap_reading.specs.FoldEffects.{IsForMemory, Refuses};
+ghost use Rattle.streetmap_reading.specs.PassResults.{AreOutlinesOf, AreOutlinesIn};
+ghost use Rattle.streetmap_reading.specs.PassResults.{AreOutlinesIfIn, comes_before};
 ghost use Rattle.std.specs.List.Sorted.{IsPermutation, IsSortedBy};
 ghost use Rattle.streetmap_reading.specs.Views.{PlacedOutline, placed_row, IsOutline};
 
@@ -63,7 +63,7 @@ fn outlines_by_ids<S: Alter>(
     most: u64,
 ) -> Result<Option<Vec<FeatureOutline>>, ReadFault>
     ensures shows { HasCleanDisk (state S.Store conn.new)
-        → LooksInto (AreOutlinesIfIn collection.now) (state S.Store conn.old)
+        → ReadsState (AreOutlinesIfIn collection.now) (state S.Store conn.old)
         (state S.Store conn.new) result }
     ensures mode { conn.old.in_transaction ≡ false → conn.new.in_transaction ≡ false }
     ensures survives { Survives (state S.Store conn.old) (state S.Store conn.new) (λ _. Unit {0}) }
@@ -99,7 +99,8 @@ fn outlines_by_rows<S: Alter>(
     collection: &str,
 ) -> Result<Vec<FeatureOutline>, ReadFault>
     ensures shows { HasCleanDisk (state S.Store conn.new)
-        → LooksInto (AreOutlinesIn collection.now) (state S.Store conn.old) (state S.Store conn.new)
+        → ReadsState (AreOutlinesIn collection.now) (state S.Store conn.old) (state S.Store
+        conn.new)
         result }
     ensures mode { conn.old.in_transaction ≡ false → conn.new.in_transaction ≡ false }
     ensures survives { Survives (state S.Store conn.old) (state S.Store conn.new) (λ _. Unit {0}) }
@@ -123,7 +124,8 @@ fn outlines_in<S: Alter>(
     collection: &str,
 ) -> Result<Vec<FeatureOutline>, ReadFault>
     ensures shows { HasCleanDisk (state S.Store conn.new)
-        → LooksInto (AreOutlinesIn collection.now) (state S.Store conn.old) (state S.Store conn.new)
+        → ReadsState (AreOutlinesIn collection.now) (state S.Store conn.old) (state S.Store
+        conn.new)
         result }
     ensures mode { conn.old.in_transaction ≡ false → conn.new.in_transaction ≡ false }
     ensures survives { Survives (state S.Store conn.old) (state S.Store conn.new) (λ _. Unit {0}) }
@@ -149,7 +151,8 @@ pub fn outlines_of<S: Alter>(
     collection: &str,
 ) -> Result<Option<Vec<FeatureOutline>>, ReadFault>
     ensures shows { HasCleanDisk (state S.Store conn.new)
-        → LooksInto (AreOutlinesOf collection.now) (state S.Store conn.old) (state S.Store conn.new)
+        → ReadsState (AreOutlinesOf collection.now) (state S.Store conn.old) (state S.Store
+        conn.new)
         result }
     ensures mode { conn.old.in_transaction ≡ false → conn.new.in_transaction ≡ false }
     ensures survives { Survives (state S.Store conn.old) (state S.Store conn.new) (λ _. Unit {0}) }

@@ -8,10 +8,10 @@ ghost use Rattle.streetmap_grid.specs.Views.{box_value};
 ghost use Rattle.streetmap_moment.specs.Views.{interval_value};
 ghost use Rattle.streetmap_query.specs.Views.{query_value};
 ghost use Rattle.streetmap_ledger.specs.State.{Collection};
-ghost use Rattle.streetmap_rows.specs.Stands.{HasTextNames};
-ghost use Rattle.streetmap_reading.specs.Choosing.{TakesChosen, chosen_of, candidates_of};
-ghost use Rattle.streetmap_reading.specs.Looking.{LooksInto, Stays, IsCollectionRow, IsPageOf};
-ghost use Rattle.streetmap_reading.specs.Looking.{IsPageUnder};
+ghost use Rattle.streetmap_rows.specs.Representations.{HasTextNames};
+ghost use Rattle.streetmap_reading.specs.Choices.{TakesChosen, chosen_of, candidates_of};
+ghost use Rattle.streetmap_reading.specs.ReadResults.{ReadsState, Stays, IsCollectionRow, IsPageOf};
+ghost use Rattle.streetmap_reading.specs.ReadResults.{IsPageUnder};
 ghost use Rattle.streetmap_rows.specs.Views.{collection_view};
 
 use crate::candidates::PageRows;
@@ -148,7 +148,7 @@ pub fn collection_row<S: Alter>(
     id: &str,
 ) -> Result<Option<Row>, ReadFault>
     ensures finds { HasCleanDisk (state S.Store conn.new)
-        → LooksInto (IsCollectionRow id.now) (state S.Store conn.old) (state S.Store conn.new)
+        → ReadsState (IsCollectionRow id.now) (state S.Store conn.old) (state S.Store conn.new)
         result }
     ensures mode { conn.old.in_transaction ≡ false → conn.new.in_transaction ≡ false }
     ensures survives { Survives (state S.Store conn.old) (state S.Store conn.new) (λ _. Unit {0}) }
@@ -218,7 +218,7 @@ pub fn page_of<S: Alter>(
     query: &Query,
 ) -> Result<Option<Page>, ReadFault>
     ensures shows { HasCleanDisk (state S.Store conn.new)
-        → LooksInto (IsPageOf collection.now (query_value query.now)) (state S.Store conn.old)
+        → ReadsState (IsPageOf collection.now (query_value query.now)) (state S.Store conn.old)
         (state S.Store conn.new) result }
     ensures mode { conn.old.in_transaction ≡ false → conn.new.in_transaction ≡ false }
     ensures survives { Survives (state S.Store conn.old) (state S.Store conn.new) (λ _. Unit {0}) }

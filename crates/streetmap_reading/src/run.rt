@@ -4,7 +4,7 @@ ghost use Rattle.std.specs.Option.{option_copied};
 ghost use Rattle.sqlite.specs.Held.{state};
 ghost use Rattle.sqlite.specs.State.{HasCleanDisk, Survives};
 ghost use Rattle.streetmap_ledger.specs.Keep.{IsRunOf};
-ghost use Rattle.streetmap_reading.specs.Looking.{LooksInto, Stays, IsRunUnder};
+ghost use Rattle.streetmap_reading.specs.ReadResults.{ReadsState, Stays, IsRunUnder};
 
 use crate::candidates::read_row;
 use crate::fold::{RowFold, fold_rows};
@@ -87,7 +87,7 @@ pub fn run_of<S: Alter>(
     last: &str,
 ) -> Result<Option<Vec<Feature>>, ReadFault>
     ensures shows { HasCleanDisk (state S.Store conn.new)
-        → LooksInto (IsRunOf collection.now first.now last.now) (state S.Store conn.old)
+        → ReadsState (IsRunOf collection.now first.now last.now) (state S.Store conn.old)
         (state S.Store conn.new) result }
     ensures mode { conn.old.in_transaction ≡ false → conn.new.in_transaction ≡ false }
     ensures survives { Survives (state S.Store conn.old) (state S.Store conn.new) (λ _. Unit {0}) }

@@ -5,15 +5,15 @@ ghost use Rattle.sqlite.specs.State.{HasCleanDisk, Survives};
 ghost use Rattle.streetmap_batch.specs.Text.{Text};
 ghost use Rattle.streetmap_ledger.specs.State.{Collection};
 ghost use Rattle.streetmap_ledger.specs.SummaryView.{summary_value};
-ghost use Rattle.streetmap_reading.specs.Looking.{LooksInto, Stays};
+ghost use Rattle.streetmap_reading.specs.ReadResults.{ReadsState, Stays};
 ghost use Rattle.streetmap_rows.specs.Rows.{collection_cells};
-ghost use Rattle.streetmap_rows.specs.Stands.{HasTextNames};
+ghost use Rattle.streetmap_rows.specs.Representations.{HasTextNames};
 ghost use Rattle.streetmap_rows.specs.Views.{collection_view};
-ghost use Rattle.streetmap_reading.specs.Folding.{IsForMemory, Refuses};
+ghost use Rattle.streetmap_reading.specs.FoldEffects.{IsForMemory, Refuses};
 ghost use Rattle.streetmap_reading.specs.Held.{head_of};
-ghost use Rattle.streetmap_reading.specs.Telling.{IsSummaryOf, AreSummaries, AreHeads};
-ghost use Rattle.streetmap_reading.specs.Telling.{CompletesHead};
-ghost use Rattle.streetmap_reading.specs.Telling.{TellsAll};
+ghost use Rattle.streetmap_reading.specs.PassResults.{IsSummaryOf, AreSummaries, AreHeads};
+ghost use Rattle.streetmap_reading.specs.PassResults.{CompletesHead};
+ghost use Rattle.streetmap_reading.specs.PassResults.{ReportsCollections};
 
 use crate::cells::{text_at, text_if_at};
 use crate::extents::extent_of;
@@ -77,7 +77,7 @@ impl RowFold for Vec<Summary> {
 /// The summary of a collection, with its extent.
 fn with_extent<S: Alter>(conn: &mut Connection<S>, head: Summary) -> Result<Summary, ReadFault>
     ensures shows { HasCleanDisk (state S.Store conn.new)
-        → LooksInto (CompletesHead head) (state S.Store conn.old) (state S.Store conn.new) result }
+        → ReadsState (CompletesHead head) (state S.Store conn.old) (state S.Store conn.new) result }
     ensures mode { conn.old.in_transaction ≡ false → conn.new.in_transaction ≡ false }
     ensures survives { Survives (state S.Store conn.old) (state S.Store conn.new) (λ _. Unit {0}) }
     ensures stays { Stays (state S.Store conn.old) (state S.Store conn.new) }
@@ -99,7 +99,7 @@ pub fn summary_of<S: Alter>(
     id: &str,
 ) -> Result<Option<Summary>, ReadFault>
     ensures shows { HasCleanDisk (state S.Store conn.new)
-        → LooksInto (IsSummaryOf id.now) (state S.Store conn.old) (state S.Store conn.new) result }
+        → ReadsState (IsSummaryOf id.now) (state S.Store conn.old) (state S.Store conn.new) result }
     ensures mode { conn.old.in_transaction ≡ false → conn.new.in_transaction ≡ false }
     ensures survives { Survives (state S.Store conn.old) (state S.Store conn.new) (λ _. Unit {0}) }
     ensures stays { Stays (state S.Store conn.old) (state S.Store conn.new) }
@@ -115,7 +115,7 @@ pub fn summary_of<S: Alter>(
 /// The summaries of all collections before their extents are known, in byte order of ids.
 fn heads<S: Alter>(alloc: Global, conn: &mut Connection<S>) -> Result<Vec<Summary>, ReadFault>
     ensures shows { HasCleanDisk (state S.Store conn.new)
-        → LooksInto AreHeads (state S.Store conn.old) (state S.Store conn.new) result }
+        → ReadsState AreHeads (state S.Store conn.old) (state S.Store conn.new) result }
     ensures mode { conn.old.in_transaction ≡ false → conn.new.in_transaction ≡ false }
     ensures survives { Survives (state S.Store conn.old) (state S.Store conn.new) (λ _. Unit {0}) }
     ensures stays { Stays (state S.Store conn.old) (state S.Store conn.new) }
@@ -137,7 +137,7 @@ fn with_extents<S: Alter>(
     heads: Vec<Summary>,
 ) -> Result<Vec<Summary>, ReadFault>
     ensures shows { HasCleanDisk (state S.Store conn.new)
-        → TellsAll heads (state S.Store conn.old) (state S.Store conn.new) result }
+        → ReportsCollections heads (state S.Store conn.old) (state S.Store conn.new) result }
     ensures mode { conn.old.in_transaction ≡ false → conn.new.in_transaction ≡ false }
     ensures survives { Survives (state S.Store conn.old) (state S.Store conn.new) (λ _. Unit {0}) }
     ensures stays { Stays (state S.Store conn.old) (state S.Store conn.new) }
@@ -160,7 +160,7 @@ pub fn summaries_of<S: Alter>(
     conn: &mut Connection<S>,
 ) -> Result<Vec<Summary>, ReadFault>
     ensures shows { HasCleanDisk (state S.Store conn.new)
-        → LooksInto AreSummaries (state S.Store conn.old) (state S.Store conn.new) result }
+        → ReadsState AreSummaries (state S.Store conn.old) (state S.Store conn.new) result }
     ensures mode { conn.old.in_transaction ≡ false → conn.new.in_transaction ≡ false }
     ensures survives { Survives (state S.Store conn.old) (state S.Store conn.new) (λ _. Unit {0}) }
     ensures stays { Stays (state S.Store conn.old) (state S.Store conn.new) }

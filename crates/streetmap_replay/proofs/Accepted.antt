@@ -25,7 +25,7 @@ use Rattle.streetmap_replay.proofs.RepeatedBatches.{act_stays}
 
 -- ---- one batch
 
--- a batch whose key is not there is kept under the next serial
+-- a batch with a new key is kept under the next serial
 pub record IsAdded (s : State) (b : BatchValue) (o : Outcome) : Type 0 where
   pub new : get s.keys b.key ≡ None
   pub more : len o.state.keys ≡ len s.keys + 1
@@ -86,7 +86,7 @@ are_accepted s (b ∷ bs) =
     accepted_by s b (accepted_of (act s b).state bs) (are_accepted (act s b).state bs)
     (is_accepted (act s b).reply) refl
 
--- behind the first k the i-th of them is there, under its serial
+-- after the first k, the i-th of them is kept, under its serial
 pub there_at : (s : State) (bs : List BatchValue) → AreAccepted s bs → (i k : ℕ) (b : BatchValue) →
     slice_get bs i ≡ Some b → i < k →
     get (after_all s (take k bs)).keys b.key ≡ Some (kept_for b (len s.keys + i + 1))
@@ -107,7 +107,7 @@ there_at s (x ∷ xs) h (suc i) (suc k) b at low =
     let serial : len t.keys + i + 1 ≡ len s.keys + suc i + 1 = omega (arith, more) in
     rest ∙ ap (λ (n : ℕ). Some (kept_for b n)) serial
 
--- behind the first k the next is accepted
+-- after the first k, the next is accepted
 pub next_at : (s : State) (bs : List BatchValue) → AreAccepted s bs → (k : ℕ) (b : BatchValue) →
     slice_get bs k ≡ Some b →
     (is_accepted (act (after_all s (take k bs)) b).reply ≡ true)
@@ -119,7 +119,7 @@ next_at s (x ∷ xs) h zero b at =
     × ((act s y).state ≡ (act s x).state)) same (h.0, refl)
 next_at s (x ∷ xs) h (suc k) b at = next_at (act s x).state xs h.1 k b at
 
--- behind the first k there are k more
+-- after the first k, k more are kept
 pub count_at : (s : State) (bs : List BatchValue) → AreAccepted s bs → (k : ℕ) → k ≤ length bs →
     len (after_all s (take k bs)).keys ≡ len s.keys + k
 count_at s bs h zero low = omega arith

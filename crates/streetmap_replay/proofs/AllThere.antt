@@ -38,7 +38,7 @@ none_by : (n : ℕ) (e : Text × AcceptedBatch) (rest : Option AcceptedBatch) (l
 none_by n e rest later more true is h = none_some e.1 (sym h)
 none_by n e rest later more false is h = rw (other_eqb e.1.serial n is, more h) refl
 
--- where no value is found with a serial, it is none of the serials
+-- if no value is found with a serial, it is none of the serials
 none_any : (n : ℕ) (es : List (Text × AcceptedBatch)) →
     find (λ (k : AcceptedBatch). nat_eq k.serial n) (values_of es) ≡ None →
     list_any (eqb n) (serials_of es) ≡ false
@@ -58,7 +58,7 @@ any_found n es any = by (find (λ (k : AcceptedBatch). nat_eq k.serial n) (value
 pub is_serial : (a b : ℕ) → nat_eq a b ≡ true → a ≡ b
 is_serial a b e = grind (arith, nat_tests)
 
--- entries with a serial each, and no two with one
+-- each entry has a serial, and no two have the same one
 abbrev OneEach : List (Text × AcceptedBatch) → Type 0
 OneEach es = (key other : Text) (k l : AcceptedBatch) → find_key text_cmp key es ≡ Some k →
     find_key text_cmp other es ≡ Some l → k.serial ≡ l.serial → key ≡ other

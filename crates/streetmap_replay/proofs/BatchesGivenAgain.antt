@@ -1,4 +1,4 @@
--- Batches that their texts give again, one after the other.
+-- Batches that their texts reproduce, one after the other.
 use Rattle.std.proofs.Common.{◌≡◌, ℕ, zero, suc, ◌+◌, ◌<◌, ◌≤◌, Bool, true, false, cond, List, []}
 use Rattle.std.proofs.Common.{◌∷◌, ◌++◌, length, map, take, Option, None, Some, option_map}
 use Rattle.std.proofs.Common.{Result, Ok, Err, refl, sym, ap, ap₂, subst, ◌∙◌, nat_eq, nat_lt, arith}
@@ -10,7 +10,7 @@ use Rattle.std.specs.FinMap.{get, len, len-empty, same_map}
 use Rattle.std.proofs.lemmas.Bool.{cases_lt}
 use Rattle.std.proofs.lemmas.List.{map-append, length-map, take_all}
 use Rattle.std.proofs.lemmas.Option.{slice_get_read, slice_get-map}
-use Rattle.streetmap_batch.specs.BatchReading.{batch_of}
+use Rattle.streetmap_batch.specs.ParsedBatches.{batch_of}
 use Rattle.streetmap_batch.specs.BatchText.{batch_text}
 use Rattle.streetmap_batch.specs.BatchValue.{BatchValue}
 use Rattle.streetmap_batch.specs.Text.{Text, text_cmp}
@@ -32,8 +32,8 @@ use Rattle.streetmap_ledger.specs.declared.reply.Reply.{Reply}
 use Rattle.streetmap_ledger.specs.declared.reply.Reply.TheVariants.{Accepted, Repeated, Refused}
 use Rattle.streetmap_ledger.proofs.Repeat.{either, act_keeps}
 use Rattle.streetmap_ledger.proofs.TextMaps.{one_text}
-use Rattle.streetmap_replay.specs.Following.{Arrives, unless_refused, acted}
-use Rattle.streetmap_replay.specs.Following.{goes_on, follow}
+use Rattle.streetmap_replay.specs.FollowedLines.{Arrives, unless_refused, acted}
+use Rattle.streetmap_replay.specs.FollowedLines.{goes_on, follow}
 use Rattle.streetmap_replay.specs.Journal.{journal, kept_text}
 use Rattle.streetmap_replay.specs.Lines.{Line, bare}
 use Rattle.streetmap_replay.proofs.Accepted.{added}
@@ -44,25 +44,25 @@ use Rattle.streetmap_replay.specs.Given.{GivesFirst, GivesAll, BreaksAt}
 
 -- ---- the reply to a batch that is accepted
 
-abbrev Told : State → BatchValue → Outcome → Type 0
-Told s b o = (counts : Counts) (serial : ℕ) → o.reply ≡ Accepted counts serial →
+abbrev ReportsOutcome : State → BatchValue → Outcome → Type 0
+ReportsOutcome s b o = (counts : Counts) (serial : ℕ) → o.reply ≡ Accepted counts serial →
     (counts ≡ counts_of b.edits) × (serial ≡ len s.keys + 1)
 
-fresh_told : (s : State) (b : BatchValue) (r : Result State (ℕ × Refusal)) →
-    Told s b (fresh s b (len s.keys + 1) r)
-fresh_told s b (Ok t) counts serial e = (cc, cc)
-fresh_told s b (Err x) counts serial e = absurd cc
+fresh_reported : (s : State) (b : BatchValue) (r : Result State (ℕ × Refusal)) →
+    ReportsOutcome s b (fresh s b (len s.keys + 1) r)
+fresh_reported s b (Ok t) counts serial e = (cc, cc)
+fresh_reported s b (Err x) counts serial e = absurd cc
 
-by_key_told : (s : State) (b : BatchValue) (o : Option AcceptedBatch) → Told s b (by_key s b o)
-by_key_told s b (Some kept) =
-    either (Told s b) (pointwise nat_eq kept.text (batch_text b)) _ _ (λ counts serial e. absurd cc)
+by_key_reported : (s : State) (b : BatchValue) (o : Option AcceptedBatch) → ReportsOutcome s b (by_key s b o)
+by_key_reported s b (Some kept) =
+    either (ReportsOutcome s b) (pointwise nat_eq kept.text (batch_text b)) _ _ (λ counts serial e. absurd cc)
     (λ counts serial e. absurd cc)
-by_key_told s b None =
-    either (Told s b) (nat_lt (len s.keys) most_batches) _ _
-    (fresh_told s b (edited 1 s b.edits)) (λ counts serial e. absurd cc)
+by_key_reported s b None =
+    either (ReportsOutcome s b) (nat_lt (len s.keys) most_batches) _ _
+    (fresh_reported s b (edited 1 s b.edits)) (λ counts serial e. absurd cc)
 
-told : (s : State) (b : BatchValue) → Told s b (act s b)
-told s b = by_key_told s b (get s.keys b.key)
+reported : (s : State) (b : BatchValue) → ReportsOutcome s b (act s b)
+reported s b = by_key_reported s b (get s.keys b.key)
 
 -- ---- one text
 
@@ -74,7 +74,7 @@ accepted_given : (t : State) (b : BatchValue) (counts : Counts) (serial : ℕ) �
     (act t b).reply ≡ Accepted counts serial →
     given_by t (Some b) ≡ Some (row_with b counts serial)
 accepted_given t b counts serial e =
-    let is = told t b counts serial e in
+    let is = reported t b counts serial e in
     ap (λ (r : Reply). cond (is_accepted r) (Some (b.key, kept_for b (len t.keys + 1))) None) e
     ∙ ap₂ (λ (n : Counts) (k : ℕ). Some (row_with b n k)) (sym is.0) (sym is.1)
 
@@ -240,7 +240,7 @@ get_first [] ys i low = absurd (omega (arith, low))
 get_first (x ∷ xs) ys zero low = refl
 get_first (x ∷ xs) ys (suc i) low = get_first xs ys i (omega (arith, low))
 
--- one of as many next batches as were asked for
+-- one of the next batches, if as many exist as were requested
 nth_by : (s : State) (n k i : ℕ) (b : KeyedBatch) → length (batches_next s n (suc k)) ≡ suc k →
     i < suc k → slice_get (batches_next s n (suc k)) i ≡ Some b →
     (length (batches_next s n k) ≡ k → i < k → slice_get (batches_next s n k) i ≡ Some b →

@@ -15,8 +15,8 @@ use Rattle.streetmap_ledger.specs.declared.reply.Fault.TheVariants as faults
 use Rattle.streetmap_ledger.specs.State.{State, opening_state}
 use Rattle.streetmap_ledger.specs.declared.reply.Reply.{Reply}
 use Rattle.streetmap_batch.specs.BatchFacts.{IsSoundBatch}
-use Rattle.streetmap_replay.specs.Following.{LineFault, Followed as Told, line_outcome, goes_on}
-use Rattle.streetmap_replay.specs.Following.{follow, follower}
+use Rattle.streetmap_replay.specs.FollowedLines.{LineFault, Followed as ReportsOutcome, line_outcome, goes_on}
+use Rattle.streetmap_replay.specs.FollowedLines.{follow, follower}
 use Rattle.streetmap_replay.specs.JournalText.{text_of_lines, journal_lines}
 use Rattle.streetmap_replay.specs.Lines.{Line, line_bytes, IsJournalLine}
 use Rattle.streetmap_replay.specs.Sittings.{IsLineOf, highest}
@@ -24,17 +24,17 @@ use Rattle.streetmap_replay.proofs.LineBytes.{IsOneLine, no_feed, all_one_line, 
 use Rattle.streetmap_replay.proofs.LineBytes.{journal_reads_in_lines}
 use Rattle.streetmap_replay.proofs.ItemsByPlace.{All-at}
 use Rattle.streetmap_replay.proofs.Sitting.{reaches}
-use Rattle.streetmap_text_lines.specs.Reading.{HasNoLineFeed}
+use Rattle.streetmap_text_lines.specs.LineReads.{HasNoLineFeed}
 use Rattle.streetmap_text_lines.specs.declared.fault.LineFault.TheVariants.{LineTooLong, ReadFailed}
 use Rattle.streetmap_text_lines.specs.declared.fault.LineFault.TheVariants.{Memory}
-use Rattle.streetmap_replay.specs.Acting.{Follows}
+use Rattle.streetmap_replay.specs.LineEffects.{Follows}
 use Rattle.streetmap_replay.specs.Beginnings.{IsOfJournal, FollowerBy}
 use Rattle.streetmap_replay.specs.Ends.{IsInputLine, FollowingEndsBy, FollowsLines}
 use Rattle.streetmap_replay.specs.declared.line_stop.LineStop.{LineStop}
 use Rattle.streetmap_replay.specs.declared.line_stop.LineStop.TheVariants as stops
-use Rattle.streetmap_replay.specs.declared.following.End.{End}
-use Rattle.streetmap_replay.specs.declared.following.End.TheVariants as ends
-use Rattle.streetmap_replay.specs.declared.following.Followed.{Followed}
+use Rattle.streetmap_replay.specs.declared.follower.End.{End}
+use Rattle.streetmap_replay.specs.declared.follower.End.TheVariants as ends
+use Rattle.streetmap_replay.specs.declared.follower.Followed.{Followed}
 use Rattle.streetmap_replay.proofs.FollowedSoFar.{one_more}
 
 -- ---- lines of one text
@@ -126,7 +126,7 @@ module _ (bs : List BatchValue) (w : All IsSoundBatch bs) where
 
   module _ (k : ℕ) (lines : List Line) (input : List ℕ) (of : IsOfJournal bs lines (Some input))
     where
-      -- lines that were read off the input are its first
+      -- lines that were read off the input are its first lines
       those : (read : List Line) (rest : List ℕ) → All IsInputLine read →
           input ≡ text_of_lines read ++ rest → read ≡ take (length read) lines
       those read rest all front =
@@ -135,10 +135,10 @@ module _ (bs : List BatchValue) (w : All IsSoundBatch bs) where
           (sym front ∙ of.1.1)
 
       -- and the follower of all of them is the follower up to the highest serial
-      behind : (read : List Line) (rest : List ℕ) (n : ℕ) → length read ≡ n → All IsInputLine read →
+      remaining : (read : List Line) (rest : List ℕ) (n : ℕ) → length read ≡ n → All IsInputLine read →
           input ≡ text_of_lines read ++ rest → (follow (follower bs k) read).fault ≡ None →
           (follow (follower bs k) read).state ≡ follower bs (max k (highest (take n lines)))
-      behind read rest n counted all front whole =
+      remaining read rest n counted all front whole =
           let first : read ≡ take n lines =
           those read rest all front ∙ ap (λ (m : ℕ). take m lines) counted in
           let ours : All (IsLineOf bs) read =
@@ -162,7 +162,7 @@ module _ (bs : List BatchValue) (w : All IsSoundBatch bs) where
           stop_by outcome (stops.Stopped faults.Reopen) h = h
 
           end_by : (read : List Line) (new : Option (List ℕ)) (end : End) →
-              (FollowingEndsBy model a b t read (Some input) new ends.NotTold → FollowerBy bs k lines count ends.NotTold (model.represents b)) →
+              (FollowingEndsBy model a b t read (Some input) new ends.NotReported → FollowerBy bs k lines count ends.NotReported (model.represents b)) →
               FollowingEndsBy model a b t read (Some input) new end → FollowerBy bs k lines count end (model.represents b)
           end_by read new ends.All untold h = subst (model.represents b) is h.1
           end_by read new ends.CutLine untold h = subst (model.represents b) is h.1
@@ -170,30 +170,30 @@ module _ (bs : List BatchValue) (w : All IsSoundBatch bs) where
           end_by read new (ends.NotRead ReadFailed) untold h = subst (model.represents b) is h
           end_by read new (ends.NotRead Memory) untold h = subst (model.represents b) is h
           end_by read new (ends.Stopped stop) untold h = stop_by _ stop h.3
-          end_by read new ends.NotTold untold h = untold h
+          end_by read new ends.NotReported untold h = untold h
 
-        -- the last was followed, and its reply not reported
-        one_behind : (read : List Line) (count : ℕ) → length read ≡ count → All IsInputLine read → (follow (follower bs k) read).fault ≡ None → (new : Option (List ℕ)) →
-            FollowingEndsBy model a b (follow (follower bs k) read).state read (Some input) new ends.NotTold → FollowerBy bs k lines count ends.NotTold (model.represents b)
-        one_behind read count counted all whole None h = absurd h.2
-        one_behind read count counted all whole (Some rest) h =
+        -- the last line was followed, and its reply was not reported
+        one_after : (read : List Line) (count : ℕ) → length read ≡ count → All IsInputLine read → (follow (follower bs k) read).fault ≡ None → (new : Option (List ℕ)) →
+            FollowingEndsBy model a b (follow (follower bs k) read).state read (Some input) new ends.NotReported → FollowerBy bs k lines count ends.NotReported (model.represents b)
+        one_after read count counted all whole None h = absurd h.2
+        one_after read count counted all whole (Some rest) h =
             let line = h.0 in
             let o = h.3.0 in
             let more = one_more (follower bs k) read line o whole h.3.1 in
             let both = All-append IsInputLine read (line ∷ []) all
             (All-cons IsInputLine line [] h.1 (All-nil IsInputLine)) in
             let long = length-append read (line ∷ []) in
-            let last = behind (read ++ line ∷ []) rest (count + 1) (omega (arith, long, counted)) both
-            h.2 (ap (λ (f : Told). f.fault) more) in
-            subst (model.represents b) (sym (ap (λ (f : Told). f.state) more) ∙ last) h.3.2
+            let last = remaining (read ++ line ∷ []) rest (count + 1) (omega (arith, long, counted)) both
+            h.2 (ap (λ (f : ReportsOutcome). f.fault) more) in
+            subst (model.represents b) (sym (ap (λ (f : ReportsOutcome). f.state) more) ∙ last) h.3.2
 
-pub follower_by : {K T : Type 0} (model : Model K) (a b : K) (bs : List BatchValue) → All IsSoundBatch bs → (k : ℕ) (lines : List Line) (old new : Option (List ℕ)) (tells : T → Text → Reply → T → Type 0)
-    (first last : T) (result : Followed) → IsOfJournal bs lines old → FollowsLines model a b (follower bs k) old new tells first last result →
+pub follower_by : {K T : Type 0} (model : Model K) (a b : K) (bs : List BatchValue) → All IsSoundBatch bs → (k : ℕ) (lines : List Line) (old new : Option (List ℕ)) (reports : T → Text → Reply → T → Type 0)
+    (first last : T) (result : Followed) → IsOfJournal bs lines old → FollowsLines model a b (follower bs k) old new reports first last result →
     FollowerBy bs k lines result.count result.end (model.represents b)
-follower_by model a b bs w k lines None new tells first last result of h = absurd of
-follower_by model a b bs w k lines (Some input) new tells first last result of h =
+follower_by model a b bs w k lines None new reports first last result of h = absurd of
+follower_by model a b bs w k lines (Some input) new reports first last result of h =
     let t = (follow (follower bs k) h.read).state in
-    let is = behind bs w k lines input of h.read h.front.0 result.count h.counted h.lines h.front.1
+    let is = remaining bs w k lines input of h.read h.front.0 result.count h.counted h.lines h.front.1
     h.followed in
     end_by bs w k lines input of model a b result.count t is h.read new result.end
-    (one_behind bs w k lines input of model a b h.read result.count h.counted h.lines h.followed new) h.ends
+    (one_after bs w k lines input of model a b h.read result.count h.counted h.lines h.followed new) h.ends

@@ -19,7 +19,7 @@ was_shut : {T : Type 0} (r : Result T Fault) (old new : Option Cause) → ShutsB
 was_shut {T} r old new shuts err = (subst (λ (q : Result T Fault). ShutsBy q old new) err shuts).0
 
 module _ {K : Type 0} (model : Model K) where
-  -- calls came before
+  -- calls were made before
   shut_then : (a b c : K) (last : LastAnswer) → b ≡ a → ShutStays model b c last → ShutStays model a c last
   shut_then a b c None same h = h ∙ same
   shut_then a b c (Some result) same h = subst (λ (k : K). LeavesSame (model.may_leave k) (model.may_leave c)) same h
@@ -50,7 +50,7 @@ module _ {K : Type 0} {model : Model K} where
   -- no call was made
   pub no_calls : (k : K) → AreCalls model k k None
   no_calls k = record {
-    spared = model.spares_itself k;
+    preserved = model.preserves_itself k;
     began_clean = λ h. h;
     faults = refl;
     shut = λ shut. refl;
@@ -59,16 +59,16 @@ module _ {K : Type 0} {model : Model K} where
   -- a call that was answered
   pub answered : {T : Type 0} {a b : K} {x : T} → IsCall model a b (Ok x) → AreCalls model a b (Some (Ok tt))
   answered {T} {a} {b} {x} call = record {
-    spared = call.spared;
+    preserved = call.preserved;
     began_clean = call.began_clean;
     faults = call.faults;
     shut = λ shut. not_shut (model.cause a) call.faults.0 shut;
   }
 
-  -- of which only that is of interest that it was no fault
+  -- if it only matters that the call was no fault
   pub no_fault : {a b : K} → AreCalls model a b (Some (Ok tt)) → AreCalls model a b None
   no_fault {a} {b} calls = record {
-    spared = calls.spared;
+    preserved = calls.preserved;
     began_clean = calls.began_clean;
     faults = calls.faults.1 ∙ sym calls.faults.0;
     shut = λ shut. not_shut (model.cause a) calls.faults.0 shut;
@@ -82,7 +82,7 @@ module _ {K : Type 0} {model : Model K} where
   failed {T} {a} {b} {fault} call =
       let same : IsCall {T = Unit {0}} model a b (Err fault) = call_failed call in
       record {
-        spared = same.spared;
+        preserved = same.preserved;
         began_clean = same.began_clean;
         faults = same.faults;
         shut = same_if fault same;
@@ -91,7 +91,7 @@ module _ {K : Type 0} {model : Model K} where
   -- further calls, after some that were answered
   pub calls_then : {a b c : K} {last : LastAnswer} → AreCalls model a b None → AreCalls model b c last → AreCalls model a c last
   calls_then {a} {b} {c} {last} one two = record {
-    spared = model.spares_then a b c one.spared two.spared;
+    preserved = model.preserves_then a b c one.preserved two.preserved;
     began_clean = λ h. one.began_clean (two.began_clean h);
     faults = subst (λ (o : Option Cause). CallsShut last o (model.cause c)) one.faults two.faults;
     shut = λ shut. shut_then model a b c last (one.shut shut) (two.shut (subst (λ (o : Option Cause). IsSome o) (sym one.faults) shut));
@@ -101,7 +101,7 @@ module _ {K : Type 0} {model : Model K} where
   pub call_from : {T : Type 0} {a b : K} {fault : Fault} → AreCalls model a b (fails_by fault) → IsCall {T = T} model a b (Err fault)
   call_from {T} {a} {b} {fault} calls =
       let same : IsCall {T = Unit {0}} model a b (Err fault) = record {
-        spared = calls.spared;
+        preserved = calls.preserved;
         began_clean = calls.began_clean;
         faults = calls.faults;
         reopen = λ err. calls.shut (was_shut {T = Unit {0}} (Err fault) (model.cause a) (model.cause b) calls.faults err);
@@ -110,7 +110,7 @@ module _ {K : Type 0} {model : Model K} where
 
   pub call_after : {T : Type 0} {a b c : K} {r : Result T Fault} → AreCalls model a b None → IsCall model b c r → IsCall model a c r
   call_after {T} {a} {b} {c} {r} one two = record {
-    spared = model.spares_then a b c one.spared two.spared;
+    preserved = model.preserves_then a b c one.preserved two.preserved;
     began_clean = λ h. one.began_clean (two.began_clean h);
     faults = subst (λ (o : Option Cause). ShutsBy r o (model.cause c)) one.faults two.faults;
     reopen = λ err.
@@ -119,18 +119,18 @@ module _ {K : Type 0} {model : Model K} where
         subst (λ (k : K). LeavesSame (model.may_leave k) (model.may_leave c)) same (two.reopen err);
   }
 
-  -- no call that reads was made
+  -- no read was made
   pub no_reads : (k : K) → AreReads model k k None
   no_reads k = record {
     calls = no_calls k;
     stays = λ h s e. e;
   }
 
-  -- of an open keeper
+  -- the same of an open keeper
   pub no_reads_open : (k : K) → model.cause k ≡ None → AreReads model k k (Some (Ok tt))
   no_reads_open k unshut = record {
     calls = record {
-      spared = model.spares_itself k;
+      preserved = model.preserves_itself k;
       began_clean = λ h. h;
       faults = (unshut, unshut);
       shut = λ shut. not_shut (model.cause k) unshut shut;
@@ -165,7 +165,7 @@ module _ {K : Type 0} {model : Model K} where
   pub then_lost : {a b : K} → AreReads model a b (Some (Ok tt)) → AreReads model a b (fails_by Memory)
   then_lost {a} {b} reads = record {
     calls = record {
-      spared = reads.calls.spared;
+      preserved = reads.calls.preserved;
       began_clean = reads.calls.began_clean;
       faults = reads.calls.faults;
       shut = reads.calls.shut;
@@ -180,6 +180,6 @@ module _ {K : Type 0} {model : Model K} where
   pub reads_then : {a b c : K} {last : LastAnswer} → AreReads model a b None → AreReads model b c last → AreReads model a c last
   reads_then {a} {b} {c} {last} one two = record {
     calls = calls_then one.calls two.calls;
-    stays = λ h s e. stays_from model a b c s last (model.fails_later a b c one.calls.spared two.calls.spared)
+    stays = λ h s e. stays_from model a b c s last (model.fails_later a b c one.calls.preserved two.calls.preserved)
         (two.stays h s (one.stays (two.calls.began_clean h) s e));
   }

@@ -20,7 +20,7 @@ is_tab b = b == 9
 abbrev pub before_tab : List ℕ → ℕ
 before_tab bs = position_or_len is_tab bs
 
--- ---- a search for the first tab finds how many bytes stand before it
+-- ---- a search for the first tab finds the number of bytes before it
 
 cut-none : (m n : ℕ) → m ≤ n → cond (nat_lt m n) (Some m) None ≡ None → n ≡ m
 cut-none m n h e = grind (arith, nat_tests)
@@ -42,21 +42,21 @@ passed : (v : Bool) (n m : ℕ) → v ≡ false → n ≡ m → cond (not v) (1 
 passed true n m e f = absurd cc
 passed false n m e f = omega (arith, f)
 
-tab_behind : (xs ts : List ℕ) → All (λ b. (b == 9) ≡ false) xs →
+tab_after : (xs ts : List ℕ) → All (λ b. (b == 9) ≡ false) xs →
     before_tab (xs ++ 9 ∷ ts) ≡ length xs
-tab_behind [] ts h = refl
-tab_behind (x ∷ xs) ts h =
+tab_after [] ts h = refl
+tab_after (x ∷ xs) ts h =
     passed (x == 9) (before_tab (xs ++ 9 ∷ ts)) (length xs)
     (All-head (λ b. (b == 9) ≡ false) x xs h)
-    (tab_behind xs ts (All-tail (λ b. (b == 9) ≡ false) x xs h))
+    (tab_after xs ts (All-tail (λ b. (b == 9) ≡ false) x xs h))
 
--- a serial stands before the first tab, which is there
+-- the bytes of a serial come before the first tab, which exists
 pub serial_first : (bs : List ℕ) (n : ℕ) (ts : List ℕ) → n < 2 ^ 64 → decimal n ++ 9 ∷ ts ≡ bs →
     (before_tab bs < length bs) × (decimal n ≡ take (before_tab bs) bs)
 serial_first bs n ts small is =
     let here : before_tab bs ≡ length (decimal n) =
     ap before_tab (sym is)
-    ∙ tab_behind (decimal n) ts (no_tab (decimal n) (decimal_printed n small)) in
+    ∙ tab_after (decimal n) ts (no_tab (decimal n) (decimal_printed n small)) in
     let long = length-append (decimal n) (9 ∷ ts) in
     let same = ap length is in (
       omega (arith, here, long, same),

@@ -5,27 +5,27 @@ use Rattle.std.proofs.Common.{length-append}
 use Rattle.std.specs.Io.KnownBytes.{Consumes}
 use Rattle.std.proofs.KnownBytes.{Consumes-nil, Consumes-trans}
 use Rattle.std.proofs.lemmas.List.Elements.{All-nil, All-cons, All-append}
-use Rattle.streetmap_batch.specs.BatchReading.{batch_of}
+use Rattle.streetmap_batch.specs.ParsedBatches.{batch_of}
 use Rattle.streetmap_batch.specs.Text.{Text}
 use Rattle.streetmap_ledger.specs.Batches.{Outcome}
 use Rattle.streetmap_ledger.specs.Model.{Model}
 use Rattle.streetmap_ledger.specs.State.{State}
 use Rattle.streetmap_ledger.specs.declared.reply.Reply.{Reply}
-use Rattle.streetmap_replay.specs.Following.{LineFault, Followed as Told, line_outcome, goes_on}
-use Rattle.streetmap_replay.specs.Following.{follow}
+use Rattle.streetmap_replay.specs.FollowedLines.{LineFault, Followed as ReportsOutcome, line_outcome, goes_on}
+use Rattle.streetmap_replay.specs.FollowedLines.{follow}
 use Rattle.streetmap_replay.specs.JournalText.{text_of_lines}
 use Rattle.streetmap_replay.specs.Lines.{Line, bare, numbered, line_bytes, IsJournalLine}
 use Rattle.streetmap_replay.proofs.TornLines.{lines-append}
-use Rattle.streetmap_text_lines.specs.Reading.{HasNoLineFeed}
-use Rattle.streetmap_replay.specs.Ends.{most_bytes, IsInputLine, key_in, answers, ToldAll}
-use Rattle.streetmap_replay.specs.LineReading.{line_text}
+use Rattle.streetmap_text_lines.specs.LineReads.{HasNoLineFeed}
+use Rattle.streetmap_replay.specs.Ends.{most_bytes, IsInputLine, key_in, answers, ReportsAll}
+use Rattle.streetmap_replay.specs.ParsedLines.{line_text}
 
--- ---- one line more
+-- ---- one more line
 
-abbrev with_reply : Reply → Told → Told
+abbrev with_reply : Reply → ReportsOutcome → ReportsOutcome
 with_reply r f = record { replies = r ∷ f.replies; state = f.state; fault = f.fault }
 
-abbrev then_one : Told → Outcome → Told
+abbrev then_one : ReportsOutcome → Outcome → ReportsOutcome
 then_one f o = record { replies = f.replies ++ o.reply ∷ []; state = o.state; fault = None }
 
 no_fault : {A : Type 0} (why : LineFault) → Some why ≡ None → A
@@ -49,15 +49,15 @@ one_more s [] line o h k =
 one_more s (x ∷ xs) line o h k =
     more_by s xs line o (λ v. one_more v xs line o) (line_outcome s x) h k
 
--- ---- what was told
+-- ---- what was reported
 
-told_then : {T : Type 0} (tells : T → Text → Reply → T → Type 0) (first mid last : T)
-    (rs : List (Text × Reply)) (key : Text) (reply : Reply) → ToldAll tells first rs mid →
-    tells mid key reply last → ToldAll tells first (rs ++ (key, reply) ∷ []) last
-told_then tells first mid last [] key reply h k =
-    (last, subst (λ x. tells x key reply last) (sym h) k, refl)
-told_then tells first mid last (r ∷ rs) key reply h k =
-    (h.0, h.1, told_then tells h.0 mid last rs key reply h.2 k)
+reported_then : {T : Type 0} (reports : T → Text → Reply → T → Type 0) (first mid last : T)
+    (rs : List (Text × Reply)) (key : Text) (reply : Reply) → ReportsAll reports first rs mid →
+    reports mid key reply last → ReportsAll reports first (rs ++ (key, reply) ∷ []) last
+reported_then reports first mid last [] key reply h k =
+    (last, subst (λ x. reports x key reply last) (sym h) k, refl)
+reported_then reports first mid last (r ∷ rs) key reply h k =
+    (h.0, h.1, reported_then reports h.0 mid last rs key reply h.2 k)
 
 answers-append : (ls : List Line) (rs : List Reply) (line : Line) (reply : Reply) →
     length rs ≡ length ls →
@@ -103,46 +103,46 @@ taken_more old now later read line bytes is h k =
     (sym (whole ∙ ap (λ (b : List ℕ). text_of_lines read ++ b) last))
     (Consumes-trans old now later (text_of_lines read) (bytes ++ 10 ∷ []) h k)
 
--- ---- underway
+-- ---- on the way
 
-pub record Underway {K T : Type 0} (model : Model K) (now : K) (s : State) (input rest : Option (List ℕ)) (tells : T → Text → Reply → T → Type 0) (first last : T) (count : ℕ) : Type 0 where
+pub record Underway {K T : Type 0} (model : Model K) (now : K) (s : State) (input rest : Option (List ℕ)) (reports : T → Text → Reply → T → Type 0) (first last : T) (count : ℕ) : Type 0 where
   pub read : List Line
   pub counted : length read ≡ count
   pub lines : All IsInputLine read
   pub taken : Consumes input rest (text_of_lines read)
   pub followed : (follow s read).fault ≡ None
   pub as_many : length (follow s read).replies ≡ length read
-  pub told : ToldAll tells first (answers read (follow s read).replies) last
+  pub reported : ReportsAll reports first (answers read (follow s read).replies) last
   pub there : model.represents now (follow s read).state
 
-pub begins : {K T : Type 0} (model : Model K) (k : K) (s : State) (input : Option (List ℕ)) (tells : T → Text → Reply → T → Type 0) (first : T) → model.represents k s
-    → Underway model k s input input tells first first 0
-begins model k s input tells first h = record {
+pub begins : {K T : Type 0} (model : Model K) (k : K) (s : State) (input : Option (List ℕ)) (reports : T → Text → Reply → T → Type 0) (first : T) → model.represents k s
+    → Underway model k s input input reports first first 0
+begins model k s input reports first h = record {
   read = [];
   counted = refl;
   lines = All-nil IsInputLine;
   taken = Consumes-nil input;
   followed = refl;
   as_many = refl;
-  told = refl;
+  reported = refl;
   there = h;
 }
 
-pub goes_further : {K T : Type 0} (model : Model K) (l m : K) (s : State) (input now later : Option (List ℕ)) (tells : T → Text → Reply → T → Type 0) (first mid last : T) (count : ℕ)
-    (it : Underway model l s input now tells first mid count) (bytes : List ℕ) (line : Line) (o : Outcome) → IsJournalLine bytes line → HasNoLineFeed bytes →
+pub goes_further : {K T : Type 0} (model : Model K) (l m : K) (s : State) (input now later : Option (List ℕ)) (reports : T → Text → Reply → T → Type 0) (first mid last : T) (count : ℕ)
+    (it : Underway model l s input now reports first mid count) (bytes : List ℕ) (line : Line) (o : Outcome) → IsJournalLine bytes line → HasNoLineFeed bytes →
     length bytes ≤ most_bytes → Consumes now later (bytes ++ 10 ∷ []) →
     line_outcome (follow s it.read).state line ≡ Ok o → model.represents m o.state →
-    tells mid (key_in (batch_of (line_text line))) o.reply last →
-    Underway model m s input later tells first last (count + 1)
-goes_further model l m s input now later tells first mid last count it bytes line o is one short took outcome there told =
+    reports mid (key_in (batch_of (line_text line))) o.reply last →
+    Underway model m s input later reports first last (count + 1)
+goes_further model l m s input now later reports first mid last count it bytes line o is one short took outcome there reported =
     let more = one_more s it.read line o it.followed outcome in
     let long = length-append it.read (line ∷ []) in
     let same = it.counted in
     let many = it.as_many in
     let wide = length-append (follow s it.read).replies (o.reply ∷ []) in
-    let replies = ap (λ (f : Told). f.replies) more in
+    let replies = ap (λ (f : ReportsOutcome). f.replies) more in
     let state : o.state ≡ (follow s (it.read ++ line ∷ [])).state =
-    sym (ap (λ (f : Told). f.state) more) in
+    sym (ap (λ (f : ReportsOutcome). f.state) more) in
     let key = key_in (batch_of (line_text line)) in
     record {
       read = it.read ++ line ∷ [];
@@ -150,12 +150,12 @@ goes_further model l m s input now later tells first mid last count it bytes lin
       lines = All-append IsInputLine it.read (line ∷ []) it.lines
           (All-cons IsInputLine line [] (is_input bytes line is one short) (All-nil IsInputLine));
       taken = taken_more input now later it.read line bytes is it.taken took;
-      followed = ap (λ (f : Told). f.fault) more;
+      followed = ap (λ (f : ReportsOutcome). f.fault) more;
       as_many = ap length replies ∙ omega (arith, long, many, wide);
-      told = subst (λ (said : List (Text × Reply)). ToldAll tells first said last)
+      reported = subst (λ (said : List (Text × Reply)). ReportsAll reports first said last)
           (sym (ap (answers (it.read ++ line ∷ [])) replies
           ∙ answers-append it.read (follow s it.read).replies line o.reply it.as_many))
-          (told_then tells first mid last (answers it.read (follow s it.read).replies) key o.reply
-          it.told told);
+          (reported_then reports first mid last (answers it.read (follow s it.read).replies) key o.reply
+          it.reported reported);
       there = subst (model.represents m) state there;
     }

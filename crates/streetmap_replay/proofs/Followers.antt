@@ -15,7 +15,7 @@ use Rattle.std.proofs.lemmas.List.{length-take}
 use Rattle.std.proofs.lemmas.List.Elements.{All-head, All-tail, All-take}
 use Rattle.streetmap_batch.specs.Text.{Text, text_cmp}
 use Rattle.streetmap_batch.specs.BatchFacts.{IsSoundBatch}
-use Rattle.streetmap_batch.specs.BatchReading.{batch_of}
+use Rattle.streetmap_batch.specs.ParsedBatches.{batch_of}
 use Rattle.streetmap_batch.specs.BatchText.{batch_text}
 use Rattle.streetmap_batch.specs.BatchValue.{BatchValue}
 use Rattle.streetmap_ledger.specs.State.{State, AcceptedBatch, opening_state}
@@ -31,16 +31,16 @@ use Rattle.streetmap_replay.specs.Again.{untimed_batch}
 use Rattle.streetmap_replay.specs.Journal.{journal}
 use Rattle.streetmap_replay.specs.Lines.{Line, bare, numbered}
 use Rattle.streetmap_replay.specs.JournalText.{numbered_after, journal_lines}
-use Rattle.streetmap_replay.specs.Following.{LineFault, not_next, Followed, is_under, is_next}
-use Rattle.streetmap_replay.specs.Following.{unless_refused, acted, acted_next, line_outcome}
-use Rattle.streetmap_replay.specs.Following.{goes_on}
-use Rattle.streetmap_replay.specs.Following.{follow, Arrives, follower, lines_between}
-use Rattle.streetmap_replay.specs.Following.{FollowersGoOn, FollowersAreBeginnings, FollowersArrive}
-use Rattle.streetmap_replay.specs.Following.{LinesComeInOrder}
+use Rattle.streetmap_replay.specs.FollowedLines.{LineFault, not_next, Followed, is_under, is_next}
+use Rattle.streetmap_replay.specs.FollowedLines.{unless_refused, acted, acted_next, line_outcome}
+use Rattle.streetmap_replay.specs.FollowedLines.{goes_on}
+use Rattle.streetmap_replay.specs.FollowedLines.{follow, Arrives, follower, lines_between}
+use Rattle.streetmap_replay.specs.FollowedLines.{FollowersGoOn, FollowersAreBeginnings, FollowersArrive}
+use Rattle.streetmap_replay.specs.FollowedLines.{LinesComeInOrder}
 use Rattle.streetmap_replay.proofs.TextAgain.{reads_again}
 use Rattle.streetmap_replay.proofs.Untimed.{act_untimed}
 use Rattle.streetmap_replay.proofs.JournalGrows.{from_opening}
-use Rattle.streetmap_replay.proofs.RepeatedBatches.{act_stays, accepted_told, AreAcknowledged, all_accepted}
+use Rattle.streetmap_replay.proofs.RepeatedBatches.{act_stays, accepted_reported, AreAcknowledged, all_accepted}
 use Rattle.streetmap_replay.proofs.Accepted.{AreAccepted, are_accepted, there_at, next_at, count_at}
 use Rattle.streetmap_replay.proofs.Accepted.{all_sound}
 use Rattle.streetmap_replay.proofs.ItemsByPlace.{get_map, All-at, get_low, get_drop, get_taken}
@@ -52,17 +52,17 @@ use Rattle.streetmap_replay.proofs.ItemsByPlace.{take-numbered, drop-numbered}
 abbrev with_reply : Reply → Followed → Followed
 with_reply r f = record { replies = r ∷ f.replies; state = f.state; fault = f.fault }
 
-told_is : (t : State) (r : Reply) → IsAcknowledged r →
+reported_is : (t : State) (r : Reply) → IsAcknowledged r →
     unless_refused t r ≡ Ok (record { reply = r; state = t })
-told_is t (Accepted counts serial) h = refl
-told_is t (Repeated counts serial) h = refl
-told_is t (Refused why place) h = absurd h
+reported_is t (Accepted counts serial) h = refl
+reported_is t (Repeated counts serial) h = refl
+reported_is t (Refused why place) h = absurd h
 
 batch_acts : (s : State) (b : BatchValue) → IsAcknowledged (act s b).reply →
     acted s (Ok (untimed_batch b)) ≡ Ok (act s b)
 batch_acts s b ack =
     ap (λ (o : Outcome). unless_refused o.state o.reply) (act_untimed s b)
-    ∙ told_is (act s b).state (act s b).reply ack
+    ∙ reported_is (act s b).state (act s b).reply ack
 
 text_acts : (s : State) (b : BatchValue) → IsSoundBatch b → IsAcknowledged (act s b).reply →
     acted s (batch_of (batch_text b)) ≡ Ok (act s b)
@@ -174,7 +174,7 @@ module _ (bs : List BatchValue) (w : All IsSoundBatch bs) where
       record {
         outcome = act s b;
         is = numbered_acts s (n + 1) b (writable_at n b at) next
-            (accepted_told (act s b).reply goes.0);
+            (accepted_reported (act s b).reply goes.0);
         there = goes.1 ∙ ap (follower bs) more;
       }
 
@@ -196,7 +196,7 @@ module _ (bs : List BatchValue) (w : All IsSoundBatch bs) where
         (subst (λ (m : ℕ). Advances (follower bs m) line (follower bs (n + 1))) same
         (next_to n b at))
 
-  -- one behind the next is not followed
+  -- a batch after the next one is not followed
   pub waits : (k n : ℕ) (b : BatchValue) → slice_get accepted n ≡ Some b → k < n →
       line_outcome (follower bs k) (numbered (n + 1) (batch_text b)) ≡ Err not_next
   waits k n b at less =
@@ -231,7 +231,7 @@ module _ (bs : List BatchValue) (w : All IsSoundBatch bs) where
         it.2 ∙ (ap (λ (m : ℕ). numbered m it.0) serial ∙ ap (numbered (n + 1)) found.2),
       )
 
-  -- lines in order, from one that is there or the next on
+  -- lines in order, from one that the follower has or the next one on
   goes : (rest : List BatchValue) (n k : ℕ) →
       ((i : ℕ) (b : BatchValue) → slice_get rest i ≡ Some b → slice_get accepted (n + i) ≡ Some b) →
       n ≤ k →
@@ -327,7 +327,7 @@ none_of : {A : Type 0} (k : ℕ) → take k (let xs : List A = [] in xs) ≡ []
 none_of zero = refl
 none_of (suc k) = refl
 
--- ---- beginnings
+-- ---- prefixes
 
 abbrev Begins : State → List BatchValue → State → Type 0
 Begins s bs t = (n : ℕ) × (n ≤ length bs) × (t ≡ after_all s (take n bs))

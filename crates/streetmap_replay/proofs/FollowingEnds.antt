@@ -1,39 +1,39 @@
--- How following lines goes on, and how it ends.
+-- How following lines continues, and how it ends.
 use Rattle.std.proofs.Common.{◌≡◌, ◌≤◌, ◌<◌, ◌+◌, ℕ, List, [], ◌∷◌, ◌++◌, length, true}
 use Rattle.std.proofs.Common.{Option, None, Some, Result, Ok, Err, IfSome, refl, sym, ap, subst}
 use Rattle.std.proofs.Common.{◌∙◌}
 use Rattle.std.proofs.Common.{append-nil}
 use Rattle.std.specs.Prelude.{OnOk, is_ok}
 use Rattle.std.specs.Io.KnownBytes.{Consumes, Keeps, IsAtEnd}
-use Rattle.streetmap_batch.specs.BatchReading.{batch_of}
+use Rattle.streetmap_batch.specs.ParsedBatches.{batch_of}
 use Rattle.streetmap_batch.specs.BatchView.{batch_value}
 use Rattle.streetmap_batch.specs.Text.{Text}
 use Rattle.streetmap_ledger.specs.Model.{Model}
 use Rattle.streetmap_ledger.specs.State.{State}
 use Rattle.streetmap_ledger.specs.declared.reply.Reply.{Reply}
-use Rattle.streetmap_replay.specs.Following.{follow, line_outcome}
+use Rattle.streetmap_replay.specs.FollowedLines.{follow, line_outcome}
 use Rattle.streetmap_replay.specs.Calls.{AreCalls}
 use Rattle.streetmap_replay.specs.JournalText.{text_of_lines}
 use Rattle.streetmap_text_lines.specs.Lines.{first_too_long}
-use Rattle.streetmap_text_lines.specs.Reading.{HasNoLineFeed, WhereKnown}
+use Rattle.streetmap_text_lines.specs.LineReads.{HasNoLineFeed, WhereKnown}
 use Rattle.streetmap_text_lines.specs.Whole.{EndsWithin}
 use Rattle.streetmap_text_lines.specs.declared.fault.LineFault.{LineFault}
 use Rattle.streetmap_text_lines.specs.declared.fault.LineFault.TheVariants.{LineTooLong, ReadFailed}
 use Rattle.streetmap_text_lines.specs.declared.fault.LineFault.TheVariants.{Memory}
-use Rattle.streetmap_replay.specs.Acting.{answer_of}
+use Rattle.streetmap_replay.specs.LineEffects.{answer_of}
 use Rattle.streetmap_replay.specs.Ends.{most_bytes, key_in, FollowsLines, end_answer}
-use Rattle.streetmap_replay.specs.LineReading.{line_text, FollowsLine}
-use Rattle.streetmap_replay.specs.declared.acting.Acknowledged.{Acknowledged}
+use Rattle.streetmap_replay.specs.ParsedLines.{line_text, FollowsLine}
+use Rattle.streetmap_replay.specs.declared.actions.Acknowledged.{Acknowledged}
 use Rattle.streetmap_replay.specs.declared.line_stop.LineStop.{LineStop}
 use Rattle.streetmap_replay.specs.declared.line_stop.LineStop.TheVariants as stops
-use Rattle.streetmap_replay.specs.declared.following.End.TheVariants as ends
+use Rattle.streetmap_replay.specs.declared.follower.End.TheVariants as ends
 use Rattle.streetmap_replay.proofs.CallsInTurn.{no_fault}
-use Rattle.streetmap_replay.proofs.ToldBatches.{follows_from}
+use Rattle.streetmap_replay.proofs.ReportedBatches.{follows_from}
 use Rattle.streetmap_replay.proofs.FollowedSoFar.{Underway, is_input, taken_more, goes_further}
 
-pub is_told : {X E : Type 0} (r : Result X E) (P : Type 0) → true ≡ is_ok r → OnOk r P → P
-is_told (Ok x) P e h = h
-is_told (Err x) P e h = absurd cc
+pub is_reported : {X E : Type 0} (r : Result X E) (P : Type 0) → true ≡ is_ok r → OnOk r P → P
+is_reported (Ok x) P e h = h
+is_reported (Err x) P e h = absurd cc
 
 -- ---- bytes
 
@@ -61,15 +61,15 @@ cut_taken (Some xs) None later bytes h end = absurd h
 cut_taken (Some xs) (Some ys) None bytes h end = absurd end
 cut_taken (Some xs) (Some ys) (Some zs) bytes h end = (ys, h, end.unended, end.some)
 
-long_behind : (old now : Option (List ℕ)) (bytes : List ℕ) → Consumes old now bytes →
+long_after : (old now : Option (List ℕ)) (bytes : List ℕ) → Consumes old now bytes →
     IfSome now (λ rest. first_too_long most_bytes rest ≡ Some 0) →
     IfSome old (λ input. (rest : List ℕ) × (input ≡ bytes ++ rest)
     × (first_too_long most_bytes rest ≡ Some 0))
-long_behind None now bytes h long = tt
-long_behind (Some xs) None bytes h long = absurd h
-long_behind (Some xs) (Some ys) bytes h long = (ys, h, long)
+long_after None now bytes h long = tt
+long_after (Some xs) None bytes h long = absurd h
+long_after (Some xs) (Some ys) bytes h long = (ys, h, long)
 
--- ---- going on, and ending
+-- ---- continuing, and ending
 
 -- the keeper's answer to the line that ended it
 pub ends_by : {K : Type 0} {model : Model K} {a b : K} (stop : LineStop) → AreCalls model a b (answer_of {T = Reply} (Err stop)) → AreCalls model a b (end_answer (ends.Stopped stop))
@@ -78,25 +78,25 @@ ends_by stops.NotNext calls = no_fault calls
 ends_by (stops.Refused why place) calls = no_fault calls
 ends_by (stops.Stopped fault) calls = calls
 
-module _ {K T : Type 0} (model : Model K) (k l m : K) (s : State) (input now later : Option (List ℕ)) (tells : T → Text → Reply → T → Type 0) (first mid last : T) (count : ℕ)
-    (it : Underway model l s input now tells first mid count) where
+module _ {K T : Type 0} (model : Model K) (k l m : K) (s : State) (input now later : Option (List ℕ)) (reports : T → Text → Reply → T → Type 0) (first mid last : T) (count : ℕ)
+    (it : Underway model l s input now reports first mid count) where
   pub further : (bytes : List ℕ) (a : Acknowledged) → FollowsLine model l m bytes (Ok a) → model.is_clean m → HasNoLineFeed bytes →
       length bytes ≤ most_bytes → Consumes now later (bytes ++ 10 ∷ []) →
-      tells mid (batch_value a.batch).key a.reply last →
-      Underway model m s input later tells first last (count + 1)
-  further bytes a says clean one short took told =
+      reports mid (batch_value a.batch).key a.reply last →
+      Underway model m s input later reports first last (count + 1)
+  further bytes a says clean one short took reported =
       let found = says.followed.follows clean (follow s it.read).state it.there in
       let o = found.0 in
       let key : (batch_value a.batch).key ≡ key_in (batch_of (line_text says.line)) =
       sym (ap key_in says.batch) in
-      goes_further model l m s input now later tells first mid last count it bytes says.line o says.is one short took found.1 found.3
-      (subst (λ (q : Text). tells mid q o.reply last) key
-      (subst (λ (r : Reply). tells mid (batch_value a.batch).key r last) found.2 told))
+      goes_further model l m s input now later reports first mid last count it bytes says.line o says.is one short took found.1 found.3
+      (subst (λ (q : Text). reports mid q o.reply last) key
+      (subst (λ (r : Reply). reports mid (batch_value a.batch).key r last) found.2 reported))
 
-  pub not_told : (bytes : List ℕ) (a : Acknowledged) → FollowsLine model l m bytes (Ok a) → model.is_clean m → HasNoLineFeed bytes →
+  pub not_reported : (bytes : List ℕ) (a : Acknowledged) → FollowsLine model l m bytes (Ok a) → model.is_clean m → HasNoLineFeed bytes →
       length bytes ≤ most_bytes → Consumes now later (bytes ++ 10 ∷ []) →
-      FollowsLines model k m s input later tells first last (record { count = count; end = ends.NotTold })
-  not_told bytes a says clean one short took =
+      FollowsLines model k m s input later reports first last (record { count = count; end = ends.NotReported })
+  not_reported bytes a says clean one short took =
       let found = says.followed.follows clean (follow s it.read).state it.there in
       record {
         read = it.read;
@@ -104,7 +104,7 @@ module _ {K T : Type 0} (model : Model K) (k l m : K) (s : State) (input now lat
         lines = it.lines;
         front = front_of input now (text_of_lines it.read) it.taken;
         followed = it.followed;
-        told = (mid, it.told);
+        reported = (mid, it.reported);
         ends = (
           says.line,
           is_input bytes says.line says.is one short,
@@ -115,7 +115,7 @@ module _ {K T : Type 0} (model : Model K) (k l m : K) (s : State) (input now lat
 
   pub stopped : (bytes : List ℕ) (stop : LineStop) → AreCalls model k l None → FollowsLine model l m bytes (Err stop) → model.is_clean m → HasNoLineFeed bytes →
       length bytes ≤ most_bytes → Consumes now later (bytes ++ 10 ∷ []) →
-      FollowsLines model k m s input later tells first mid (record { count = count; end = ends.Stopped stop })
+      FollowsLines model k m s input later reports first mid (record { count = count; end = ends.Stopped stop })
   stopped bytes stop before says clean one short took =
       let t = (follow s it.read).state in
       record {
@@ -124,47 +124,47 @@ module _ {K T : Type 0} (model : Model K) (k l m : K) (s : State) (input now lat
         lines = it.lines;
         front = front_of input now (text_of_lines it.read) it.taken;
         followed = it.followed;
-        told = it.told;
+        reported = it.reported;
         ends = (
           says.line,
           is_input bytes says.line says.is one short,
           taken_more input now later it.read says.line bytes says.is it.taken took,
-          follows_from model k l m t (line_outcome t says.line) (Err stop) (model.fails_later k l m before.spared says.followed.calls.spared) (says.followed.follows clean t it.there),
+          follows_from model k l m t (line_outcome t says.line) (Err stop) (model.fails_later k l m before.preserved says.followed.calls.preserved) (says.followed.follows clean t it.there),
         );
       }
 
-  pub all : Keeps now later × IsAtEnd now → FollowsLines model k l s input later tells first mid (record { count = count; end = ends.All })
+  pub all : Keeps now later × IsAtEnd now → FollowsLines model k l s input later reports first mid (record { count = count; end = ends.All })
   all end = record {
     read = it.read;
     counted = it.counted;
     lines = it.lines;
     front = front_of input now (text_of_lines it.read) it.taken;
     followed = it.followed;
-    told = it.told;
+    reported = it.reported;
     ends = (all_taken input now later (text_of_lines it.read) it.taken end, it.there);
   }
 
-  pub cut : WhereKnown now later EndsWithin → FollowsLines model k l s input later tells first mid (record { count = count; end = ends.CutLine })
+  pub cut : WhereKnown now later EndsWithin → FollowsLines model k l s input later reports first mid (record { count = count; end = ends.CutLine })
   cut end = record {
     read = it.read;
     counted = it.counted;
     lines = it.lines;
     front = front_of input now (text_of_lines it.read) it.taken;
     followed = it.followed;
-    told = it.told;
+    reported = it.reported;
     ends = (cut_taken input now later (text_of_lines it.read) it.taken end, it.there);
   }
 
   pub unread : (fault : LineFault) → (fault ≡ LineTooLong → IfSome now (λ rest. first_too_long most_bytes rest ≡ Some 0)) →
-      FollowsLines model k l s input later tells first mid (record { count = count; end = ends.NotRead fault })
+      FollowsLines model k l s input later reports first mid (record { count = count; end = ends.NotRead fault })
   unread LineTooLong long = record {
     read = it.read;
     counted = it.counted;
     lines = it.lines;
     front = front_of input now (text_of_lines it.read) it.taken;
     followed = it.followed;
-    told = it.told;
-    ends = (long_behind input now (text_of_lines it.read) it.taken (long refl), it.there);
+    reported = it.reported;
+    ends = (long_after input now (text_of_lines it.read) it.taken (long refl), it.there);
   }
   unread ReadFailed long = record {
     read = it.read;
@@ -172,7 +172,7 @@ module _ {K T : Type 0} (model : Model K) (k l m : K) (s : State) (input now lat
     lines = it.lines;
     front = front_of input now (text_of_lines it.read) it.taken;
     followed = it.followed;
-    told = it.told;
+    reported = it.reported;
     ends = it.there;
   }
   unread Memory long = record {
@@ -181,6 +181,6 @@ module _ {K T : Type 0} (model : Model K) (k l m : K) (s : State) (input now lat
     lines = it.lines;
     front = front_of input now (text_of_lines it.read) it.taken;
     followed = it.followed;
-    told = it.told;
+    reported = it.reported;
     ends = it.there;
   }

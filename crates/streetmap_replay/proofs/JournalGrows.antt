@@ -65,7 +65,7 @@ act_grows s b sound =
     ∙ (by_key_grows s b sound (get s.keys b.key) refl
     ∙ ap (λ (ts : List Text). ts ++ text_if (is_accepted (act s b).reply) b) (sym (journal_is s)))
 
--- a line, and the others behind it
+-- a line, and those after it
 then_lines : (before : List Text) (b : BatchValue) (rest : List BatchValue) (t : Bool) →
     before ++ text_if t b ++ map batch_text rest ≡ before ++ map batch_text (cond t (b ∷ rest) rest)
 then_lines before b rest true = append_assoc before (batch_text b ∷ []) (map batch_text rest)

@@ -11,7 +11,7 @@ use Rattle.streetmap_ledger.specs.State.{State, AcceptedBatch}
 use Rattle.streetmap_ledger.specs.WellFormed.{IsState}
 use Rattle.streetmap_ledger.specs.Kept.{KeyedBatch, batch_in}
 use Rattle.streetmap_ledger.proofs.Serials.{found_of, found_under as found_with}
-use Rattle.streetmap_replay.specs.Following.{is_under}
+use Rattle.streetmap_replay.specs.FollowedLines.{is_under}
 
 same_number : (a b : ℕ) → a ≡ b → (a == b) ≡ true
 same_number a b e = grind (arith, nat_tests)
@@ -26,7 +26,7 @@ here_under s n key k e =
     let it = found_with s n (key, k) e in
     ap (is_under n) it.0 ∙ same_number k.serial n it.1
 
--- where something is under a key with a serial, it is kept with that serial
+-- what is kept under a key with a serial is kept with that serial
 found_under : (s : State) (n : ℕ) (key : Text) (o : Option AcceptedBatch) → IsState s →
     get s.keys key ≡ o → is_under n o ≡ true →
     (k : AcceptedBatch) × (batch_in s n ≡ Some (key, k))
@@ -41,7 +41,7 @@ other_by s n key sound other false e = refl
 other_by s n key sound other true e =
     let it = found_under s n key (get s.keys key) sound refl e in absurd (other it.0 it.1)
 
--- and where none or another is kept with the serial, none is under the key with it
+-- and if none or another is kept with the serial, none is kept under the key with it
 other_under : (s : State) (n : ℕ) (key : Text) → IsState s →
     ((k : AcceptedBatch) → batch_in s n ≡ Some (key, k) → ⊥) → is_under n (get s.keys key) ≡ false
 other_under s n key sound other = other_by s n key sound other (is_under n (get s.keys key)) refl

@@ -22,7 +22,7 @@ pub mod AllThere
 pub mod TornLines
 pub mod FirstTab
 pub mod KeysAndSerials
-pub mod ToldBatches
+pub mod ReportedBatches
 pub mod FollowedSoFar
 pub mod FollowingEnds
 pub mod Beginning

@@ -194,7 +194,7 @@ other_first (d ∷ ds) t rest low e =
     let less : d < 58 = All-head (λ b. b < 58) d ds low in
     omega (arith, same, less)
 
--- the text of a batch begins with a brace
+-- the text of a batch begins with a left brace
 braced : (b : BatchValue) → (rest : List ℕ) × (batch_text b ≡ 123 ∷ rest)
 unfolding batch_text batch_data
 braced b = (_, refl)

@@ -1,11 +1,11 @@
--- A batch that its text does not give again: the state is not its replay.
+-- If a text does not reproduce its batch, the state is not its own replay.
 use Rattle.std.proofs.Common.{◌≡◌, ℕ, zero, suc, ◌+◌, ◌≤◌, Bool, true, cond, List}
 use Rattle.std.proofs.Common.{[], ◌∷◌, ◌++◌, length, map, take, drop, Option, None, Some, Result, Ok}
 use Rattle.std.proofs.Common.{Err, refl, sym, ap, subst, ◌∙◌, arith, length-drop}
 use Rattle.std.specs.Prelude.{slice_get}
 use Rattle.std.specs.FinMap.{get, len}
 use Rattle.std.proofs.lemmas.List.{map-append}
-use Rattle.streetmap_batch.specs.BatchReading.{batch_of}
+use Rattle.streetmap_batch.specs.ParsedBatches.{batch_of}
 use Rattle.streetmap_batch.specs.BatchValue.{BatchValue}
 use Rattle.streetmap_batch.specs.Text.{Text}
 use Rattle.streetmap_batch.specs.declared.batch_fault.BatchFault.{BatchFault}
@@ -18,8 +18,8 @@ use Rattle.streetmap_ledger.specs.WellFormed.{IsState}
 use Rattle.streetmap_ledger.specs.declared.reply.Reply.{Reply}
 use Rattle.streetmap_ledger.specs.declared.reply.Reply.TheVariants.{Accepted, Repeated, Refused}
 use Rattle.streetmap_ledger.proofs.Repeat.{act_keeps}
-use Rattle.streetmap_replay.specs.Following.{LineFault, Arrives, unless_refused, acted}
-use Rattle.streetmap_replay.specs.Following.{line_outcome, goes_on, follow}
+use Rattle.streetmap_replay.specs.FollowedLines.{LineFault, Arrives, unless_refused, acted}
+use Rattle.streetmap_replay.specs.FollowedLines.{line_outcome, goes_on, follow}
 use Rattle.streetmap_replay.specs.Journal.{journal}
 use Rattle.streetmap_replay.specs.Lines.{Line, bare}
 use Rattle.streetmap_replay.specs.Replay.{Replays}
@@ -32,7 +32,7 @@ use Rattle.streetmap_replay.proofs.BatchesGivenAgain.{line_at}
 no_fault : {A : Type 0} (why : LineFault) → Some why ≡ None → A
 no_fault why e = absurd cc
 
--- ---- lines behind lines
+-- ---- lines after lines
 
 past_by : (s t u : State) (xs ys : List Line) →
     ((v : State) → Arrives (follow v xs) t → Arrives (follow v (xs ++ ys)) u →
@@ -52,7 +52,7 @@ follow_past (x ∷ xs) ys t u s h k =
 
 -- ---- what texts that are followed add
 
--- what was kept is kept, and so many more at most
+-- what was kept is kept, and at most n more
 record Grows (v u : State) (n : ℕ) : Type 0 where
   keep : (key : Text) (k : AcceptedBatch) → get v.keys key ≡ Some k → get u.keys key ≡ Some k
   few : len u.keys ≤ len v.keys + n
@@ -60,11 +60,11 @@ record Grows (v u : State) (n : ℕ) : Type 0 where
 abbrev Later : State → List Text → Type 0
 Later u texts = (v : State) → Arrives (follow v (map bare texts)) u → Grows v u (length texts)
 
-grows_told : (v u : State) (b : BatchValue) (texts : List Text) → Later u texts → (r : Reply) →
+grows_reported : (v u : State) (b : BatchValue) (texts : List Text) → Later u texts → (r : Reply) →
     (act v b).reply ≡ r →
     Arrives (goes_on v (unless_refused (act v b).state r) (λ w. follow w (map bare texts))) u →
     Grows v u (suc (length texts))
-grows_told v u b texts later (Accepted counts serial) e h =
+grows_reported v u b texts later (Accepted counts serial) e h =
     let rest = later (act v b).state (record { there = h.there; whole = h.whole }) in
     let more = (added v b (ap is_accepted e)).more in
     let few = rest.few in
@@ -72,7 +72,7 @@ grows_told v u b texts later (Accepted counts serial) e h =
       keep = λ key k found. rest.keep key k (act_keeps v b key k found);
       few = omega (arith, few, more);
     }
-grows_told v u b texts later (Repeated counts serial) e h =
+grows_reported v u b texts later (Repeated counts serial) e h =
     let rest = later (act v b).state (record { there = h.there; whole = h.whole }) in
     let same = ap (λ (w : State). len w.keys) (act_stays v b (ap is_accepted e)) in
     let few = rest.few in
@@ -80,13 +80,13 @@ grows_told v u b texts later (Repeated counts serial) e h =
       keep = λ key k found. rest.keep key k (act_keeps v b key k found);
       few = omega (arith, few, same);
     }
-grows_told v u b texts later (Refused why place) e h = no_fault _ h.whole
+grows_reported v u b texts later (Refused why place) e h = no_fault _ h.whole
 
 grows_by : (v u : State) (texts : List Text) → Later u texts →
     (r : Result BatchValue BatchFault) →
     Arrives (goes_on v (acted v r) (λ w. follow w (map bare texts))) u →
     Grows v u (suc (length texts))
-grows_by v u texts later (Ok b) h = grows_told v u b texts later (act v b).reply refl h
+grows_by v u texts later (Ok b) h = grows_reported v u b texts later (act v b).reply refl h
 grows_by v u texts later (Err fault) h = no_fault _ h.whole
 
 grows : (u : State) (texts : List Text) → Later u texts
@@ -118,11 +118,11 @@ module _ (s : State) (sound : IsState s) (n : ℕ) (t : State) (first : GivesFir
       (bare batch.1.text ∷ map bare (drop (suc n) (journal s))) t s opening_state first.followed
       (subst (λ (ls : List Line). Arrives (follow opening_state ls) s) lines replays)
 
-  told : (b : BatchValue) → (given_by t (Some b) ≡ Some batch → ⊥) → (r : Reply) →
+  reported : (b : BatchValue) → (given_by t (Some b) ≡ Some batch → ⊥) → (r : Reply) →
       (act t b).reply ≡ r →
       Arrives (goes_on t (unless_refused (act t b).state r)
       (λ w. follow w (map bare (drop (suc n) (journal s))))) s → ⊥
-  told b other (Accepted counts serial) e h =
+  reported b other (Accepted counts serial) e h =
       let e_accepted : is_accepted (act t b).reply ≡ true = ap is_accepted e in
       let it = added t b e_accepted in
       let k = kept_for b (len t.keys + 1) in
@@ -136,7 +136,7 @@ module _ (s : State) (sound : IsState s) (n : ℕ) (t : State) (first : GivesFir
       let given : given_by t (Some b) ≡ Some (b.key, k) =
       ap (λ (r : Bool). cond {A = Option KeyedBatch} r (Some (b.key, k)) None) e_accepted in
       other (given ∙ sym both)
-  told b other (Repeated counts serial) e h =
+  reported b other (Repeated counts serial) e h =
       let more = grows s (drop (suc n) (journal s)) (act t b).state
       (record { there = h.there; whole = h.whole }) in
       let few = more.few in
@@ -148,11 +148,11 @@ module _ (s : State) (sound : IsState s) (n : ℕ) (t : State) (first : GivesFir
       let most = sound.to_count batch.0 batch.1 under.0 in
       let serial_is = under.1 in
       absurd (omega (arith, few, same, size, long, count, most, serial_is))
-  told b other (Refused why place) e h = no_fault _ h.whole
+  reported b other (Refused why place) e h = no_fault _ h.whole
 
   by : (r : Result BatchValue BatchFault) → (given_by t (found_of r) ≡ Some batch → ⊥) →
       Arrives (goes_on t (acted t r) (λ w. follow w (map bare (drop (suc n) (journal s))))) s → ⊥
-  by (Ok b) other h = told b other (act t b).reply refl h
+  by (Ok b) other h = reported b other (act t b).reply refl h
   by (Err fault) other h = no_fault _ h.whole
 
   pub refuted : (given_again t batch ≡ Some batch → ⊥) → ⊥

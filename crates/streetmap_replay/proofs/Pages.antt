@@ -15,13 +15,13 @@ use Rattle.streetmap_geojson.specs.FeatureInvariant.{IsFeature}
 use Rattle.streetmap_geojson.specs.FeatureMeaning.{ReadsAs}
 use Rattle.streetmap_geojson.specs.FeatureValue.{FeatureValue, untimed}
 use Rattle.streetmap_geojson.specs.JsonText.{json_of}
-use Rattle.streetmap_geojson.specs.Reading.{list_of}
+use Rattle.streetmap_geojson.specs.ParsedGeometries.{list_of}
 use Rattle.streetmap_geojson.specs.Times.{time_of}
 use Rattle.streetmap_geojson.proofs.Lists.{list_of-items_of}
 use Rattle.streetmap_geojson.proofs.Wholes.{reads_once}
 use Rattle.streetmap_ledger.specs.Pages.{PageValue, page_in, page_over, selects, comes_after, selected}
 use Rattle.streetmap_ledger.specs.State.{State, Collection}
-use Rattle.streetmap_ledger.specs.Walks.{page_behind, IsWalk, ends, goes_on, shown}
+use Rattle.streetmap_ledger.specs.Walks.{page_after, IsWalk, ends, goes_on, shown}
 use Rattle.streetmap_ledger.specs.WellFormed.{IsState, IsPlaced}
 use Rattle.streetmap_ledger.proofs.Walking.{walks_show_all}
 use Rattle.streetmap_query.specs.QueryValue.{QueryValue}
@@ -32,7 +32,7 @@ use Rattle.streetmap_replay.proofs.TextMaps.{each, all_values, same_values}
 
 -- ---- features with one text
 
--- a feature, with the time that this property of it tells
+-- a feature, with the time that this property of it states
 pub record Placed (property : Option Text) (f : FeatureValue) : Type 0 where
   pub is : IsFeature f
   pub timed : time_of property f.properties ≡ Ok f.time
@@ -54,7 +54,7 @@ one_same property f g a b e =
     let geometry : f.geometry ≡ g.geometry = ap (λ (x : FeatureValue). x.geometry) same in
     let properties : f.properties ≡ g.properties =
     ap (λ (x : FeatureValue). x.properties) same in
-    let told : Ok f.time ≡ Ok g.time =
+    let reported : Ok f.time ≡ Ok g.time =
     sym a.timed ∙ (ap (time_of property) properties ∙ b.timed) in
     let time : f.time ≡ g.time = cc in
     λ i. record {
@@ -103,12 +103,12 @@ all = part_query None
 
 pub page_is : (s : State) (name : Text) (c : Collection) (after : Option Text)
     (p : Option PageValue) → get s.collections name ≡ Some c →
-    p ≡ page_in s name (part_query after) → p ≡ Some (page_behind all (values c.features) after)
+    p ≡ page_in s name (part_query after) → p ≡ Some (page_after all (values c.features) after)
 page_is s name c after p there h =
     h ∙ ap (option_map (λ (d : Collection). page_over (part_query after) (values d.features))) there
 
 page_placed : (P : FeatureValue → Type 0) (fs : List FeatureValue) (after : Option Text) →
-    All P fs → All P (page_behind all fs after).features
+    All P fs → All P (page_after all fs after).features
 page_placed P fs after h =
     All-take P 1000 _ (All-filter (comes_after after) P _
     (All-filter (selects (part_query after)) P fs h))
@@ -117,7 +117,7 @@ all_selected : (fs : List FeatureValue) → selected all fs ≡ fs
 all_selected [] = refl
 all_selected (f ∷ fs) = ap (λ gs. f ∷ gs) (all_selected fs)
 
--- the features up to an id are the same, and walks show the others
+-- the features up to an id are the same, and walks show the rest
 pub record SameSoFar (fs gs : List FeatureValue) (after : Option Text) : Type 0 where
   front : List FeatureValue
   ours : List PageValue
@@ -143,19 +143,19 @@ begins s t name c d sound after there here =
       their_whole = (other.0 other.1.0 other.1.1).whole ∙ all_selected (values d.features);
     }
 
--- what is told of a walk at its page
+-- what holds of a walk at its page
 record Turned (fs : List FeatureValue) (after : Option Text) (pages : List PageValue) (id : Text) :
     Type 0 where
   more : List PageValue
   walk : IsWalk all fs (Some id) more
-  shows : shown pages ≡ (page_behind all fs after).features ++ shown more
+  shows : shown pages ≡ (page_after all fs after).features ++ shown more
 
 turned : (fs : List FeatureValue) (after : Option Text) (pages : List PageValue) (id : Text) →
-    IsWalk all fs after pages → (page_behind all fs after).next ≡ Some id →
+    IsWalk all fs after pages → (page_after all fs after).next ≡ Some id →
     Turned fs after pages id
 turned fs _ _ id (ends after none) h = absurd cc
-turned fs _ _ id (goes_on after told pages next walk) h =
-    let same : told ≡ id = cc in
+turned fs _ _ id (goes_on after reported pages next walk) h =
+    let same : reported ≡ id = cc in
     record {
       more = pages;
       walk = subst (λ i. IsWalk all fs (Some i) pages) same walk;
@@ -163,25 +163,25 @@ turned fs _ _ id (goes_on after told pages next walk) h =
     }
 
 last : (fs : List FeatureValue) (after : Option Text) (pages : List PageValue) →
-    IsWalk all fs after pages → (page_behind all fs after).next ≡ None →
-    shown pages ≡ (page_behind all fs after).features
+    IsWalk all fs after pages → (page_after all fs after).next ≡ None →
+    shown pages ≡ (page_after all fs after).features
 last fs _ _ (ends after none) h = append-nil _
-last fs _ _ (goes_on after told pages next walk) h = absurd cc
+last fs _ _ (goes_on after reported pages next walk) h = absurd cc
 
 module _ (s t : State) (name : Text) (c d : Collection) (sound : IsState s) (after_all : IsState t)
     (there : get s.collections name ≡ Some c) (here : get t.collections name ≡ Some d)
     (one : c.time ≡ d.time) (after : Option Text)
     (so : SameSoFar (values c.features) (values d.features) after) where
   ours : PageValue
-  ours = page_behind all (values c.features) after
+  ours = page_after all (values c.features) after
 
   theirs : PageValue
-  theirs = page_behind all (values d.features) after
+  theirs = page_after all (values d.features) after
 
-  page_same : SameText (page_behind all (values c.features) after)
-      (page_behind all (values d.features) after) →
-      (page_behind all (values c.features) after).features
-      ≡ (page_behind all (values d.features) after).features
+  page_same : SameText (page_after all (values c.features) after)
+      (page_after all (values d.features) after) →
+      (page_after all (values c.features) after).features
+      ≡ (page_after all (values d.features) after).features
   page_same h =
       let their = subst (λ (p : Option Text). All (Placed p) (values d.features)) (sym one)
       (all_placed t name d after_all here) in
@@ -190,15 +190,15 @@ module _ (s t : State) (name : Text) (c d : Collection) (sound : IsState s) (aft
       (page_placed (Placed c.time) (values d.features) after their) h
 
   pub goes_further : (id : Text) →
-      SameText (page_behind all (values c.features) after)
-      (page_behind all (values d.features) after) →
-      (page_behind all (values c.features) after).next ≡ Some id →
-      (page_behind all (values d.features) after).next ≡ Some id →
+      SameText (page_after all (values c.features) after)
+      (page_after all (values d.features) after) →
+      (page_after all (values c.features) after).next ≡ Some id →
+      (page_after all (values d.features) after).next ≡ Some id →
       SameSoFar (values c.features) (values d.features) (Some id)
   goes_further id text next other =
       let mine = turned (values c.features) after so.ours id so.our_walk next in
       let their = turned (values d.features) after so.theirs id so.their_walk other in
-      let page = (page_behind all (values c.features) after).features in
+      let page = (page_after all (values c.features) after).features in
       let same = page_same text in
       record {
         front = so.front ++ page;
@@ -214,10 +214,10 @@ module _ (s t : State) (name : Text) (c d : Collection) (sound : IsState s) (aft
       }
 
   pub all_same :
-      SameText (page_behind all (values c.features) after)
-      (page_behind all (values d.features) after) →
-      (page_behind all (values c.features) after).next ≡ None →
-      (page_behind all (values d.features) after).next ≡ None →
+      SameText (page_after all (values c.features) after)
+      (page_after all (values d.features) after) →
+      (page_after all (values c.features) after).next ≡ None →
+      (page_after all (values d.features) after).next ≡ None →
       values c.features ≡ values d.features
   all_same text next other =
       let mine = last (values c.features) after so.ours so.our_walk next in
@@ -226,23 +226,23 @@ module _ (s t : State) (name : Text) (c d : Collection) (sound : IsState s) (aft
       ∙ (ap (λ l. so.front ++ l) (mine ∙ (page_same text ∙ sym their)) ∙ so.their_whole)
 
   at_ours : (p : PageValue) → Some p ≡ page_in s name (part_query after) →
-      p ≡ page_behind all (values c.features) after
+      p ≡ page_after all (values c.features) after
   at_ours p h =
-      let both : Some p ≡ Some (page_behind all (values c.features) after) =
+      let both : Some p ≡ Some (page_after all (values c.features) after) =
       page_is s name c after (Some p) there h in cc
 
   at_theirs : (q : PageValue) → Some q ≡ page_in t name (part_query after) →
-      q ≡ page_behind all (values d.features) after
+      q ≡ page_after all (values d.features) after
   at_theirs q h =
-      let both : Some q ≡ Some (page_behind all (values d.features) after) =
+      let both : Some q ≡ Some (page_after all (values d.features) after) =
       page_is t name d after (Some q) here h in cc
 
   moved : (end : PageEnd) (p q : PageValue) → Some p ≡ page_in s name (part_query after) →
       Some q ≡ page_in t name (part_query after) → PagesEndAs p q end →
-      PagesEndAs (page_behind all (values c.features) after)
-      (page_behind all (values d.features) after) end
+      PagesEndAs (page_after all (values c.features) after)
+      (page_after all (values d.features) after) end
   moved end p q e f h =
-      subst (λ (y : PageValue). PagesEndAs (page_behind all (values c.features) after) y end)
+      subst (λ (y : PageValue). PagesEndAs (page_after all (values c.features) after) y end)
       (at_theirs q f) (subst (λ (x : PageValue). PagesEndAs x q end) (at_ours p e) h)
 
   pub last_same : (p q : PageValue) → Some p ≡ page_in s name (part_query after) →
@@ -255,19 +255,19 @@ module _ (s t : State) (name : Text) (c d : Collection) (sound : IsState s) (aft
       SameText p q × (p.next ≡ Some id) × (q.next ≡ Some id) →
       SameSoFar (values c.features) (values d.features) (Some id)
   next_same id p q e f h =
-      let one : SameText (page_behind all (values c.features) after) q
-      × ((page_behind all (values c.features) after).next ≡ Some id) × (q.next ≡ Some id) =
+      let one : SameText (page_after all (values c.features) after) q
+      × ((page_after all (values c.features) after).next ≡ Some id) × (q.next ≡ Some id) =
       subst (λ (x : PageValue). SameText x q × (x.next ≡ Some id) × (q.next ≡ Some id))
       (at_ours p e) h in
-      let two = subst (λ (y : PageValue). SameText (page_behind all (values c.features) after) y
-      × ((page_behind all (values c.features) after).next ≡ Some id) × (y.next ≡ Some id))
+      let two = subst (λ (y : PageValue). SameText (page_after all (values c.features) after) y
+      × ((page_after all (values c.features) after).next ≡ Some id) × (y.next ≡ Some id))
       (at_theirs q f) one in
       goes_further id two.0 two.1 two.2
 
 -- pages that are not the same are those of other features
 pub not_same : (fs gs : List FeatureValue) (after : Option Text) →
-    (page_behind all fs after ≡ page_behind all gs after → ⊥) → fs ≡ gs → ⊥
-not_same fs gs after other same = other (ap (λ l. page_behind all l after) same)
+    (page_after all fs after ≡ page_after all gs after → ⊥) → fs ≡ gs → ⊥
+not_same fs gs after other same = other (ap (λ l. page_after all l after) same)
 
 -- ---- collections with the same features
 

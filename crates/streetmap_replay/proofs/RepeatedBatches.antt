@@ -1,4 +1,4 @@
--- What was acknowledged is there, and a batch that is there is repeated.
+-- An acknowledged batch is kept, and a batch that is kept is repeated.
 use Rattle.std.proofs.Common.{◌≡◌, ℕ, ◌+◌, List, [], ◌∷◌, ◌++◌, Bool, true, false, cond, All}
 use Rattle.std.proofs.Common.{Option, None, Some, Result, Ok, Err, refl, sym, ap, subst, ◌∙◌}
 use Rattle.std.proofs.Common.{nat_eq, nat_lt}
@@ -40,10 +40,10 @@ stays_there : (s : State) (bs : List BatchValue) (b : BatchValue) → IsThere s 
     IsThere (after_all s bs) b
 stays_there s bs b h = (h.0, all_keep s bs b.key h.0 h.1, h.2)
 
-pub accepted_told : (r : Reply) → is_accepted r ≡ true → IsAcknowledged r
-accepted_told (Accepted counts serial) e = tt
-accepted_told (Repeated counts serial) e = tt
-accepted_told (Refused why place) e = absurd cc
+pub accepted_reported : (r : Reply) → is_accepted r ≡ true → IsAcknowledged r
+accepted_reported (Accepted counts serial) e = tt
+accepted_reported (Repeated counts serial) e = tt
+accepted_reported (Refused why place) e = absurd cc
 
 -- ---- lists of batches
 
@@ -52,7 +52,7 @@ abbrev pub AreAcknowledged : State → List BatchValue → Type 0
 AreAcknowledged s [] = Unit {0}
 AreAcknowledged s (b ∷ bs) = IsAcknowledged (act s b).reply × AreAcknowledged (act s b).state bs
 
--- those that are there are repeated
+-- those that are kept are repeated
 pub all_there : (t : State) (bs : List BatchValue) → All (IsThere t) bs →
     AreAcknowledged t bs × (after_all t bs ≡ t)
 all_there t [] h = (tt, refl)
@@ -67,7 +67,7 @@ all_there t (b ∷ bs) h =
 accepted_by : (s : State) (b : BatchValue) (rest : List BatchValue) →
     AreAcknowledged (act s b).state rest → (t : Bool) → is_accepted (act s b).reply ≡ t →
     AreAcknowledged s (cond t (b ∷ rest) rest)
-accepted_by s b rest h true e = (accepted_told (act s b).reply e, h)
+accepted_by s b rest h true e = (accepted_reported (act s b).reply e, h)
 accepted_by s b rest h false e = subst (λ (u : State). AreAcknowledged u rest) (act_stays s b e) h
 
 pub accepted_are : (s : State) (bs : List BatchValue) → AreAcknowledged s (accepted_of s bs)
@@ -86,7 +86,7 @@ pub joined : (s : State) (xs ys : List BatchValue) → AreAcknowledged s xs →
 joined s [] ys h k = k
 joined s (x ∷ xs) ys h k = (h.0, joined (act s x).state xs ys h.1 k)
 
--- those that were acknowledged are there
+-- those that were acknowledged are kept
 pub are_there : (s : State) (bs : List BatchValue) → AreAcknowledged s bs →
     All (IsThere (after_all s bs)) bs
 are_there s [] h = All-nil (IsThere s)

@@ -1,4 +1,4 @@
--- What a replay comes to.
+-- The result of a replay.
 use Rattle.std.proofs.Common.{◌≡◌, ℕ, Bool, true, false, Option, Some, Result, Ok, Err}
 use Rattle.std.proofs.Common.{refl, sym, ap}
 use Rattle.std.proofs.Common.{subst, ◌∙◌}
@@ -40,7 +40,7 @@ module _ (s t : State) (given : GivesAll s t) where
     whole = given.followed.whole;
   }
 
-  -- a collection that is another
+  -- a collection that differs
   other : (name : Text) → Differs s t name → Replays s → ⊥
   other name it h =
       let same : s ≡ t = sym h.there ∙ given.followed.there in
@@ -72,7 +72,7 @@ not_given s (Stopped Memory) fresh h = h
 not_given s (Batch serial) fresh h = h
 not_given s (Collection name) fresh h = absurd h
 
--- a part of which one batch is not given
+-- a part with a batch that its text does not reproduce
 pub part_fault : (s : State) (n : ℕ) (fault : ReplayFault) (fresh : State → Type 0) → IsState s → GivesPart {T = Unit {0}} s n (Err fault) fresh → GivesBatches {T = Unit {0}} s (Err fault) fresh
 part_fault s n (Stopped (Kept fault)) fresh sound it = absurd it
 part_fault s n (Stopped (Fresh fault)) fresh sound it = it
@@ -80,7 +80,7 @@ part_fault s n (Stopped Memory) fresh sound it = it
 part_fault s n (Batch serial) fresh sound it = (stop_refutes s serial sound it, it)
 part_fault s n (Collection name) fresh sound it = absurd it
 
--- a batch that was not given again, as memory ran out or the keeper failed
+-- a batch that was not reproduced, because memory ran out or the keeper failed
 pub row_stop : (s t : State) (n : ℕ) (batch : KeyedBatch) (stop : ReplayStop)
     (fresh : State → Type 0) → GivesRow t batch (Err stop) fresh →
     GivesPart {T = Unit {0}} s n (Err (Stopped stop)) fresh
@@ -88,7 +88,7 @@ row_stop s t n batch (Kept fault) fresh h = absurd h
 row_stop s t n batch (Fresh fault) fresh h = h
 row_stop s t n batch Memory fresh h = h
 
--- whether the batch was given again
+-- whether the batch was reproduced
 pub row_true : (t : State) (batch : KeyedBatch) (is : Bool) (represents : State → Type 0) → is ≡ true →
     GivesRow t batch (Ok is) represents → GivesRow t batch (Ok true) represents
 row_true t batch is represents e h = subst (λ (b : Bool). GivesRow t batch (Ok b) represents) e h

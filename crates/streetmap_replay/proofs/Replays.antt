@@ -4,7 +4,7 @@ use Rattle.std.proofs.Common.{Result, Ok, Err, refl, sym, ap, subst, ◌∙◌}
 use Rattle.std.proofs.lemmas.List.{map-append}
 use Rattle.std.proofs.lemmas.List.Elements.{All-nil, All-cons, All-head, All-tail}
 use Rattle.streetmap_batch.specs.Text.{Text}
-use Rattle.streetmap_batch.specs.BatchReading.{batch_of}
+use Rattle.streetmap_batch.specs.ParsedBatches.{batch_of}
 use Rattle.streetmap_batch.specs.BatchValue.{BatchValue}
 use Rattle.streetmap_batch.specs.declared.batch_fault.BatchFault.{BatchFault}
 use Rattle.streetmap_ledger.specs.State.{State, opening_state}
@@ -17,11 +17,11 @@ use Rattle.streetmap_ledger.proofs.StatesStay.{opening_sound, act_sound}
 use Rattle.streetmap_batch.specs.BatchFacts.{IsSoundBatch}
 use Rattle.streetmap_replay.specs.Journal.{journal, text_if}
 use Rattle.streetmap_replay.specs.Lines.{Line, bare}
-use Rattle.streetmap_replay.specs.Following.{LineFault, Followed, unless_refused, acted}
-use Rattle.streetmap_replay.specs.Following.{line_outcome, goes_on, follow, Arrives}
+use Rattle.streetmap_replay.specs.FollowedLines.{LineFault, Followed, unless_refused, acted}
+use Rattle.streetmap_replay.specs.FollowedLines.{line_outcome, goes_on, follow, Arrives}
 use Rattle.streetmap_replay.specs.Replay.{Replays, StatesReplay}
 use Rattle.streetmap_replay.proofs.JournalGrows.{opening_empty, act_grows}
-use Rattle.streetmap_replay.proofs.RepeatedBatches.{act_stays, accepted_told}
+use Rattle.streetmap_replay.proofs.RepeatedBatches.{act_stays, accepted_reported}
 use Rattle.streetmap_replay.proofs.Followers.{follow_texts}
 
 no_fault : {A : Type 0} (why : LineFault) → Some why ≡ None → A
@@ -48,7 +48,7 @@ follow_text : (s : State) (b : BatchValue) → IsSoundBatch b → (t : Bool) →
     is_accepted (act s b).reply ≡ t → Arrives (follow s (map bare (text_if t b))) (act s b).state
 follow_text s b w true e =
     let followed = follow_texts s (b ∷ []) (All-cons IsSoundBatch b [] w (All-nil IsSoundBatch))
-    (accepted_told (act s b).reply e, tt) in
+    (accepted_reported (act s b).reply e, tt) in
     record {
       there = ap (λ (f : Followed). f.state) followed;
       whole = ap (λ (f : Followed). f.fault) followed;
@@ -85,21 +85,21 @@ Made s t = (bs : List BatchValue) × (after_all s bs ≡ t)
 abbrev Rest : State → List Text → Type 0
 Rest t texts = (v : State) → Arrives (follow v (map bare texts)) t → Made v t
 
-made_told : (s t : State) (b : BatchValue) (texts : List Text) → Rest t texts → (r : Reply) →
+made_reported : (s t : State) (b : BatchValue) (texts : List Text) → Rest t texts → (r : Reply) →
     Arrives (goes_on s (unless_refused (act s b).state r) (λ v. follow v (map bare texts))) t →
     Made s t
-made_told s t b texts rest (Accepted counts serial) h =
+made_reported s t b texts rest (Accepted counts serial) h =
     let more = rest (act s b).state (record { there = h.there; whole = h.whole }) in
     (b ∷ more.0, more.1)
-made_told s t b texts rest (Repeated counts serial) h =
+made_reported s t b texts rest (Repeated counts serial) h =
     let more = rest (act s b).state (record { there = h.there; whole = h.whole }) in
     (b ∷ more.0, more.1)
-made_told s t b texts rest (Refused why place) h = no_fault _ h.whole
+made_reported s t b texts rest (Refused why place) h = no_fault _ h.whole
 
 made_by : (s t : State) (texts : List Text) → Rest t texts →
     (r : Result BatchValue BatchFault) →
     Arrives (goes_on s (acted s r) (λ v. follow v (map bare texts))) t → Made s t
-made_by s t texts rest (Ok b) h = made_told s t b texts rest (act s b).reply h
+made_by s t texts rest (Ok b) h = made_reported s t b texts rest (act s b).reply h
 made_by s t texts rest (Err fault) h = no_fault _ h.whole
 
 made : (t : State) (texts : List Text) (s : State) → Arrives (follow s (map bare texts)) t →

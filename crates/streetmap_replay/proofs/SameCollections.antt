@@ -1,4 +1,4 @@
--- The collections of two states, by what is told of them.
+-- The collections of two states, by their descriptions.
 use Rattle.std.proofs.Common.{◌≡◌, ℕ, zero, suc, ◌+◌, ◌<◌, Bool, true, false, ◌||◌, List, []}
 use Rattle.std.proofs.Common.{◌∷◌, ◌++◌, All, length, map, take, get_or, Option, None, Some, refl}
 use Rattle.std.proofs.Common.{option_map, sym, ap, subst, ◌∙◌, arith, Result, Ok, Err, IsTrue}
@@ -63,18 +63,18 @@ unlike_compares s t Same name (Other text) is differs = differs (string_bytes te
 
 -- ---- one collection
 
--- a collection of which this is told
-pub record IsTold (s : State) (name : Text) (a : SummaryValue) : Type 0 where
+-- a collection with this description
+pub record IsReported (s : State) (name : Text) (a : SummaryValue) : Type 0 where
   pub collection : Collection
   pub there : get s.collections name ≡ Some collection
   pub title : a.title ≡ collection.title
   pub time : a.time ≡ collection.time
 
-pub told_of : (s : State) (name : Text) (a : SummaryValue) → summary_in s name ≡ Some a →
-    IsTold s name a
-told_of s name a h = by (get s.collections name) refl h where
+pub reported_of : (s : State) (name : Text) (a : SummaryValue) → summary_in s name ≡ Some a →
+    IsReported s name a
+reported_of s name a h = by (get s.collections name) refl h where
   by : (o : Option Collection) → get s.collections name ≡ o →
-      option_map (summary_of name) o ≡ Some a → IsTold s name a
+      option_map (summary_of name) o ≡ Some a → IsReported s name a
   by None is e = absurd cc
   by (Some c) is e =
       let same : summary_of name c ≡ a = cc in
@@ -85,28 +85,28 @@ told_of s name a h = by (get s.collections name) refl h where
         time = ap (λ (x : SummaryValue). x.time) (sym same);
       }
 
-none_told : (s : State) (name : Text) → summary_in s name ≡ None → get s.collections name ≡ None
-none_told s name h = by (get s.collections name) h where
+none_reported : (s : State) (name : Text) → summary_in s name ≡ None → get s.collections name ≡ None
+none_reported s name h = by (get s.collections name) h where
   by : (o : Option Collection) → option_map (summary_of name) o ≡ None → o ≡ None
   by None e = refl
   by (Some c) e = absurd cc
 
-pub told_alone : (s t : State) (name : Text) (a : SummaryValue) → summary_in s name ≡ Some a →
+pub reported_alone : (s t : State) (name : Text) (a : SummaryValue) → summary_in s name ≡ Some a →
     summary_in t name ≡ None → Decides false (IsSame s t name)
-told_alone s t name a told none =
-    let it = told_of s name a told in (
+reported_alone s t name a reported none =
+    let it = reported_of s name a reported in (
       λ no. absurd cc,
       λ same. (
           let both : Some it.collection ≡ None =
-          sym it.there ∙ (same ∙ none_told t name none) in absurd cc
+          sym it.there ∙ (same ∙ none_reported t name none) in absurd cc
           ),
     )
 
-pub told_other : (s t : State) (name : Text) (a b : SummaryValue) → summary_in s name ≡ Some a →
+pub reported_other : (s t : State) (name : Text) (a b : SummaryValue) → summary_in s name ≡ Some a →
     summary_in t name ≡ Some b → (AreAlike a b → ⊥) → Decides false (IsSame s t name)
-told_other s t name a b told other unlike =
-    let it = told_of s name a told in
-    let its = told_of t name b other in (
+reported_other s t name a b reported other unlike =
+    let it = reported_of s name a reported in
+    let its = reported_of t name b other in (
       λ no. absurd cc,
       λ same. (
           let both : Some it.collection ≡ Some its.collection =
@@ -137,13 +137,13 @@ pub record Place (s : State) (i : ℕ) (a : Summary) : Type 0 where
   pub entry : Text × Collection
   pub at : slice_get (entries s.collections) i ≡ Some entry
   pub named : entry.0 ≡ string_bytes a.id
-  pub told : summary_in s (string_bytes a.id) ≡ Some (summary_value a)
+  pub reported : summary_in s (string_bytes a.id) ≡ Some (summary_value a)
 
 place_by : (s : State) (ours : List Summary) (i : ℕ) (a : Summary) →
     summary_values ours ≡ summaries_in s → slice_get ours i ≡ Some a → Place s i a
-place_by s ours i a told at =
+place_by s ours i a reported at =
     let value : slice_get (summaries_in s) i ≡ Some (summary_value a) =
-    ap (λ (l : List SummaryValue). slice_get l i) (sym told)
+    ap (λ (l : List SummaryValue). slice_get l i) (sym reported)
     ∙ (slice_get-map summary_value ours i ∙ ap (option_map summary_value) at) in
     let it = get_map (λ (e : Text × Collection). summary_of e.0 e.1) (entries s.collections) i
     (summary_value a) value in
@@ -154,14 +154,14 @@ place_by s ours i a told at =
       entry = e;
       at = it.1;
       named = name;
-      told = subst (λ (q : Text). summary_in s q ≡ Some (summary_value a)) name
+      reported = subst (λ (q : Text). summary_in s q ≡ Some (summary_value a)) name
           (ap (option_map (summary_of e.0)) there ∙ ap (λ (x : SummaryValue). Some x) (sym it.2));
     }
 
 pub place_of : (s : State) (ours : List Summary) (i : ℕ) (a : Summary) →
     summary_values ours ≡ summaries_in s → i < length ours → a ≡ get_or ours i a → Place s i a
-place_of s ours i a told low is =
-    place_by s ours i a told (slice_get_read ours (length ours) i a refl low is)
+place_of s ours i a reported low is =
+    place_by s ours i a reported (slice_get_read ours (length ours) i a refl low is)
 
 -- ---- one after the other
 
@@ -201,21 +201,21 @@ differs_at s t i a name place before is other = record {
 pub all_places : (s t : State) (ours : List Summary) → summary_values ours ≡ summaries_in s →
     AreSame s t (take (length ours) (entries s.collections)) →
     AreSame s t (entries s.collections)
-all_places s t ours told h =
+all_places s t ours reported h =
     let mine = length-map ours summary_value in
     let its = length-map (entries s.collections)
     (λ (e : Text × Collection). summary_of e.0 e.1) in
-    let size = ap length told in
+    let size = ap length reported in
     subst (λ (l : List (Text × Collection)). All (λ e. IsSame s t e.0) l)
     (take_all (length ours) (entries s.collections) (omega (arith, mine, its, size))) h
 
 -- ---- collections of the second alone
 
--- one of the collections that are told of has this id
-told_named : (xs : List Summary) (q : Text) →
+-- one of the described collections has this id
+reported_named : (xs : List Summary) (q : Text) →
     is_named q xs ≡ list_any (λ (a : SummaryValue). bytes_eq a.id q) (summary_values xs)
-told_named [] q = refl
-told_named (x ∷ xs) q = ap (λ b. bytes_eq (string_bytes x.id) q || b) (told_named xs q)
+reported_named [] q = refl
+reported_named (x ∷ xs) q = ap (λ b. bytes_eq (string_bytes x.id) q || b) (reported_named xs q)
 
 named_key : (es : List (Text × Collection)) (q : Text) →
     list_any (λ (a : SummaryValue). bytes_eq a.id q)
@@ -225,9 +225,9 @@ named_key (e ∷ es) q = ap (λ b. bytes_eq e.0 q || b) (named_key es q)
 
 is_key : (s : State) (ours : List Summary) (q : Text) → summary_values ours ≡ summaries_in s →
     is_named q ours ≡ has_key q (entries s.collections)
-is_key s ours q told =
-    told_named ours q
-    ∙ (ap (list_any (λ (a : SummaryValue). bytes_eq a.id q)) told
+is_key s ours q reported =
+    reported_named ours q
+    ∙ (ap (list_any (λ (a : SummaryValue). bytes_eq a.id q)) reported
     ∙ named_key (entries s.collections) q)
 
 past : {A : Type 0} (xs : List A) → slice_get xs (length xs) ≡ None
@@ -239,12 +239,12 @@ pub differs_alone : (s t : State) (ours theirs : List Summary) (place : ℕ) (a 
     slice_get theirs place ≡ Some a →
     is_named (string_bytes a.id) ours ≡ false →
     AreSame s t (entries s.collections) → name ≡ string_bytes a.id → Differs s t name
-differs_alone s t ours theirs place a name told its at alone all is =
+differs_alone s t ours theirs place a name reported its at alone all is =
     let it = place_by t theirs place a its at in
     let there = at_place t.collections place it.entry it.at in
     let none : get s.collections (string_bytes a.id) ≡ None =
     no_key_none s.collections (string_bytes a.id)
-    (sym (is_key s ours (string_bytes a.id) told) ∙ alone) in
+    (sym (is_key s ours (string_bytes a.id) reported) ∙ alone) in
     record {
       other = λ same. (
           let here : get t.collections (string_bytes a.id) ≡ Some it.entry.1 =
@@ -272,14 +272,14 @@ pub alone_differs : (s t : State) (ours theirs our_list their_list : List Summar
     summary_values theirs ≡ summaries_in t → our_list ≡ ours → their_list ≡ theirs →
     IsAlone our_list their_list place → a ≡ get_or theirs place a →
     AreSame s t (entries s.collections) → name ≡ string_bytes a.id → Differs s t name
-alone_differs s t ours theirs our_list their_list place a name told its e f found is all named =
+alone_differs s t ours theirs our_list their_list place a name reported its e f found is all named =
     let one = subst (λ (l : List Summary). IsAlone l their_list place) e found in
     let it = subst (λ (l : List Summary). IsAlone ours l place) f one in
     let low = get_low theirs place it.0 it.1 in
     let at = slice_get_read theirs (length theirs) place a refl low is in
     let both : Some a ≡ Some it.0 = sym at ∙ it.1 in
     let same : a ≡ it.0 = cc in
-    differs_alone s t ours theirs place it.0 name told its it.1 it.2 all
+    differs_alone s t ours theirs place it.0 name reported its it.1 it.2 all
     (named ∙ ap (λ (x : Summary). string_bytes x.id) same)
 
 of_values : (P : Text → Type 0) (es : List (Text × Collection)) →
@@ -292,7 +292,7 @@ of_values P (e ∷ es) h =
     All-cons (λ (e : Text × Collection). P e.0) e es (All-head Q (summary_of e.0 e.1) rest h)
     (of_values P es (All-tail Q (summary_of e.0 e.1) rest h))
 
-module _ (s t : State) (ours theirs : List Summary) (told : summary_values ours ≡ summaries_in s)
+module _ (s t : State) (ours theirs : List Summary) (reported : summary_values ours ≡ summaries_in s)
     (its : summary_values theirs ≡ summaries_in t) (all : AreSame s t (entries s.collections))
     (named : All (λ (a : Summary). IsTrue (is_named (string_bytes a.id) ours))
     theirs) where
@@ -312,7 +312,7 @@ module _ (s t : State) (ours theirs : List Summary) (told : summary_values ours 
       let yes = of_key (λ (n : Text). IsTrue (is_named n ours)) t.collections q d
       keyed f in
       let key : has_key q (entries s.collections) ≡ true =
-      sym (is_key s ours q told) ∙ yes in
+      sym (is_key s ours q reported) ∙ yes in
       absurd (has_key_found s.collections q key e)
 
   pub all_the_same : s.collections ≡ t.collections

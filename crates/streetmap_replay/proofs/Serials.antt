@@ -1,4 +1,4 @@
--- What is kept with a serial, where one more key is kept.
+-- What is kept with a serial, if one more key is kept.
 use Rattle.std.proofs.Common.{◌≡◌, ℕ, zero, suc, ◌<◌, Bool, true, false, cond, T, List, [], ◌∷◌}
 use Rattle.std.proofs.Common.{◌++◌, map, find, Option, None, Some, option_map, refl, sym, ap, ◌∙◌}
 use Rattle.std.proofs.Common.{nat_eq, arith}
@@ -23,7 +23,7 @@ none_some x e = cc
 abbrev pub values_of : List (Text × AcceptedBatch) → List AcceptedBatch
 values_of es = map (λ (e : Text × AcceptedBatch). e.1) es
 
--- ---- one entry more in a list
+-- ---- one more entry in a list
 
 not_equal : (r : Ordering) → T (is_lt r) → is_eq r ≡ false
 not_equal Less h = refl
@@ -78,7 +78,7 @@ module _ (test : AcceptedBatch → Bool) (key : Text) (v : AcceptedBatch) where
   found_there (e ∷ es) passing none alone =
       found_by e es passing alone (found_there es passing) (text_cmp key e.0) none
 
--- ---- what is found among the values is there under a key
+-- ---- what is found among the values is kept under a key
 
 pub none_below : (k : Text) (es : List (Text × AcceptedBatch)) → T (below_all text_cmp k es) →
     find_key text_cmp k es ≡ None
@@ -129,7 +129,7 @@ kept_under m n v e =
     let u = under (λ (k : AcceptedBatch). nat_eq k.serial n) (entries m) v (entries_sorted m) e in
     (u.0, get-entries m u.0 ∙ u.1, u.2)
 
--- a serial beyond all that are there is kept with nothing
+-- nothing is kept with a serial above all kept ones
 pub none_beyond : (m : Kept) (n : ℕ) →
     ((key : Text) (k : AcceptedBatch) → get m key ≡ Some k → k.serial < n) → kept_with m n ≡ None
 none_beyond m n low = by (kept_with m n) refl where
@@ -175,7 +175,7 @@ module _ (m : Kept) (key : Text) (v : AcceptedBatch) (new : get m key ≡ None) 
       (option_map (λ (k : AcceptedBatch). k.text) o)) (kept_before (suc n) less)
       ∙ ap (λ (ts : List Text). ts ++ option_to_list (text_with m (suc n))) (texts_before n below)
 
-  -- one more text behind those with the serials before it
+  -- one more text, after those with the serials before it
   pub texts_last : (n : ℕ) → v.serial ≡ suc n → kept_with m v.serial ≡ None →
       texts_to (insert m key v) (suc n) ≡ texts_to m n ++ v.text ∷ []
   texts_last n is alone =

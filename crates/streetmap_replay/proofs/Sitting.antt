@@ -12,7 +12,7 @@ use Rattle.streetmap_ledger.specs.State.{State, opening_state}
 use Rattle.streetmap_ledger.specs.Laws.{accepted_of}
 use Rattle.streetmap_batch.specs.BatchFacts.{IsSoundBatch}
 use Rattle.streetmap_replay.specs.Lines.{Line, bare, numbered}
-use Rattle.streetmap_replay.specs.Following.{LineFault, Followed, goes_on, follow, follower}
+use Rattle.streetmap_replay.specs.FollowedLines.{LineFault, Followed, goes_on, follow, follower}
 use Rattle.streetmap_replay.specs.Sittings.{after_sittings, followed_of, followed_in, highest}
 use Rattle.streetmap_replay.specs.Sittings.{IsLineOf, SittingsAddUp}
 use Rattle.streetmap_replay.proofs.Followers.{advances, waits, line_at}
@@ -23,7 +23,7 @@ highest-append (bare t ∷ xs) ys = highest-append xs ys
 highest-append (numbered n t ∷ xs) ys =
     ap (max n) (highest-append xs ys) ∙ omega arith
 
--- what following lines came to
+-- the result of following lines
 abbrev Reaches : List BatchValue → ℕ → List Line → Followed → Type 0
 Reaches bs k lines f =
     f.state ≡ follower bs (max k (highest (take (length f.replies) lines)))

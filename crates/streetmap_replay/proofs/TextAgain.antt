@@ -25,8 +25,8 @@ use Rattle.streetmap_batch.specs.BatchFacts.{IsTitle, IsTimePropertyIf, IsSoundE
 use Rattle.streetmap_batch.specs.BatchValue as edit
 use Rattle.streetmap_batch.specs.BatchValue.{EditValue, BatchValue}
 use Rattle.streetmap_batch.specs.BatchMeaning.{IsEdit, AreEdits, IsBatch, IsBatchText}
-use Rattle.streetmap_batch.specs.BatchReading.{has_only, list_of, most_edits, edits_after, keyed}
-use Rattle.streetmap_batch.specs.BatchReading.{batch, batch_of}
+use Rattle.streetmap_batch.specs.ParsedBatches.{has_only, list_of, most_edits, edits_after, keyed}
+use Rattle.streetmap_batch.specs.ParsedBatches.{batch, batch_of}
 use Rattle.streetmap_batch.specs.BatchText.{feature_edit_data, edit_data, batch_data, batch_text}
 use Rattle.streetmap_batch.specs.Names.{is_id_byte, is_key_byte, is_key, is_collection_id}
 use Rattle.streetmap_replay.specs.Again.{untimed_edit, untimed_batch}

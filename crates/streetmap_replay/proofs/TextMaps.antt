@@ -37,20 +37,20 @@ module _ {X : Type 0} where
   here e es = ap (λ r. cond (is_eq r) (Some e.1) (find text_cmp e.0 es))
       (tied_itself nat_list_cmp_total e.0)
 
-  -- what is found behind the first entry is found with it
-  behind_by : (e : Text × X) (es : Entries X) (k : Text) (x : X) → T (below_all text_cmp e.0 es) →
+  -- what is found after the first entry is also found with it
+  after_by : (e : Text × X) (es : Entries X) (k : Text) (x : X) → T (below_all text_cmp e.0 es) →
       find text_cmp k es ≡ Some x → (r : Ordering) → text_cmp k e.0 ≡ r →
       cond (is_eq r) (Some e.1) (find text_cmp k es) ≡ Some x
-  behind_by e es k x low there Less is = there
-  behind_by e es k x low there Greater is = there
-  behind_by e es k x low there Equal is =
+  after_by e es k x low there Less is = there
+  after_by e es k x low there Greater is = there
+  after_by e es k x low there Equal is =
       let none : find text_cmp k es ≡ None =
       ap (λ q. find text_cmp q es) (one_text k e.0 is) ∙ not_among e.0 es low in
       let both : None ≡ Some x = sym none ∙ there in absurd cc
 
-  behind : (e : Text × X) (es : Entries X) (k : Text) (x : X) → T (is_sorted text_cmp (e ∷ es)) →
+  remaining : (e : Text × X) (es : Entries X) (k : Text) (x : X) → T (is_sorted text_cmp (e ∷ es)) →
       find text_cmp k es ≡ Some x → find text_cmp k (e ∷ es) ≡ Some x
-  behind e es k x up there = behind_by e es k x (first _ _ up) there (text_cmp k e.0) refl
+  remaining e es k x up there = after_by e es k x (first _ _ up) there (text_cmp k e.0) refl
 
   -- each entry is found under its key
   each_found : (P : Text → X → Type 0) (es : Entries X) → T (is_sorted text_cmp es) →
@@ -58,7 +58,7 @@ module _ {X : Type 0} where
   each_found P [] up has = All-nil (λ e. P e.0 e.1)
   each_found P (e ∷ es) up has =
       All-cons (λ e. P e.0 e.1) e es (has e.0 e.1 (here e es))
-      (each_found P es (second _ _ up) (λ k x there. has k x (behind e es k x up there)))
+      (each_found P es (second _ _ up) (λ k x there. has k x (remaining e es k x up there)))
 
   pub each : (P : Text → X → Type 0) (m : FinMap text_cmp X) →
       ((k : Text) (x : X) → get m k ≡ Some x → P k x) → All (λ e. P e.0 e.1) (entries m)
@@ -73,7 +73,7 @@ module _ {X : Type 0} where
       let same : x ≡ e = cc in
       subst (λ (y : Text × X). find text_cmp y.0 (x ∷ es) ≡ Some y.1) same (here x es)
   place_found (x ∷ es) (suc i) e up h =
-      behind x es e.0 e.1 up (place_found es i e (second _ _ up) h)
+      remaining x es e.0 e.1 up (place_found es i e (second _ _ up) h)
 
   pub at_place : (m : FinMap text_cmp X) (i : ℕ) (e : Text × X) →
       slice_get (entries m) i ≡ Some e → get m e.0 ≡ Some e.1
@@ -146,7 +146,7 @@ module _ {X : Type 0} where
       get m k ≡ None
   no_key_none m k h = get-entries m k ∙ not_key (entries m) k h
 
-  -- ---- maps whose values tell their keys
+  -- ---- maps whose values state their keys
 
   pub all_values : (Q : X → Type 0) (P : Text → X → Type 0) →
       ((k : Text) (x : X) → P k x → Q x) → (es : Entries X) → All (λ e. P e.0 e.1) es →

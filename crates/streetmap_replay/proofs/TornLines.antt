@@ -1,4 +1,4 @@
--- What is found of lines of which a beginning was written.
+-- What is found of lines of which a prefix was written.
 use Rattle.std.proofs.Common.{◌≡◌, ℕ, suc, ◌+◌, ◌-◌, ◌<◌, ◌≤◌, ◌⊎◌, inl, inr, ◌==◌, false, All}
 use Rattle.std.proofs.Common.{List, [], ◌∷◌, ◌++◌, length, take, drop, map, refl, sym, ap, subst}
 use Rattle.std.proofs.Common.{◌∙◌}
@@ -31,11 +31,11 @@ lines-append (l ∷ ls) ms =
     ap (λ (bs : List ℕ). line_bytes l ++ 10 ∷ bs) (lines-append ls ms)
     ∙ sym (append_assoc (line_bytes l) (10 ∷ text_of_lines ls) (text_of_lines ms))
 
--- a beginning of a line and of what stands behind it: within the line, or the line and a beginning
--- of the rest
+-- a prefix of a line and of what comes after it: within the line, or the line and a prefix of the
+-- rest
 data Cut (line rest bytes : List ℕ) : Type 0 where
   within : bytes ≡ take (length bytes) line → Cut line rest bytes
-  behind : (more : List ℕ) → bytes ≡ line ++ 10 ∷ more → StartsWith rest more → Cut line rest bytes
+  remaining : (more : List ℕ) → bytes ≡ line ++ 10 ∷ more → StartsWith rest more → Cut line rest bytes
 
 cut_at : (line rest bytes : List ℕ) → StartsWith (line ++ 10 ∷ rest) bytes → Cut line rest bytes
 cut_at line rest bytes h = by (cases_lt (length line) (length bytes)) where
@@ -50,7 +50,7 @@ cut_at line rest bytes h = by (cases_lt (length line) (length bytes)) where
       let few : length (take n rest) ≡ n =
       let all = length-append line (10 ∷ take n rest) in
       let same = ap length is in omega (arith, all, same, size) in
-      behind (take n rest) is (ap (λ (m : ℕ). take m rest) few)
+      remaining (take n rest) is (ap (λ (m : ℕ). take m rest) few)
 
 torn_by : (l : Line) (ls : List Line) (bytes : List ℕ) → IsOneLine l →
     ((more : List ℕ) → StartsWith (text_of_lines ls) more → IsTorn ls more) →
@@ -65,7 +65,7 @@ torn_by l ls bytes one rest (within is) = record {
       (no_feed (line_bytes l) one));
   completed = refl;
 }
-torn_by l ls bytes one rest (behind more is begins) =
+torn_by l ls bytes one rest (remaining more is begins) =
     let it = rest more begins in
     let front = text_of_lines (take it.count ls) in
     let line = λ (bs : List ℕ). line_bytes l ++ 10 ∷ bs in

@@ -1,4 +1,4 @@
--- Times of features are not told by a batch.
+-- A batch does not state the times of its features.
 use Rattle.std.proofs.Common.{◌≡◌, ℕ, ◌+◌, List, [], ◌∷◌, map, cond, Option, None, Some, Result, Ok}
 use Rattle.std.proofs.Common.{Err, codes, refl, sym, ap, ap₂, ◌∙◌, nat_eq, nat_lt}
 use Rattle.std.specs.Cmp.Lexicographic.{pointwise}
@@ -19,9 +19,9 @@ use Rattle.streetmap_ledger.specs.declared.reply.Refusal.{Refusal}
 use Rattle.streetmap_ledger.specs.declared.reply.Refusal.TheVariants.{KeyUsed, Full}
 use Rattle.streetmap_ledger.specs.declared.reply.Reply.TheVariants.{Accepted, Repeated, Refused}
 use Rattle.streetmap_replay.specs.Again.{untimed_edit, untimed_batch, ReadBatchIsUntimed}
-use Rattle.streetmap_replay.specs.Again.{TimesAreNotTold}
+use Rattle.streetmap_replay.specs.Again.{TimesDoNotMatter}
 
--- ---- what was read has none
+-- ---- a batch that was read has no times
 
 edit_untimed : (d : Data) (e : EditValue) → IsEdit d e → untimed_edit e ≡ e
 edit_untimed d (edit.«open» name title time) h = refl
@@ -53,7 +53,7 @@ pub read_untimed : ReadBatchIsUntimed
 read_untimed bytes b h = ap (λ es. record { key = b.key; edits = es })
     (edits_untimed h.2.edits_are.0 b.edits h.2.edits_are.2)
 
--- ---- and they change nothing
+-- ---- and times change nothing
 
 data_untimed : (e : EditValue) → edit_data (untimed_edit e) ≡ edit_data e
 unfolding edit_data
@@ -140,5 +140,5 @@ by_key_untimed s b None =
 pub act_untimed : (s : State) (b : BatchValue) → act s (untimed_batch b) ≡ act s b
 act_untimed s b = by_key_untimed s b (get s.keys b.key)
 
-pub times_not_told : TimesAreNotTold
-times_not_told = (act_untimed, text_untimed)
+pub times_do_not_matter : TimesDoNotMatter
+times_do_not_matter = (act_untimed, text_untimed)

@@ -5,7 +5,7 @@ use Rattle.streetmap_batch.specs.BatchValue as edit
 use Rattle.streetmap_batch.specs.BatchValue.{EditValue, BatchValue}
 use Rattle.streetmap_batch.specs.BatchFacts.{IsSoundBatch}
 use Rattle.streetmap_batch.specs.BatchMeaning.{IsBatchText}
-use Rattle.streetmap_batch.specs.BatchReading.{batch_of}
+use Rattle.streetmap_batch.specs.ParsedBatches.{batch_of}
 use Rattle.streetmap_batch.specs.BatchText.{batch_text}
 use Rattle.streetmap_ledger.specs.State.{State}
 use Rattle.streetmap_ledger.specs.Batches.{act}
@@ -30,6 +30,6 @@ abbrev pub ReadBatchIsUntimed : Type 0
 ReadBatchIsUntimed = (bytes : List ℕ) (b : BatchValue) → IsBatchText bytes b → untimed_batch b ≡ b
 
 -- a batch has the same effect without times, and the same text
-abbrev pub TimesAreNotTold : Type 0
-TimesAreNotTold = ((s : State) (b : BatchValue) → act s (untimed_batch b) ≡ act s b) ×
+abbrev pub TimesDoNotMatter : Type 0
+TimesDoNotMatter = ((s : State) (b : BatchValue) → act s (untimed_batch b) ≡ act s b) ×
     ((b : BatchValue) → batch_text (untimed_batch b) ≡ batch_text b)

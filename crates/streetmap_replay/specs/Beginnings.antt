@@ -2,16 +2,16 @@
 use Rattle.std.specs.Prelude.{◌≡◌, ◌+◌, ℕ, max, List, ◌++◌, take, All, Option, None, Some}
 use Rattle.streetmap_batch.specs.BatchValue.{BatchValue}
 use Rattle.streetmap_ledger.specs.State.{State}
-use Rattle.streetmap_replay.specs.Following.{follower}
+use Rattle.streetmap_replay.specs.FollowedLines.{follower}
 use Rattle.streetmap_replay.specs.JournalText.{text_of_lines}
 use Rattle.streetmap_replay.specs.Lines.{Line}
 use Rattle.streetmap_replay.specs.Sittings.{IsLineOf, highest}
-use Rattle.streetmap_text_lines.specs.Reading.{HasNoLineFeed}
+use Rattle.streetmap_text_lines.specs.LineReads.{HasNoLineFeed}
 use Rattle.streetmap_ledger.specs.declared.reply.Fault.{Fault}
 use Rattle.streetmap_ledger.specs.declared.reply.Fault.TheVariants.{Memory, Device, Damaged, Reopen}
 use Rattle.streetmap_replay.specs.declared.line_stop.LineStop.TheVariants as stops
-use Rattle.streetmap_replay.specs.declared.following.End.{End}
-use Rattle.streetmap_replay.specs.declared.following.End.TheVariants as ends
+use Rattle.streetmap_replay.specs.declared.follower.End.{End}
+use Rattle.streetmap_replay.specs.declared.follower.End.TheVariants as ends
 
 -- the input is known: lines of the journal of these batches, in any order and repeated at will, and
 -- maybe a prefix of a line after them
@@ -32,7 +32,7 @@ KeepsBut s Reopen represents = ⊥
 -- follower up to the highest serial among them, or as before
 abbrev pub FollowerBy : List BatchValue → ℕ → List Line → (count : ℕ) → End → (State → Type 0) →
     Type 0
-FollowerBy bs k lines count ends.NotTold represents =
+FollowerBy bs k lines count ends.NotReported represents =
     represents (follower bs (max k (highest (take (count + 1) lines))))
 FollowerBy bs k lines count (ends.Stopped (stops.Stopped fault)) represents =
     KeepsBut (follower bs (max k (highest (take count lines)))) fault represents

@@ -31,10 +31,10 @@ abbrev pub ShutStays : {K : Type 0} → Model K → (old new : K) → LastAnswer
 ShutStays model old new None = new ≡ old
 ShutStays model old new (Some result) = LeavesSame (model.may_leave old) (model.may_leave new)
 
--- any number of calls: they spare what else the store has and take none that failed for clean, and
+-- any number of calls: they keep what else the store has and take none that failed for clean, and
 -- the last answer says what shut the keeper
 pub record AreCalls {K : Type 0} (model : Model K) (old new : K) (last : LastAnswer) : Type 0 where
-  pub spared : model.spares old new
+  pub preserved : model.preserves old new
   pub began_clean : model.is_clean new → model.is_clean old
   pub faults : CallsShut last (model.cause old) (model.cause new)
   pub shut : IsSome (model.cause old) → ShutStays model old new last

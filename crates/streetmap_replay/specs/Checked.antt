@@ -1,7 +1,7 @@
 -- The result of a replay of a keeper's batches.
 use Rattle.std.specs.Prelude.{Result, Ok, Err, map, string_bytes}
 use Rattle.streetmap_ledger.specs.State.{State, opening_state}
-use Rattle.streetmap_replay.specs.Following.{follow}
+use Rattle.streetmap_replay.specs.FollowedLines.{follow}
 use Rattle.streetmap_replay.specs.Journal.{journal}
 use Rattle.streetmap_replay.specs.Lines.{bare}
 use Rattle.streetmap_replay.specs.Replay.{Replays}

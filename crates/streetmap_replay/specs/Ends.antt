@@ -3,7 +3,7 @@ use Rattle.std.specs.Prelude.{◌≡◌, ◌≤◌, ◌<◌, ℕ, List, [], ◌�
 use Rattle.std.specs.Prelude.{Some}
 use Rattle.std.specs.Prelude.{Result, Ok, Err, IfSome}
 use Rattle.std.specs.Io.KnownBytes.{Consumes}
-use Rattle.streetmap_batch.specs.BatchReading.{batch_of}
+use Rattle.streetmap_batch.specs.ParsedBatches.{batch_of}
 use Rattle.streetmap_batch.specs.BatchValue.{BatchValue}
 use Rattle.streetmap_batch.specs.Text.{Text}
 use Rattle.streetmap_batch.specs.declared.batch_fault.BatchFault.{BatchFault}
@@ -11,20 +11,20 @@ use Rattle.streetmap_ledger.specs.Batches.{Outcome}
 use Rattle.streetmap_ledger.specs.Model.{Model}
 use Rattle.streetmap_ledger.specs.State.{State}
 use Rattle.streetmap_ledger.specs.declared.reply.Reply.{Reply}
-use Rattle.streetmap_replay.specs.Following.{line_outcome, follow}
+use Rattle.streetmap_replay.specs.FollowedLines.{line_outcome, follow}
 use Rattle.streetmap_replay.specs.JournalText.{text_of_lines}
 use Rattle.streetmap_replay.specs.Lines.{Line, line_bytes, IsJournalLine}
 use Rattle.streetmap_text_lines.specs.Lines.{first_too_long}
-use Rattle.streetmap_text_lines.specs.Reading.{HasNoLineFeed, WhereKnown}
+use Rattle.streetmap_text_lines.specs.LineReads.{HasNoLineFeed, WhereKnown}
 use Rattle.streetmap_text_lines.specs.declared.fault.LineFault.TheVariants.{LineTooLong, ReadFailed}
 use Rattle.streetmap_text_lines.specs.declared.fault.LineFault.TheVariants.{Memory}
-use Rattle.streetmap_replay.specs.Acting.{Follows}
+use Rattle.streetmap_replay.specs.LineEffects.{Follows}
 use Rattle.streetmap_replay.specs.Calls.{LastAnswer, fails_by}
-use Rattle.streetmap_replay.specs.LineReading.{line_text}
+use Rattle.streetmap_replay.specs.ParsedLines.{line_text}
 use Rattle.streetmap_replay.specs.declared.line_stop.LineStop.TheVariants as stops
-use Rattle.streetmap_replay.specs.declared.following.End.{End}
-use Rattle.streetmap_replay.specs.declared.following.End.TheVariants as ends
-use Rattle.streetmap_replay.specs.declared.following.Followed.{Followed}
+use Rattle.streetmap_replay.specs.declared.follower.End.{End}
+use Rattle.streetmap_replay.specs.declared.follower.End.TheVariants as ends
+use Rattle.streetmap_replay.specs.declared.follower.Followed.{Followed}
 
 -- the most bytes of a line
 abbrev pub most_bytes : ℕ
@@ -49,17 +49,20 @@ answers (line ∷ lines) (reply ∷ replies) =
     (key_in (batch_of (line_text line)), reply) ∷ answers lines replies
 
 -- from the first value to the last these replies were reported, in order
-abbrev pub ToldAll : {T : Type 0} → (T → Text → Reply → T → Type 0) → T → List (Text × Reply) → T →
+abbrev pub ReportsAll : {T : Type 0} → (T → Text → Reply → T → Type 0) → T → List (Text × Reply)
+    → T →
     Type 0
-ToldAll tells first [] last = first ≡ last
-ToldAll {T} tells first (r ∷ rs) last = (mid : T) × tells first r.0 r.1 mid ×
-    ToldAll tells mid rs last
+ReportsAll reports first [] last = first ≡ last
+ReportsAll {T} reports first (r ∷ rs) last = (mid : T) × reports first r.0 r.1 mid ×
+    ReportsAll reports mid rs last
 
 -- the replies were reported, and no other; if one was not reported, nothing is known of that one
-abbrev pub TellsBy : {T : Type 0} → (T → Text → Reply → T → Type 0) → T → T → List (Text × Reply) →
+abbrev pub ReportsBy : {T : Type 0} → (T → Text → Reply → T → Type 0) → T → T
+    → List (Text × Reply) →
     End → Type 0
-TellsBy {T} tells first last replies ends.NotTold = (mid : T) × ToldAll tells first replies mid
-TellsBy tells first last replies end = ToldAll tells first replies last
+ReportsBy {T} reports first last replies ends.NotReported = (mid : T)
+    × ReportsAll reports first replies mid
+ReportsBy reports first last replies end = ReportsAll reports first replies last
 
 -- it ended in this state, after these lines of the input
 abbrev pub FollowingEndsBy : {K : Type 0} → Model K → (old new : K) → State → List Line
@@ -78,21 +81,21 @@ FollowingEndsBy model old new t read input rest (ends.NotRead Memory) = model.re
 FollowingEndsBy model old new t read input rest (ends.Stopped stop) =
     (line : Line) × IsInputLine line × Consumes input rest (text_of_lines (read ++ line ∷ []))
     × Follows model old new t (line_outcome t line) (Err stop)
-FollowingEndsBy model old new t read input rest ends.NotTold =
+FollowingEndsBy model old new t read input rest ends.NotReported =
     (line : Line) × IsInputLine line × Consumes input rest (text_of_lines (read ++ line ∷ []))
     × ((o : Outcome) × (line_outcome t line ≡ Ok o) × model.represents new o.state)
 
 -- this number of the first lines of the input were followed from this state on and their replies
 -- reported, and how it ended then
 pub record FollowsLines {K T : Type 0} (model : Model K) (old new : K) (s : State)
-    (input rest : Option (List ℕ)) (tells : T → Text → Reply → T → Type 0) (first last : T)
+    (input rest : Option (List ℕ)) (reports : T → Text → Reply → T → Type 0) (first last : T)
     (result : Followed) : Type 0 where
   pub read : List Line
   pub counted : length read ≡ result.count
   pub lines : All IsInputLine read
   pub front : IfSome input (λ bytes. (left : List ℕ) × (bytes ≡ text_of_lines read ++ left))
   pub followed : (follow s read).fault ≡ None
-  pub told : TellsBy tells first last (answers read (follow s read).replies) result.end
+  pub reported : ReportsBy reports first last (answers read (follow s read).replies) result.end
   pub ends : FollowingEndsBy model old new (follow s read).state read input rest result.end
 
 -- the answer of the keeper that ended it, if it was a fault

@@ -9,9 +9,9 @@ use Rattle.streetmap_text_lines.specs.declared.fault.LineFault.TheVariants.{Line
 use Rattle.streetmap_text_lines.specs.declared.fault.LineFault.TheVariants.{Memory}
 use Rattle.streetmap_replay.specs.declared.line_stop.LineStop.{LineStop}
 use Rattle.streetmap_replay.specs.declared.line_stop.LineStop.TheVariants as stops
-use Rattle.streetmap_replay.specs.declared.following.End.{End}
-use Rattle.streetmap_replay.specs.declared.following.End.TheVariants.{All, Stopped, CutLine}
-use Rattle.streetmap_replay.specs.declared.following.End.TheVariants.{NotRead, NotTold}
+use Rattle.streetmap_replay.specs.declared.follower.End.{End}
+use Rattle.streetmap_replay.specs.declared.follower.End.TheVariants.{All, Stopped, CutLine}
+use Rattle.streetmap_replay.specs.declared.follower.End.TheVariants.{NotRead, NotReported}
 
 unfoldable pub stop_code : LineStop → Text
 stop_code (stops.Unread fault) = code_of fault
@@ -44,18 +44,18 @@ end_code All = None
 end_code (Stopped stop) = Some (stop_code stop)
 end_code CutLine = Some (codes "cut_line")
 end_code (NotRead fault) = Some (read_code fault)
-end_code NotTold = Some (codes "write_failed")
+end_code NotReported = Some (codes "write_failed")
 
 abbrev pub end_place : End → Option ℕ
 end_place All = None
 end_place (Stopped stop) = stop_place stop
 end_place CutLine = None
 end_place (NotRead fault) = None
-end_place NotTold = None
+end_place NotReported = None
 
 abbrev pub end_cause : End → Option Fault
 end_cause All = None
 end_cause (Stopped stop) = stop_cause stop
 end_cause CutLine = None
 end_cause (NotRead fault) = None
-end_cause NotTold = None
+end_cause NotReported = None

@@ -2,7 +2,7 @@
 use Rattle.std.specs.Prelude.{◌≡◌, ◌≤◌, ◌+◌, ℕ, Bool, true, false, Option, None, Some}
 use Rattle.std.specs.Prelude.{Result, Ok, Err, map, take, if◌then◌else◌}
 use Rattle.std.specs.FinMap.{get}
-use Rattle.streetmap_batch.specs.BatchReading.{batch_of}
+use Rattle.streetmap_batch.specs.ParsedBatches.{batch_of}
 use Rattle.streetmap_batch.specs.BatchValue.{BatchValue}
 use Rattle.streetmap_batch.specs.Text.{Text}
 use Rattle.streetmap_batch.specs.declared.batch_fault.BatchFault.{BatchFault}
@@ -10,7 +10,7 @@ use Rattle.streetmap_ledger.specs.Kept.{KeyedBatch, batch_count, batch_in}
 use Rattle.streetmap_ledger.specs.Batches.{act, kept_for}
 use Rattle.streetmap_ledger.specs.Laws.{is_accepted}
 use Rattle.streetmap_ledger.specs.State.{State, AcceptedBatch, opening_state}
-use Rattle.streetmap_replay.specs.Following.{follow, Arrives}
+use Rattle.streetmap_replay.specs.FollowedLines.{follow, Arrives}
 use Rattle.streetmap_replay.specs.Journal.{journal}
 use Rattle.streetmap_replay.specs.Lines.{bare}
 use Rattle.streetmap_replay.specs.Stops.{IsForeseen}

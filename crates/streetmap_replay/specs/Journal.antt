@@ -10,14 +10,14 @@ use Rattle.streetmap_ledger.specs.Batches.{act, after_all}
 use Rattle.streetmap_ledger.specs.Laws.{is_accepted, accepted_of}
 use Rattle.streetmap_ledger.specs.WellFormed.{IsState}
 use Rattle.streetmap_ledger.specs.Kept.{KeyedBatch, batch_count, batch_in}
-use Rattle.streetmap_ledger.specs.Kept.{batches_next, batches_behind}
+use Rattle.streetmap_ledger.specs.Kept.{batches_next, batches_after}
 
 -- the text of a kept batch
 abbrev pub kept_text : KeyedBatch → Text
 kept_text b = b.1.text
 
 abbrev pub journal : State → List Text
-journal s = map kept_text (batches_behind s 0)
+journal s = map kept_text (batches_after s 0)
 
 -- the text of a batch that was accepted
 abbrev pub text_if : Bool → BatchValue → List Text

@@ -8,12 +8,12 @@ pub mod Again
 pub mod Journal
 pub mod Lines
 pub mod JournalText
-pub mod Following
+pub mod FollowedLines
 pub mod Sittings
 pub mod Replay
 pub mod View
-pub mod Acting
-pub mod LineReading
+pub mod LineEffects
+pub mod ParsedLines
 pub mod Ends
 pub mod Replies
 pub mod FollowNames

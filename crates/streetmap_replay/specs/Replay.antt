@@ -7,7 +7,7 @@ use Rattle.streetmap_ledger.specs.WellFormed.{IsState}
 use Rattle.streetmap_batch.specs.BatchFacts.{IsSoundBatch}
 use Rattle.streetmap_replay.specs.Journal.{journal}
 use Rattle.streetmap_replay.specs.Lines.{bare}
-use Rattle.streetmap_replay.specs.Following.{Arrives, follow}
+use Rattle.streetmap_replay.specs.FollowedLines.{Arrives, follow}
 
 -- all texts of its journal are followed from the opening state on, and they give it: its
 -- collections, and its keys with their texts, counts and serials

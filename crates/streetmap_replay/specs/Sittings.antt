@@ -6,7 +6,7 @@ use Rattle.streetmap_ledger.specs.Batches.{after_all}
 use Rattle.streetmap_batch.specs.BatchFacts.{IsSoundBatch}
 use Rattle.streetmap_replay.specs.Lines.{Line, bare, numbered}
 use Rattle.streetmap_replay.specs.JournalText.{journal_lines}
-use Rattle.streetmap_replay.specs.Following.{follow, follower}
+use Rattle.streetmap_replay.specs.FollowedLines.{follow, follower}
 
 -- the state after sittings: in each, lines are followed up to the first that is not, and the next
 -- goes on with the state that it left
@@ -24,7 +24,7 @@ followed_in s [] = []
 followed_in s (lines ∷ later) =
     followed_of s lines ++ followed_in (follow s lines).state later
 
--- the highest serial of lines, 0 if there is none
+-- the highest serial of lines, 0 if none has one
 abbrev pub highest : List Line → ℕ
 highest [] = 0
 highest (bare text ∷ lines) = highest lines

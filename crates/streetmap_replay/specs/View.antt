@@ -1,7 +1,7 @@
 -- A line of the code as a plain value.
 use Rattle.std.specs.Prelude.{ℕ, List, Option, None, Some}
 use Rattle.streetmap_replay.specs.Lines.{Line as LineValue, bare, numbered}
-use Rattle.streetmap_replay.specs.declared.reading.Line.{Line}
+use Rattle.streetmap_replay.specs.declared.line_bytes.Line.{Line}
 
 -- a text with its serial, if it has one
 abbrev pub line_with : Option ℕ → List ℕ → LineValue

@@ -28,7 +28,7 @@ enum PageEnd {
 }
 
 /// The query for a page of a thousand features after an id.
-fn query_behind(after: Option<Id>) -> Query
+fn query_after(after: Option<Id>) -> Query
     ensures { query_value result ≡ part_query after }
 {
     Query {
@@ -102,7 +102,7 @@ pub(crate) fn has_same_features<K: Keeper, L: Keeper>(
 {
     let mut after = None;
     for _turn in 0..u64::MAX {
-        let query = query_behind(after);
+        let query = query_after(after);
         let ours = match keeper.page(name, &query) {
             Ok(Some(page)) => page,
             Ok(None) => return Ok(false),

@@ -1,11 +1,11 @@
 //! Laws of the definitions.
 ghost use Rattle.streetmap_replay.specs.Again.{BatchTextReadsAgain, ReadBatchIsUntimed};
-ghost use Rattle.streetmap_replay.specs.Again.{TimesAreNotTold};
+ghost use Rattle.streetmap_replay.specs.Again.{TimesDoNotMatter};
 ghost use Rattle.streetmap_replay.specs.Journal.{JournalGrows, JournalIsWhole};
 ghost use Rattle.streetmap_replay.specs.Lines.{LinesAreOne};
 ghost use Rattle.streetmap_replay.specs.JournalText.{JournalReadsInLines, BeginningsAreTorn};
-ghost use Rattle.streetmap_replay.specs.Following.{FollowersGoOn, FollowersAreBeginnings};
-ghost use Rattle.streetmap_replay.specs.Following.{FollowersArrive, LinesComeInOrder};
+ghost use Rattle.streetmap_replay.specs.FollowedLines.{FollowersGoOn, FollowersAreBeginnings};
+ghost use Rattle.streetmap_replay.specs.FollowedLines.{FollowersArrive, LinesComeInOrder};
 ghost use Rattle.streetmap_replay.specs.Sittings.{SittingsAddUp};
 ghost use Rattle.streetmap_replay.specs.Replay.{StatesReplay};
 
@@ -14,7 +14,7 @@ ghost use Rattle.streetmap_replay.specs.Replay.{StatesReplay};
 pub fn batch_text_reads_again()
     ensures again { BatchTextReadsAgain }
     ensures untimed { ReadBatchIsUntimed }
-    ensures acts { TimesAreNotTold }
+    ensures acts { TimesDoNotMatter }
 {}
 
 /// The journal of a state is the texts of the accepted batches, in order.

@@ -10,7 +10,7 @@
 //! `follow_lines` reads lines of a journal, or batches alone, from a reader, in order, and applies
 //! the batch of each to any keeper that returns the batches it keeps: of a journal's line if its
 //! serial is the next one, or that of its key. It reports the reply to each, and ends at the first
-//! line that is not followed. So the same lines, given again, go on where it ended, since a batch
+//! line that is not followed. So the same lines, given again, continue from there, since a batch
 //! that was accepted before is repeated. `specs/Ends` is its result.
 //!
 //! `check_replay` follows the texts of the batches that a keeper keeps, in order of their serials,
@@ -18,37 +18,37 @@
 //! returns success exactly if the replay of the state is the state, and else the first batch or the
 //! first collection that the texts do not reproduce (`specs/Given`, `specs/Checked`).
 //!
-//! Modules, in the order of reading: `length`, `laws`; for following `line_stop`, `reading` (bytes
-//! as a line), `serial` (which serial is the next), `acting` (one line), `replies` (where replies
-//! are reported), `following`, `writing` (replies as text), `names` (of faults); for replaying
-//! `fault`, `batches` (each reproduced from its text), `features` and `collections` (what two
-//! keepers show), `replaying` (the whole).
+//! Modules, in the order of reading: `length`, `laws`; for following `line_stop`, `line_bytes`
+//! (bytes as a line), `serial` (which serial is the next), `actions` (one line), `replies` (where
+//! replies are reported), `follower`, `reply_lines` (replies as text), `names` (of faults); for
+//! replaying `fault`, `batches` (each reproduced from its text), `features` and `collections` (what
+//! two keepers show), `comparison` (the whole).
 #![tactic(auto)]
 
-mod acting;
+mod actions;
 mod batches;
 mod collections;
+mod comparison;
 mod fault;
 mod features;
-mod following;
+mod follower;
 pub mod laws;
 mod length;
+mod line_bytes;
 mod line_stop;
 mod names;
-mod reading;
-mod replaying;
 mod replies;
+mod reply_lines;
 mod serial;
-mod writing;
 
-pub use acting::{Acknowledged, follow_line};
+pub use actions::{Acknowledged, follow_line};
 pub use batches::replay;
 pub use collections::compare_collections;
+pub use comparison::check_replay;
 pub use fault::{ReplayFault, ReplayStop};
-pub use following::{End, Followed, follow_lines};
+pub use follower::{End, Followed, follow_lines};
 pub use length::MAX_LINE;
+pub use line_bytes::{Line, read_line};
 pub use line_stop::LineStop;
-pub use reading::{Line, read_line};
-pub use replaying::check_replay;
-pub use replies::{NotTold, Replies};
-pub use writing::ReplyLines;
+pub use replies::{NotReported, Replies};
+pub use reply_lines::ReplyLines;

@@ -9,7 +9,7 @@ pub enum LineStop {
     Unread(BatchFault),
     /// Its serial is neither the next one nor that of its key.
     NotNext,
-    /// Its batch is refused, with the place of the edit at fault, if there is one.
+    /// Its batch is refused, with the place of the edit at fault, if any.
     Refused(Refusal, Option<u64>),
     /// The keeper answered with a fault.
     Stopped(Fault),

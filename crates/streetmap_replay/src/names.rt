@@ -3,7 +3,7 @@ ghost use Rattle.std.specs.Prelude.{◌≡◌, option_map};
 ghost use Rattle.streetmap_replay.specs.FollowNames.{stop_code, stop_place, stop_cause, read_code};
 ghost use Rattle.streetmap_replay.specs.FollowNames.{end_code, end_place, end_cause};
 
-use crate::following::End;
+use crate::follower::End;
 use crate::line_stop::LineStop;
 use streetmap_geojson::Fault as FeatureFault;
 use streetmap_text_lines::LineFault;
@@ -69,7 +69,7 @@ impl End {
             End::Stopped(stop) => Some(stop.code()),
             End::CutLine => Some("cut_line"),
             End::NotRead(fault) => Some(code_of_read(*fault)),
-            End::NotTold => Some("write_failed"),
+            End::NotReported => Some("write_failed"),
         }
     }
 

@@ -9,14 +9,14 @@ use streetmap_ledger::Reply;
 
 /// A reply was not reported.
 #[derive(Clone, Copy, Drop)]
-pub struct NotTold;
+pub struct NotReported;
 
 /// Receives the replies to lines.
 pub trait Replies {
     /// From the first value to the second it received this reply to the batch with this key.
-    ghost tells: { Self → Text → Reply → Self → Type 0 };
+    ghost reports: { Self → Text → Reply → Self → Type 0 };
 
     /// Receives the reply to a batch. No memory should be allocated, since the batch has acted.
-    fn tell(&mut self, batch: &Batch, reply: Reply) -> Result<(), NotTold>
-        ensures { OnOk result (tells self.old (batch_value batch.now).key reply self.new) };
+    fn report(&mut self, batch: &Batch, reply: Reply) -> Result<(), NotReported>
+        ensures { OnOk result (reports self.old (batch_value batch.now).key reply self.new) };
 }

@@ -3,7 +3,7 @@ ghost use Rattle.std.specs.Prelude.{◌≡◌};
 ghost use Rattle.std.specs.FinMap.{get};
 ghost use Rattle.streetmap_batch.specs.BatchView.{batch_value};
 ghost use Rattle.streetmap_ledger.specs.Keep.{IsRead};
-ghost use Rattle.streetmap_replay.specs.Following.{is_under, is_next as is_next_in};
+ghost use Rattle.streetmap_replay.specs.FollowedLines.{is_under, is_next as is_next_in};
 
 use streetmap_batch::Batch;
 use streetmap_ledger::{Fault, KeepsBatches};

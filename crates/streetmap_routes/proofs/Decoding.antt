@@ -3,7 +3,7 @@ use Rattle.std.proofs.Common.{◌≡◌, List, ℕ, Bool, true, false, refl, sym
 use Rattle.std.specs.Prelude.{Option, MatchOption, IsUtf8, option_map, string_bytes, if◌then◌else◌}
 use Rattle.std.specs.Str.{is_utf8}
 use Rattle.std.proofs.lemmas.Str.{IsUtf8-from_is_utf8, is_utf8-from_IsUtf8, IsUtf8-string_bytes}
-use Rattle.streetmap_routes.specs.Ask.{if_text}
+use Rattle.streetmap_routes.specs.Operations.{if_text}
 
 none_is : (bytes : List ℕ) (b : Bool) → is_utf8 bytes ≡ b → (IsUtf8 bytes → ⊥) → ◌≡◌ {A = Option (List ℕ)} None (if b then Some bytes else None)
 none_is bytes true e h = absurd (h (IsUtf8-from_is_utf8 bytes e))

@@ -1,4 +1,4 @@
--- Which route a path finds, whatever names stand in it.
+-- Which route a path finds, whatever names it contains.
 use Rattle.std.proofs.Common.{◌≡◌, ◌≢◌, ℕ, suc, zero, ◌<◌, ◌-◌, ◌++◌, List, [], ◌∷◌, Bool, true, false, cond, length, drop, Some, None, refl, sym, subst, ap, ◌∙◌, arith, codes, inl, inr, ◌⊎◌, length-append, append-nil}
 use Rattle.std.proofs.Math.Seq.{drop-append_seam}
 use Rattle.std.proofs.lemmas.Bool.{ne_eqb, lt-ltb}
@@ -10,7 +10,7 @@ use Rattle.matchit.specs.Route.{scan}
 use Rattle.matchit.specs.Router.{RouteOf}
 use Rattle.matchit.specs.Seek.{segment, has_slash, cuts, better, own, step, or_else, longest_from, longest_suffix, with_suffix, param_step, seek}
 use Rattle.streetmap_routes.specs.Routes.{put, the_rows}
-use Rattle.streetmap_routes.specs.Ask.{route_of}
+use Rattle.streetmap_routes.specs.Operations.{route_of}
 use Rattle.streetmap_routes.specs.Paths.{HasNoSlash, IsSegment, EachFindsItsRoute}
 use Rattle.streetmap_routes.specs.declared.routes.Route.{Route}
 use Rattle.streetmap_routes.specs.declared.routes.Route.TheVariants.{Collection, Items, Item}
@@ -26,7 +26,7 @@ no_slash : (name : List ℕ) → HasNoSlash name → has_slash name ≡ false
 no_slash [] plain = refl
 no_slash (b ∷ bs) plain = ap (λ v. cond v true (has_slash bs)) (ne_eqb b 47 plain.1) ∙ no_slash bs plain.2
 
--- and before a slash its segment has the slash too
+-- and if a slash follows, its segment includes the slash
 segment_before : (name rest : List ℕ) → HasNoSlash name → segment (name ++ 47 ∷ rest) ≡ name ++ 47 ∷ []
 segment_before [] rest plain = refl
 segment_before (b ∷ bs) rest plain =
@@ -50,7 +50,7 @@ no_cut (b ∷ bs) is =
     let n : length (b ∷ bs) - 1 ≡ length bs = omega arith in
     and_false (ltb 1 (length (b ∷ bs))) _ (ap (λ k. pointwise nat_eq (47 ∷ []) (drop k (b ∷ bs))) n ∙ no_slash_last b bs is.plain)
 
--- but with a slash behind it it does
+-- but a name followed by a slash does
 cut_before : (name : List ℕ) → IsSegment name → cuts (name ++ 47 ∷ []) (47 ∷ []) ≡ true
 cut_before name is =
     let seg = name ++ 47 ∷ [] in
@@ -67,7 +67,7 @@ module _ {K : Type 0} where
   BeginWithParam (([], key) ∷ rest) = ⊥
   BeginWithParam ((x ∷ t, key) ∷ rest) = (x ≡ 256) × BeginWithParam rest
 
-  -- a byte goes on with none of them
+  -- no row continues with a byte
   no_step : (b : ℕ) (rows : RowsOf K) → b < 256 → BeginWithParam rows → step b rows ≡ []
   no_step b [] small all = refl
   no_step b (([], key) ∷ rest) small all = absurd all
@@ -141,7 +141,7 @@ module _ {K : Type 0} where
   skipped [] rows path = refl
   skipped (b ∷ bs) rows path = skipped bs rows path
 
-  -- the rows that go on with these bytes
+  -- the rows that continue with these bytes
   steps : List ℕ → RowsOf K → RowsOf K
   steps [] rows = rows
   steps (b ∷ bs) rows = steps bs (step b rows)
@@ -154,7 +154,7 @@ module _ {K : Type 0} where
     first_found None b found = cc
     first_found (Some key) b found = found
 
-    -- past bytes that stand in the rows
+    -- past bytes that the rows contain
     walked : (front : List ℕ) (rows : RowsOf K) (path : List ℕ) → Finds (seek 0 (steps front rows) path) → Finds (seek 0 rows (front ++ path))
     unfolding seek steps
     walked [] rows path found = found
@@ -190,21 +190,21 @@ module _ {K : Type 0} where
 
 -- ---- the eight paths
 
--- behind `/collections/`, a name, and `/items/`
+-- after `/collections/`, a name, and `/items/`
 at_collections : RowsOf (RouteOf Route)
 at_collections = steps (codes "/collections/") the_rows
 
-behind_name : RowsOf (RouteOf Route)
-behind_name = with_suffix (47 ∷ []) (step 256 at_collections)
+after_name : RowsOf (RouteOf Route)
+after_name = with_suffix (47 ∷ []) (step 256 at_collections)
 
 at_items : RowsOf (RouteOf Route)
-at_items = steps (codes "/items/") behind_name
+at_items = steps (codes "/items/") after_name
 
 value_of : RouteOf Route → Route
 value_of row = row.value
 
 pub each_finds_its_route : EachFindsItsRoute
-unfolding route_of the_rows put scan seek param_step steps at_collections behind_name at_items value_of
+unfolding route_of the_rows put scan seek param_step steps at_collections after_name at_items value_of
 each_finds_its_route = record {
   landing = refl;
   api = refl;
@@ -216,6 +216,6 @@ each_finds_its_route = record {
       (name_goes value_of Items name (codes "items") at_collections is (refl, (refl, (refl, tt))) (refl, (inr refl, (inl refl, tt))) refl);
   item = λ name id is named. walked value_of Item (codes "/collections/") the_rows (name ++ (codes "/items/" ++ id))
       (name_goes value_of Item name (codes "items/" ++ id) at_collections is (refl, (refl, (refl, tt))) (refl, (inr refl, (inl refl, tt)))
-      (walked value_of Item (codes "/items/") behind_name id (name_ends value_of Item id at_items named (refl, tt) (inl refl, tt) refl)));
+      (walked value_of Item (codes "/items/") after_name id (name_ends value_of Item id at_items named (refl, tt) (inl refl, tt) refl)));
   batches = refl;
 }

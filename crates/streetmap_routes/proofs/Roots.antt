@@ -28,7 +28,7 @@ from_path_is : (path : List ℕ) (query fragment : Option (List ℕ)) → path �
 from_path_is path query fragment p q f =
     ap (λ l. from_path l query fragment) p ∙ ap (λ o. from_path (codes "/") o fragment) q ∙ ap (λ o. from_path (codes "/") None o) f
 
--- what stands before the path of a base, and the slash
+-- the part of a base before its path, and the slash
 pub root_and_slash : (url : Parts) → IsBase url → text_between url BeforeScheme BeforePath ++ codes "/" ≡ serialize url
 root_and_slash url is =
     pieces_then url.scheme (if has_authority url then codes "://" else codes ":") url.username (when (not (is_empty url.password)) (codes ":")) url.password

@@ -8,7 +8,7 @@ unfoldable pub code_of : BaseFault → List ℕ
 code_of BadBase = codes "bad_base"
 code_of Memory = codes "memory"
 
--- the sentence; empty if there is none
+-- the sentence; empty if the fault has none
 unfoldable pub description_of : BaseFault → List ℕ
 description_of BadBase = codes ""
 description_of Memory = codes "Memory was refused; the call may be made again."

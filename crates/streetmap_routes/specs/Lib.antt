@@ -1,6 +1,6 @@
 pub mod Routes
-pub mod Ask
-pub mod AskView
+pub mod Operations
+pub mod OperationView
 pub mod BaseUrl
 pub mod BaseView
 pub mod BaseFaults

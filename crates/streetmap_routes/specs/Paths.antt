@@ -1,7 +1,7 @@
 -- Which route each of the eight paths finds. OGC 17-069, section 7.
 use Rattle.std.specs.Prelude.{◌≡◌, ◌≢◌, ◌<◌, ◌++◌, [], ◌∷◌, length, Some, codes, ⊤}
 use Rattle.streetmap_batch.specs.Text.{Text}
-use Rattle.streetmap_routes.specs.Ask.{route_of}
+use Rattle.streetmap_routes.specs.Operations.{route_of}
 use Rattle.streetmap_routes.specs.declared.routes.Route.TheVariants.{Landing, Api, Conformance}
 use Rattle.streetmap_routes.specs.declared.routes.Route.TheVariants.{Collections, Collection, Items}
 use Rattle.streetmap_routes.specs.declared.routes.Route.TheVariants.{Item, Batches}

@@ -5,7 +5,7 @@ ghost use Rattle.streetmap_routes.specs.BaseUrl.{IsBase, is_web as is_web_of};
 ghost use Rattle.streetmap_routes.specs.BaseFaults.{code_of, description_of};
 ghost use Rattle.streetmap_routes.specs.Routes.{the_rows};
 
-use crate::asks::{Ask, ask_for};
+use crate::operations::{Operation, operation_for};
 use crate::routes::{Route, make_router};
 use matchit::Router;
 use std::alloc::{AllocError, Global};
@@ -53,14 +53,14 @@ fn is_web(url: &Url) -> bool
     scheme == "http" || scheme == "https"
 }
 
-/// Whether there is no user name and no password.
+/// Whether a URL has no user name and no password.
 fn has_no_user(url: &Url) -> bool
     ensures { IsTrue result ↔ ((url.now.username ≡ []) × (url.now.password ≡ [])) }
 {
     url.username().is_empty() && url.password().is_none()
 }
 
-/// Whether there is no query and no fragment.
+/// Whether a URL has no query and no fragment.
 fn has_no_query(url: &Url) -> bool
     ensures { IsTrue result ↔ ((url.now.query ≡ None) × (url.now.fragment ≡ None)) }
 {
@@ -102,8 +102,8 @@ pub struct Base {
 impl Base {
     ghost use Rattle.std.specs.Prelude.{IfOk, IsErrOf};
     ghost use Rattle.url.specs.Parts.{Parts};
-    ghost use Rattle.streetmap_routes.specs.Ask.{ask_of};
-    ghost use Rattle.streetmap_routes.specs.AskView.{ask_value};
+    ghost use Rattle.streetmap_routes.specs.Operations.{operation_of};
+    ghost use Rattle.streetmap_routes.specs.OperationView.{operation_value};
     ghost use Rattle.streetmap_routes.specs.BaseUrl.{ReadsBase};
     ghost use Rattle.streetmap_routes.specs.BaseView.{url_of, root_of};
 
@@ -146,20 +146,21 @@ impl Base {
         without_slash(&self.url)
     }
 
-    /// What a request asks for, by its method, its target and its body (OGC 17-069, section 7).
+    /// What a request wants, by its method, its target and its body (OGC 17-069, section 7).
     ///
     /// # Errors
     ///
     /// Only that memory runs out.
-    pub fn ask(
+    pub fn operation(
         &self,
         alloc: Global,
         method: &[u8],
         target: &str,
         body: &[u8],
-    ) -> Result<Ask, AllocError>
-        ensures { IfOk result (λ ask. ask_value ask ≡ ask_of method.now target.now body.now) }
+    ) -> Result<Operation, AllocError>
+        ensures { IfOk result (λ operation. operation_value operation
+            ≡ operation_of method.now target.now body.now) }
     {
-        ask_for(alloc, &self.router, method, target, body)
+        operation_for(alloc, &self.router, method, target, body)
     }
 }

@@ -4,8 +4,8 @@ ghost use Rattle.std.specs.Prelude.{slice_get, string_bytes};
 ghost use Rattle.percent_encoding.specs.Percent.{percent_decode as percent_decode_of};
 ghost use Rattle.std.specs.List.{slice_split};
 ghost use Rattle.streetmap_routes.specs.Routes.{the_rows, put};
-ghost use Rattle.streetmap_routes.specs.Ask as spec;
-ghost use Rattle.streetmap_routes.specs.AskView.{resource_value};
+ghost use Rattle.streetmap_routes.specs.Operations as spec;
+ghost use Rattle.streetmap_routes.specs.OperationView.{resource_value};
 
 use matchit::{InsertError, Router};
 use percent_encoding::{DecodeError, percent_decode};
@@ -74,7 +74,7 @@ pub(crate) fn make_router(alloc: Global) -> Result<Router<Route>, InsertError>
 }
 
 /// The route of a path.
-#[tactic(auto, unfolding(crate::specs::Ask::route_of))]
+#[tactic(auto, unfolding(crate::specs::Operations::route_of))]
 fn route_of(router: &Router<Route>, path: &str) -> Option<Route>
     requires { router.now ≡ the_rows }
     ensures { result ≡ spec.route_of path.now }
@@ -163,7 +163,7 @@ fn resource_by(alloc: Global, path: &str, route: Route) -> Result<Option<Resourc
 }
 
 /// The resource of a path.
-#[tactic(auto, unfolding(crate::specs::Ask::resource_at))]
+#[tactic(auto, unfolding(crate::specs::Operations::resource_at))]
 pub(crate) fn find_resource(
     alloc: Global,
     router: &Router<Route>,

@@ -1,4 +1,4 @@
--- What a query over one table shows of its rows, where it names no order.
+-- What a query over one table shows of its rows, if it names no order.
 use Rattle.std.proofs.Common.{nat_le, ◌^◌, ◌≡◌, ℕ, List, [], ◌∷◌, map, filter, false}
 use Rattle.std.proofs.Common.{Option, Some, refl, sym, ap, ap₂, subst, ◌∙◌, inl, inr}
 use Rattle.std.specs.List.{IsDistinct, swap}
@@ -70,17 +70,17 @@ pub record AreEachOnce {V : Type 0} (value_of : Text → Option V) (view : Text 
 module _ {V : Type 0} (value_of : Text → Option V) (view : Text → V → Row) (at : ℕ)
     (show : Row → Row) where
   -- the entries of rows
-  record Told (rows : List Row) : Type 0 where
+  record IsReported (rows : List Row) : Type 0 where
     pub es : List (Text × V)
     pub names : map (λ e. e.0) es ≡ map (text_in at) rows
     pub is : map show rows ≡ map (λ e. view e.0 e.1) es
     pub each : (e : Text × V) → Has es e → value_of e.0 ≡ Some e.1
 
-  told : (rows : List Row) → ((r : Row) → Has rows r → Says value_of view at show r) → Told rows
-  told [] says = record { es = []; names = refl; is = refl; each = λ e h. absurd h }
-  told (r ∷ rows) says =
+  reported : (rows : List Row) → ((r : Row) → Has rows r → Says value_of view at show r) → IsReported rows
+  reported [] says = record { es = []; names = refl; is = refl; each = λ e h. absurd h }
+  reported (r ∷ rows) says =
       let it = says r (inl refl) in
-      let more = told rows (λ x h. says x (inr h)) in
+      let more = reported rows (λ x h. says x (inr h)) in
       record {
         es = (text_in at r, it.value) ∷ more.es;
         names = ap (λ l. text_in at r ∷ l) more.names;
@@ -88,7 +88,7 @@ module _ {V : Type 0} (value_of : Text → Option V) (view : Text → V → Row)
         each = λ e h. is_said r it more e h;
       }
     where
-      is_said : (r : Row) (it : Says value_of view at show r) (more : Told rows) (e : Text × V)
+      is_said : (r : Row) (it : Says value_of view at show r) (more : IsReported rows) (e : Text × V)
           → Has ((text_in at r, it.value) ∷ more.es) e → value_of e.0 ≡ Some e.1
       is_said r it more e (inl same) =
           subst (λ (x : Text × V). value_of x.0 ≡ Some x.1) (sym same) it.is
@@ -129,8 +129,8 @@ module _ (tree : ℕ) (tests project : List Term) (at : ℕ) (params : Row) {V :
     back : (r : Row) → Has turned.turned r → Has rows r
     back r h = moved turned.turned rows r (IsPermutation-sym _ _ turned.same) h
 
-    of_each : Told value_of view at show turned.turned
-    of_each = told value_of view at show turned.turned (λ r h. of.each r (back r h))
+    of_each : IsReported value_of view at show turned.turned
+    of_each = reported value_of view at show turned.turned (λ r h. of.each r (back r h))
 
     -- the query shows each row of the table that passes once
     pub shows_each : AreEachOnce value_of view shown

@@ -1,4 +1,4 @@
--- What our statements mean, wherever our tables stand.
+-- What our statements mean, wherever our tables are.
 use Rattle.std.proofs.Common.{◌≡◌, ℕ, ◌+◌, List, [], ◌∷◌, codes, Ok, refl, Some, None, true, arith}
 use Rattle.std.proofs.Common.{slice_get}
 use Rattle.sqlite.specs.declared.types.Value.TheVariants.{Text as Words}

@@ -1,4 +1,4 @@
--- What a stop may leave of a database of a state.
+-- What a crash may leave of a database of a state.
 use Rattle.std.proofs.Common.{◌≡◌, inl, inr, Some, sym, ap, subst, ◌∙◌}
 use Rattle.sqlite.specs.Effect.{Database}
 use Rattle.sqlite.specs.State.{State as Seen}
@@ -7,7 +7,7 @@ use Rattle.streetmap_batch.specs.BatchValue.{BatchValue}
 use Rattle.streetmap_ledger.specs.State.{State}
 use Rattle.streetmap_ledger.specs.Batches.{act}
 use Rattle.streetmap_ledger.specs.Keep.{LeavesOnly, LeavesEither}
-use Rattle.streetmap_rows.specs.Keeping.{Rests, AreTreesOf, MayLeave, MayBecome}
+use Rattle.streetmap_rows.specs.KeptStates.{Rests, AreTreesOf, MayLeave, MayBecome}
 use Rattle.streetmap_rows.proofs.OneState.{one_kept, trees_of_one}
 
 -- an open connection leaves its last commit

@@ -1,4 +1,4 @@
--- What the DELETE of a feature that is there does, and that it is not refused.
+-- What the DELETE of an existing feature does, and that it is not refused.
 use Rattle.std.proofs.Common.{nat_le, ◌^◌, eq-eqb, ◌≡◌, inl, inr, ℕ, ℤ, List, [], ◌∷◌, map, Bool, true, false, ◌&&◌, cond, drop, find, Option, Some, None, option_map, refl, sym, ap, ap₂, subst, ◌∙◌}
 use Rattle.std.specs.Prelude.{option_and_then}
 use Rattle.std.specs.List.{list_all}

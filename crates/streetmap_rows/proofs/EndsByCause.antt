@@ -2,11 +2,11 @@
 use Rattle.std.proofs.Common.{inl, sym, subst}
 use Rattle.sqlite.specs.declared.error.Error.{Error}
 use Rattle.sqlite.specs.State.{State as Seen}
-use Rattle.streetmap_rows.specs.Failing.{IsOfStore}
-use Rattle.streetmap_rows.specs.Settling.{IsCause, Settles}
-use Rattle.streetmap_rows.specs.declared.failing.Shut.{Shut}
-use Rattle.streetmap_rows.specs.declared.failing.Shut.TheVariants.{Device, Damaged}
-use Rattle.streetmap_rows.specs.declared.failing.Stop.TheVariants.{Closed}
+use Rattle.streetmap_rows.specs.Failures.{IsOfStore}
+use Rattle.streetmap_rows.specs.CallEnds.{IsCause, Settles}
+use Rattle.streetmap_rows.specs.declared.failures.Shut.{Shut}
+use Rattle.streetmap_rows.specs.declared.failures.Shut.TheVariants.{Device, Damaged}
+use Rattle.streetmap_rows.specs.declared.failures.Stop.TheVariants.{Closed}
 
 pub closes : (error : Error) (old new : Seen) (shut : Shut) → IsCause error shut → Settles error old new (Closed shut)
 closes error old new (Device e) h = (subst IsOfStore (sym h.0) h.1, inl h.0)

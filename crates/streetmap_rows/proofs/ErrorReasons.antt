@@ -23,28 +23,28 @@ use Rattle.sqlite.specs.State.{State as Seen, HasCleanDisk, Survives, store_erro
 use Rattle.sqlite.specs.State.{IsMisplaced, IsNoStatement, IsNotRun, RunsCommand, RunsAlone}
 use Rattle.sqlite.specs.State.{ExecutesIn, ExecutesInsideIn, FailsToShow, FailsToQuery, IsTooLate}
 use Rattle.sqlite.specs.State.{mode_of, shows_rows, ExecutesInside, IsUnchanged}
-use Rattle.streetmap_rows.specs.Failing.{tells_disk, IsOfStore, SparesDisk, HasReason}
+use Rattle.streetmap_rows.specs.Failures.{is_disk_error, IsOfStore, IsNotDiskError, HasReason}
 use Rattle.streetmap_rows.proofs.StoreErrors.{failure_is}
-use Rattle.streetmap_rows.specs.Settling.{IsCause, Settles, StopsFor}
-use Rattle.streetmap_rows.specs.declared.failing.Stop.{Stop}
-use Rattle.streetmap_rows.specs.declared.failing.Stop.TheVariants as stop
-use Rattle.streetmap_rows.specs.declared.failing.Shut.{Shut}
-use Rattle.streetmap_rows.specs.declared.failing.Shut.TheVariants as shut
+use Rattle.streetmap_rows.specs.CallEnds.{IsCause, Settles, StopsFor}
+use Rattle.streetmap_rows.specs.declared.failures.Stop.{Stop}
+use Rattle.streetmap_rows.specs.declared.failures.Stop.TheVariants as stop
+use Rattle.streetmap_rows.specs.declared.failures.Shut.{Shut}
+use Rattle.streetmap_rows.specs.declared.failures.Shut.TheVariants as shut
 use Rattle.sqlite.specs.Reading.{IsReadError}
 use Rattle.sqlite.specs.declared.types.Value.{Value}
 use Rattle.streetmap_rows.proofs.DiskUntouched.{does, read_query}
 
--- a cell that cannot be read tells nothing of the disk
-pub read_spared : (at : ℕ) (value : Value) (e : Error) → IsReadError at value e → SparesDisk e
-read_spared at value e (inl is) = ap tells_disk is
-read_spared at value e (inr (inl is)) = ap tells_disk is
-read_spared at value e (inr (inr (inl is))) = ap tells_disk is
-read_spared at value e (inr (inr (inr (inl is)))) = ap tells_disk is
-read_spared at value e (inr (inr (inr (inr is)))) = ap tells_disk is
+-- a cell that cannot be read says nothing of the disk
+pub read_not_of_disk : (at : ℕ) (value : Value) (e : Error) → IsReadError at value e → IsNotDiskError e
+read_not_of_disk at value e (inl is) = ap is_disk_error is
+read_not_of_disk at value e (inr (inl is)) = ap is_disk_error is
+read_not_of_disk at value e (inr (inr (inl is))) = ap is_disk_error is
+read_not_of_disk at value e (inr (inr (inr (inl is)))) = ap is_disk_error is
+read_not_of_disk at value e (inr (inr (inr (inr is)))) = ap is_disk_error is
 
--- an error that tells nothing of the disk
-pub other : (old new : Seen) (e : Error) → SparesDisk e → HasReason old new e
-other old new e spared live tells = absurd (let never = subst IsTrue spared tells in cc)
+-- an error that says nothing of the disk
+pub other : (old new : Seen) (e : Error) → IsNotDiskError e → HasReason old new e
+other old new e not_of_disk live reports = absurd (let never = subst IsTrue not_of_disk reports in cc)
 
 module _ (old new : Seen) where
   pub failed : (too_big : Type 0) (e : Error) → Fails old new too_big e → HasReason old new e
@@ -52,17 +52,17 @@ module _ (old new : Seen) where
     where
       by : (cause : StoreError) → e ≡ store_error cause → HasCause old new too_big cause
           → HasReason old new e
-      by store.OutOfMemory is has = other old new e (ap tells_disk is)
-      by store.Io is has = λ live tells. has
-      by store.Corrupt is has = λ live tells. has
-      by store.Full is has = λ live tells. has
-      by store.Broken is has = λ live tells. absurd (let never = subst IsTrue has live in cc)
-      by store.Unstorable is has = other old new e (ap tells_disk is)
+      by store.OutOfMemory is has = other old new e (ap is_disk_error is)
+      by store.Io is has = λ live reports. has
+      by store.Corrupt is has = λ live reports. has
+      by store.Full is has = λ live reports. has
+      by store.Broken is has = λ live reports. absurd (let never = subst IsTrue has live in cc)
+      by store.Unstorable is has = other old new e (ap is_disk_error is)
 
   no_statement : (sql : List ℕ) (params : Row) (e : Error) → IsNoStatement old sql params e
-      → tells_disk e ≡ false
-  no_statement sql params e (inl missing) = ap tells_disk missing.2
-  no_statement sql params e (inr other) = elim other.2 [ inl cut ↦ ap tells_disk cut.1 | inr more ↦ elim more [ inl few ↦ ap tells_disk few.1 | inr timeless ↦ ap tells_disk timeless.1 ] ]
+      → is_disk_error e ≡ false
+  no_statement sql params e (inl missing) = ap is_disk_error missing.2
+  no_statement sql params e (inr other) = elim other.2 [ inl cut ↦ ap is_disk_error cut.1 | inr more ↦ elim more [ inl few ↦ ap is_disk_error few.1 | inr timeless ↦ ap is_disk_error timeless.1 ] ]
 
   pub not_run : (sql : List ℕ) (params : Row) (e : Error) → IsNotRun old new sql params e
       → HasReason old new e
@@ -70,22 +70,22 @@ module _ (old new : Seen) where
   not_run sql params e (inl refused) = other old new e (no_statement sql params e refused.0)
   not_run sql params e (inr failing) = failed ⊥ e failing
 
-  misplaced : (command : Command) (e : Error) → IsMisplaced old command e → tells_disk e ≡ false
-  misplaced command e (inl state) = ap tells_disk state.0
-  misplaced command e (inr none) = ap tells_disk none.0
+  misplaced : (command : Command) (e : Error) → IsMisplaced old command e → is_disk_error e ≡ false
+  misplaced command e (inl state) = ap is_disk_error state.0
+  misplaced command e (inr none) = ap is_disk_error none.0
 
   ran : (sql : List ℕ) (c : Compiled) (params : Row) (e : Error)
       → RunsCommand old new sql c params (Err e) → HasReason old new e
   ran sql c params e (inl refused) = elim refused.0 [
     | inl wrong ↦ other old new e (misplaced c.command e wrong)
-    | inr done ↦ other old new e ((does old.step_limit (mode_of old) params old.now _ c.returning c.command).spares e done.1)
+    | inr done ↦ other old new e ((does old.step_limit (mode_of old) params old.now _ c.returning c.command).no_disk_errors e done.1)
   ]
   ran sql c params e (inr failing) = failed _ e failing
 
   alone : (in_batch : Bool) (sql : List ℕ) (c : Compiled) (params : Row) (e : Error)
       → RunsAlone in_batch old new sql c params (Err e) → HasReason old new e
   alone in_batch sql c params e h = elim (cases_Bool (shows_rows in_batch c)) [
-    | inl shows ↦ let it = rw shows at h in let same : e ≡ ExecuteReturnedResults = let is = it.0 in cc in other old new e (ap tells_disk same)
+    | inl shows ↦ let it = rw shows at h in let same : e ≡ ExecuteReturnedResults = let is = it.0 in cc in other old new e (ap is_disk_error same)
     | inr runs ↦ ran sql c params e (rw runs at h)
   ]
 
@@ -98,7 +98,7 @@ module _ (old new : Seen) where
   pub executed_inside : (in_batch : Bool) (held : ℕ) (sql : List ℕ) (params : Row) (e : Error)
       → ExecutesInsideIn in_batch held sql params old new (Err e) → HasReason old new e
   executed_inside in_batch held sql params e (inl it) = executed in_batch sql params e it.0
-  executed_inside in_batch held sql params e (inr ended) = other old new e (ap tells_disk ended.1)
+  executed_inside in_batch held sql params e (inr ended) = other old new e (ap is_disk_error ended.1)
 
   -- nothing has changed, but for an error of the store
   alone_same : (in_batch : Bool) (sql : List ℕ) (c : Compiled) (params : Row) (e : Error)
@@ -122,26 +122,26 @@ module _ (old new : Seen) where
   of_store_or_same held sql params e (inr ended) = inr ended.2
 
   refused : (limit : Option ℕ) (command : Command) (db : Database) (params : Row) (e : Error)
-      → RefusesToRead limit command db params e → tells_disk e ≡ false
+      → RefusesToRead limit command db params e → is_disk_error e ≡ false
   refused limit (Select q names) db params e h = read_query limit db q params e h
-  refused limit (Rows values width names) db params e h = ap tells_disk h.0
-  refused limit (Insert at from) db params e h = ap tells_disk h
-  refused limit (InsertOr at way from clauses) db params e h = ap tells_disk h
-  refused limit (Update at q) db params e h = ap tells_disk h
-  refused limit (Delete at q) db params e h = ap tells_disk h
-  refused limit CreateTable db params e h = ap tells_disk h
-  refused limit (CreateIndex at) db params e h = ap tells_disk h
-  refused limit (DropTable at) db params e h = ap tells_disk h
-  refused limit (DropIndex at) db params e h = ap tells_disk h
-  refused limit Begin db params e h = ap tells_disk h
-  refused limit Commit db params e h = ap tells_disk h
-  refused limit Rollback db params e h = ap tells_disk h
-  refused limit (Savepoint name) db params e h = ap tells_disk h
-  refused limit (Release name) db params e h = ap tells_disk h
-  refused limit (RollbackTo name) db params e h = ap tells_disk h
-  refused limit Nothing db params e h = ap tells_disk h
-  refused limit CreateView db params e h = ap tells_disk h
-  refused limit (DropView at) db params e h = ap tells_disk h
+  refused limit (Rows values width names) db params e h = ap is_disk_error h.0
+  refused limit (Insert at from) db params e h = ap is_disk_error h
+  refused limit (InsertOr at way from clauses) db params e h = ap is_disk_error h
+  refused limit (Update at q) db params e h = ap is_disk_error h
+  refused limit (Delete at q) db params e h = ap is_disk_error h
+  refused limit CreateTable db params e h = ap is_disk_error h
+  refused limit (CreateIndex at) db params e h = ap is_disk_error h
+  refused limit (DropTable at) db params e h = ap is_disk_error h
+  refused limit (DropIndex at) db params e h = ap is_disk_error h
+  refused limit Begin db params e h = ap is_disk_error h
+  refused limit Commit db params e h = ap is_disk_error h
+  refused limit Rollback db params e h = ap is_disk_error h
+  refused limit (Savepoint name) db params e h = ap is_disk_error h
+  refused limit (Release name) db params e h = ap is_disk_error h
+  refused limit (RollbackTo name) db params e h = ap is_disk_error h
+  refused limit Nothing db params e h = ap is_disk_error h
+  refused limit CreateView db params e h = ap is_disk_error h
+  refused limit (DropView at) db params e h = ap is_disk_error h
 
   shown : (sql : List ℕ) (c : Compiled) (params : Row) (e : Error) (returning : Option Returning)
       → FailsToShow old new sql c params e returning → HasReason old new e
@@ -157,19 +157,19 @@ module _ (old new : Seen) where
   pub queried_inside : (sql : List ℕ) (params : Row) (e : Error)
       → FailsToQuery sql params old new e ⊎ IsTooLate sql params old new e → HasReason old new e
   queried_inside sql params e (inl it) = queried sql params e it
-  queried_inside sql params e (inr late) = other old new e (ap tells_disk late.4)
+  queried_inside sql params e (inr late) = other old new e (ap is_disk_error late.4)
 
   -- of a statement in a transaction, or in one that a failure ended
   pub run_inside : {Same : Type 0} (sql : List ℕ) (params : Row) (e : Error) → (old.in_transaction ≡ false → (◌≡◌ {A = Result ℕ Error} (Err e) (Err (SqliteFailure TransactionState))) × Same)
       → (IsTrue old.in_transaction → ExecutesInsideIn false 0 sql params old new (Err e)) → HasReason old new e
   run_inside sql params e ended runs = elim (cases_Bool old.in_transaction) [
     | inl inside ↦ executed_inside false 0 sql params e (runs inside)
-    | inr outside ↦ let same : e ≡ SqliteFailure TransactionState = let is = (ended outside).0 in cc in other old new e (ap tells_disk same)
+    | inr outside ↦ let same : e ≡ SqliteFailure TransactionState = let is = (ended outside).0 in cc in other old new e (ap is_disk_error same)
   ]
 
   pub failed_commit : (e : Error) → FailsToCommit old new e → HasReason old new e
   failed_commit e (inl failing) = failed ⊥ e failing
-  failed_commit e (inr ended) = other old new e (ap tells_disk ended.0)
+  failed_commit e (inr ended) = other old new e (ap is_disk_error ended.0)
 
   -- by the result of a call
   pub if_executed_inside : (in_batch : Bool) (held : ℕ) (sql : List ℕ) (params : Row) (r : Result ℕ Error)
@@ -195,7 +195,7 @@ more_before old mid new more counts = omega (arith, more, counts)
 -- what came about by the end of a call has come about by the end of a later one
 pub reason_still : (old mid new : Seen) (e : Error) → HasReason old mid e → mid.faults ≤ new.faults
     → HasReason old new e
-reason_still old mid new e come counts live tells = omega (arith, come live tells, counts)
+reason_still old mid new e come counts live reports = omega (arith, come live reports, counts)
 
 -- nor is one that is met later
 pub more_later : (old mid new : ℕ) → old ≤ mid → MoreFaults mid new → MoreFaults old new
@@ -204,12 +204,12 @@ more_later old mid new counts more = omega (arith, counts, more)
 pub counts_then : (old mid new : ℕ) → old ≤ mid → mid ≤ new → old ≤ new
 counts_then old mid new first second = omega (arith, first, second)
 
--- an error that came about later, where only a fault closes the connection before
+-- an error that came about later, if only a fault closes the connection before
 pub reason_on : (old mid new : Seen) (e : Error) → old.faults ≤ mid.faults
     → (IsTrue old.is_open → IsTrue mid.is_open ⊎ MoreFaults old.faults mid.faults)
     → mid.faults ≤ new.faults → HasReason mid new e → HasReason old new e
-reason_on old mid new e first closes second come live tells = elim (closes live) [
-  | inl still ↦ more_later old.faults mid.faults new.faults first (come still tells)
+reason_on old mid new e first closes second come live reports = elim (closes live) [
+  | inl still ↦ more_later old.faults mid.faults new.faults first (come still reports)
   | inr more ↦ more_before old.faults mid.faults new.faults more second
 ]
 

@@ -27,7 +27,7 @@ use Rattle.streetmap_ledger.specs.State.{State, Collection}
 use Rattle.streetmap_rows.specs.Tables.{Roots, IsOurs, features, collections, meta, batches, features_name}
 use Rattle.streetmap_rows.specs.Statements.{insert_features}
 use Rattle.streetmap_rows.specs.Rows.{feature_cells, extent_in, seconds_in}
-use Rattle.streetmap_rows.specs.Stands.{StandsFor}
+use Rattle.streetmap_rows.specs.Representations.{StandsFor}
 use Rattle.streetmap_rows.specs.Elsewhere.{IsSameElsewhere}
 use Rattle.streetmap_rows.specs.FeatureRows.{Entry, PutsEach}
 use Rattle.streetmap_rows.proofs.ColumnCasts.{cast_null, whole_null}
@@ -67,12 +67,12 @@ cast_are : (tree : ℕ) (name : Text) (es : List Entry) → map (λ (s : Row). c
 cast_are tree name [] = refl
 cast_are tree name (e ∷ es) = λ i. cast_is tree name e i ∷ cast_are tree name es i
 
--- what the statement is given: the values of the features' rows, one behind the other
+-- what the statement is given: the values of the features' rows, one after the other
 abbrev pub cells_of : Text → List Entry → Row
 cells_of name [] = []
 cells_of name (e ∷ es) = feature_cells (name, e.0) e.1 ++ cells_of name es
 
--- the types take one row more
+-- the types take one more row
 abbrev numbers_taken : FeatureValue → Bool → Bool
 numbers_taken f more =
     is_some (class_of (or_null Int (x0 f))) && (is_some (class_of (or_null Int (y0 f))) && (is_some (class_of (or_null Int (x1 f)))
@@ -94,7 +94,7 @@ all_given name e1 e2 e3 e4 e5 e6 e7 e8 e9 e10 e11 e12 e13 e14 e15 e16 e17 e18 e1
   rows = refl;
 }
 
--- what holds of so many entries, one by one, holds of each list of so many
+-- what holds of n entries, one by one, holds of each list of n
 abbrev ForMany : ℕ → (List Entry → Type 0) → Type 0
 ForMany zero P = P []
 ForMany (suc n) P = (e : Entry) → ForMany n (λ es. P (e ∷ es))
@@ -108,9 +108,9 @@ for_many (suc n) P each (e ∷ es) h = for_many n (λ more. P (e ∷ more)) (eac
 pub are_given : (name : Text) (es : List Entry) → length es ≡ 25 → AreGiven name es
 are_given name es n = for_many 25 (AreGiven name) (all_given name) es n
 
-module _ (old new : Seen) (s : State) (stands : StandsFor s old.now) (limit : old.step_limit ≡ None) (name : Text) (es : List Entry) (given : AreGiven name es) where
+module _ (old new : Seen) (s : State) (represented : StandsFor s old.now) (limit : old.step_limit ≡ None) (name : Text) (es : List Entry) (given : AreGiven name es) where
   abbrev roots : Roots
-  roots = stands.roots
+  roots = represented.roots
 
   abbrev schema : Schema
   schema = old.now.schema
@@ -119,7 +119,7 @@ module _ (old new : Seen) (s : State) (stands : StandsFor s old.now) (limit : ol
   db = old.now.trees
 
   in_features : IsFound schema features_name (features roots.features)
-  in_features = placing.features_found roots old.now stands.ours stands.sound
+  in_features = placing.features_found roots old.now represented.ours represented.sound
 
   means : Means schema insert_features 225 (Insert in_features.at (Values compile.insert_features_terms 10))
   means = compile.insert_features_means schema roots.features in_features
@@ -135,22 +135,22 @@ module _ (old new : Seen) (s : State) (stands : StandsFor s old.now) (limit : ol
       ap (λ (rows : List Row). edit_of db (features roots.features) [] Chosen 0 rows) is
       ∙ ap (λ (rows : List Row). record { table = features roots.features; gone = []; news = numbered Chosen (db roots.features) rows }) (cast_are roots.features name es)
 
-  pub put_stands : (c : Collection) → get s.collections name ≡ Some c → AllByRecursion (λ (e : Entry). IsFeature e.1) es → (count : ℕ) → Executes insert_features (cells_of name es) old new (Ok count) → (t : State) × PutsEach name es s t × StandsFor t new.now × IsSameElsewhere old.now new.now
-  put_stands c collected fine count h =
+  pub put_represented : (c : Collection) → get s.collections name ≡ Some c → AllByRecursion (λ (e : Entry). IsFeature e.1) es → (count : ℕ) → Executes insert_features (cells_of name es) old new (Ok count) → (t : State) × PutsEach name es s t × StandsFor t new.now × IsSameElsewhere old.now new.now
+  put_represented c collected fine count h =
       let r = run.inserted _ roots.features _ _ _ _ _ in_features.at compile.insert_features_terms 10 insert_features (cells_of name es) old new schema news refl limit (command_is schema insert_features 225 _ means) (is_plain schema insert_features 225 _ means) fit given.accepted in_features.listed (made _ given.rows) count h in
-      let ours = subst (IsOurs roots) (sym r.same_schema) stands.ours in
+      let ours = subst (IsOurs roots) (sym r.same_schema) represented.ours in
       let kept = λ (t : Table) (there : Has schema.tables t) (other : t.tree ≢ roots.features). all_has _ schema.tables t r.step.tables there other in
       let sound = subst (λ d. Rattle.sqlite.specs.Effect.IsDatabase (record { schema = d; trees = new.now.trees })) r.same_schema r.sound in
-      let put : ArePut roots schema stands.ours name db new.now.trees es = record {
+      let put : ArePut roots schema represented.ours name db new.now.trees es = record {
         fresh = r.step.fresh;
         rows = r.step.rows;
-        collections = kept (collections roots.collections) (placing.collections_there roots schema stands.ours) (placing.collections_features roots schema stands.ours);
-        meta = kept (meta roots.meta) (placing.meta_there roots schema stands.ours) (placing.meta_features roots schema stands.ours);
-        batches = kept (batches roots.batches) (placing.batches_there roots schema stands.ours) (placing.batches_features roots schema stands.ours);
+        collections = kept (collections roots.collections) (placing.collections_there roots schema represented.ours) (placing.collections_features roots schema represented.ours);
+        meta = kept (meta roots.meta) (placing.meta_there roots schema represented.ours) (placing.meta_features roots schema represented.ours);
+        batches = kept (batches roots.batches) (placing.batches_there roots schema represented.ours) (placing.batches_features roots schema represented.ours);
       } in
-      let it = leads roots schema stands.ours name es s db new.now.trees stands.of stands.readable c collected fine put (are_apart roots schema stands.ours name new.now.trees sound) in (
+      let it = leads roots schema represented.ours name es s db new.now.trees represented.of represented.readable c collected fine put (are_apart roots schema represented.ours name new.now.trees sound) in (
         it.state,
         it.puts,
         record { roots = roots; ours = ours; of = it.of; readable = it.readable; sound = r.sound },
-        same_elsewhere old.now new.now _ _ stands.ours.apart (placing.features_there roots schema stands.ours) features_ours r.same_schema r.step,
+        same_elsewhere old.now new.now _ _ represented.ours.apart (placing.features_there roots schema represented.ours) features_ours r.same_schema r.step,
       )

@@ -54,7 +54,7 @@ stopped : {A B : Type 0} (First : Part A) (Next : A → Part B) (s : Option Erro
 stopped First Next s (inl early) = inl (subst (λ x. First (Err x)) (let e = early.2 in cc) early.1)
 stopped First Next s (inr late) = inr late
 
--- where nothing follows, an edit is refused for its own rules or is too big
+-- if nothing follows, an edit is refused for its own rules or is too big
 pub refused_step : (schema : Schema) (keys : Keys) (db : Trees) (edit : Edit) (why : Option Refusal) → works schema keys 0 edit.table.tree (taken_by db edit) edit.news ≡ []
     → Writes schema keys db edit (Err why) → ((r : Refusal) × IsRefused schema keys db edit r × (why ≡ Some r)) ⊎ (why ≡ None)
 refused_step schema keys db edit why none (inl refused) = inl (refused.0, refused.1, let e = refused.2 in cc)

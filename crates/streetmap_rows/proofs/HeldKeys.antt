@@ -102,7 +102,7 @@ pub filter_same : (f g : Row → Bool) (rows : List Row) → ((r : Row) → Has 
 filter_same f g [] same = refl
 filter_same f g (r ∷ rows) same = λ i. cond (same r (inl refl) i) (r ∷ filter_same f g rows (λ x h. same x (inr h)) i) (filter_same f g rows (λ x h. same x (inr h)) i)
 
--- where the first that is found decides
+-- if the first that is found decides
 pub find_kept : (p g : Row → Bool) (b : Bool) (rows : List Row) → ((x : Row) → Has rows x → p x ≡ true → g x ≡ b) → find p (filter g rows) ≡ cond b (find p rows) None
 find_kept p g true [] each = refl
 find_kept p g false [] each = refl

@@ -69,7 +69,7 @@ module _ (name : List ℕ) (tree : ℕ) (columns : List Column) (primary : List 
               | inl counter ↦ absurd (let no = counter.1 in cc)
               | inr counted ↦ elim counted.2 [
                 | inl edited ↦ elim (refused_step schema Enforced db edit edited.1.0 (no_works schema Enforced 0 tree news) (subst₂ (λ k it. Writes schema k db it (Err edited.1.0)) keys (same_edit given.0 given.1.1) edited.1.1)) [
-                  | inl refused ↦ told e edited.0 edited.1.0 early.0 refused.0 (only refused.0 refused.1) refused.2 edited.1.2 edited.2 early.2
+                  | inl refused ↦ reported e edited.0 edited.1.0 early.0 refused.0 (only refused.0 refused.1) refused.2 edited.1.2 edited.2 early.2
                   | inr big ↦ absurd (let none = rw big at edited.1.2 in let b = edited.2 in let a = early.2 in cc)
                 ]
                 | inr written ↦ absurd (elim written.2 [ inl counts ↦ (let no = counts.1 in cc) | inr last ↦ (let no = last.2 in cc) ])
@@ -85,9 +85,9 @@ module _ (name : List ℕ) (tree : ℕ) (columns : List Column) (primary : List 
         same_stop : (x : Error) (a b : Option Error) → ◌≡◌ {A = Result Written (Option Error)} (Err b) (Err a) → ◌≡◌ {A = Result (Tally × Database) (Option Error)} (Err (Some x)) (Err b) → a ≡ Some x
         same_stop x a b p q = cc
 
-        told : (x : Error) (stop : Option Error) (why : Option Refusal) (out : Option Error) (r : Refusal) → r ≡ NoRowid → why ≡ Some r → stop ≡ option_map edit_error why → ◌≡◌ {A = Result Written (Option Error)} (Err out) (Err stop)
+        reported : (x : Error) (stop : Option Error) (why : Option Refusal) (out : Option Error) (r : Refusal) → r ≡ NoRowid → why ≡ Some r → stop ≡ option_map edit_error why → ◌≡◌ {A = Result Written (Option Error)} (Err out) (Err stop)
             → ◌≡◌ {A = Result (Tally × Database) (Option Error)} (Err (Some x)) (Err out) → x ≡ SqliteFailure code.NoRowid
-        told x stop why out r a b k l m =
+        reported x stop why out r a b k l m =
             let t : stop ≡ Some (SqliteFailure code.NoRowid) = k ∙ ap (option_map edit_error) b ∙ ap (λ z. Some (edit_error z)) a in
             let o : out ≡ Some x = cc in
             let u : out ≡ stop = cc in

@@ -24,7 +24,7 @@ use Rattle.sqlite_schema.specs.declared.schema.Reference.{Reference}
 use Rattle.sqlite_schema.specs.declared.schema.Keys.TheVariants.{Enforced}
 use Rattle.sqlite_schema.specs.declared.schema.Among.TheVariants.{All}
 use Rattle.sqlite_schema.specs.Rules.{Refers}
-use Rattle.streetmap_rows.specs.Failing.{IsOfStore}
+use Rattle.streetmap_rows.specs.Failures.{IsOfStore}
 use Rattle.streetmap_rows.proofs.StoreErrors.{no_rowid_is, failure_is}
 use Rattle.streetmap_rows.proofs.Resolving.{IsFit}
 use Rattle.streetmap_rows.proofs.StatementParts.{went}
@@ -84,10 +84,10 @@ module _ (name : List ℕ) (tree : ℕ) (columns : List Column) (primary : List 
           sound = w.sound;
         }
 
-    pub told : ((why : Refusal) → IsRefused schema Enforced old.now.trees edit why → why ≡ NoRowid) → ((next : _) → Applies schema Enforced old.now.trees edit next → Refers All schema next)
+    pub reported : ((why : Refusal) → IsRefused schema Enforced old.now.trees edit why → why ≡ NoRowid) → ((next : _) → Applies schema Enforced old.now.trees edit next → Refers All schema next)
         → (e : Error) → ExecutesInside 0 sql params old new (Err e) → IsOfStore e
-    told only refers e (inr ended) = absurd (never_ends sql params old schema _ has is (λ q. absurd (cc)) (λ q. absurd (cc)) (λ n q. absurd (cc)) (λ n q. absurd (cc)) ended.0)
-    told only refers e (inl h) =
+    reported only refers e (inr ended) = absurd (never_ends sql params old schema _ has is (λ q. absurd (cc)) (λ q. absurd (cc)) (λ n q. absurd (cc)) (λ n q. absurd (cc)) ended.0)
+    reported only refers e (inl h) =
         let text = statement_of sql (understood schema sql) in
         elim (refused_as sql params old new schema has _ is plain fit e h.0) [
           | inl refused ↦ elim refused.0 [

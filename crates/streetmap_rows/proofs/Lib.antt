@@ -15,7 +15,7 @@ pub mod HeldKeys
 pub mod InsertOne
 pub mod TextKeys
 pub mod CrashLeaves
-pub mod KeyLooks
+pub mod KeyReads
 pub mod Meaning
 pub mod StoreErrors
 pub mod OrderedRows
@@ -36,6 +36,6 @@ pub mod InsertRuns
 pub mod Schemas
 pub mod EndsByCause
 pub mod DiskUntouched
-pub mod LookFails
+pub mod ReadFails
 pub mod OneState
 pub mod StateWrites

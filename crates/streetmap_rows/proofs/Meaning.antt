@@ -61,19 +61,19 @@ Part = Expr × Term
 abbrev pub given : ℕ → Part
 given n = (expr.Parameter n, col 0 (n - 1))
 
--- the values of so many parameters, from this one on
+-- the values of this number of parameters, from this one on
 abbrev pub given_from : ℕ → ℕ → List Part
 given_from n zero = []
 given_from n (suc more) = given n ∷ given_from (n + 1) more
 
--- a text that stands in the statement
+-- a text in the statement
 abbrev pub quoted : List ℕ → Part
 quoted t = (expr.Text t, lit (Words t))
 
 abbrev pub where_equal : Column → Part → Part
 where_equal c v = (expr.Binary op.Eq (named_column c.0) v.0, equal_terms (col 1 c.1) v.1)
 
--- the same, where each row is to be gone over and none looked for by the column
+-- the same, but all rows are gone over, and none is looked up by the column
 abbrev pub where_equal_in_turn : Column → Part → Part
 where_equal_in_turn c v = (
   expr.Binary op.Eq (expr.Unary unary.Plus (named_column c.0)) v.0,
@@ -123,7 +123,7 @@ for_all (a_number ∷ more) P Q so h =
 
 -- ---- what is read of a text
 
--- it is this statement with so many parameters, and nothing is behind it
+-- it is this statement with this number of parameters, and nothing follows it
 abbrev pub IsRead : List ℕ → ℕ → Statement → Checked Parsed → Type 0
 IsRead text count statement (Ok p) =
     (p.statement ≡ statement) × (p.formats ≡ []) × (length text ≤ p.tail)
@@ -157,7 +157,7 @@ reads text count statement it = go (first text) refl it
 
 -- ---- INSERT of rows
 
--- into a table, which stands in a tree
+-- into a table, which is in a tree
 pub record Insertion : Type 0 where
   pub text : List ℕ
   pub count : ℕ
@@ -190,7 +190,7 @@ pub record IsInsert (i : Insertion) : Type 0 where
       → new_rows schema (i.table tree) (i.count % 65536 + 0) i.columns (rows_of i)
       ≡ Ok (Values (terms_of i) (width_of i))
 
--- it puts in rows of its values, wherever its table stands
+-- it puts in rows of its values, wherever its table is
 abbrev pub InsertMeans : Insertion → Type 0
 InsertMeans i = (schema : Schema) (tree : ℕ)
     (found : IsFound schema (i.table 0).name (i.table tree))
@@ -251,7 +251,7 @@ project_of s = map (λ (c : Column). col 1 c.1) s.shown
 abbrev order_of : Selection → List (Term × Key)
 order_of s = map (λ (c : Column). (col 1 c.1, rising)) s.by
 
--- what it stands for, where its table stands in this tree
+-- what it means, if its table is in this tree
 abbrev pub query_in : Selection → ℕ → Query
 query_in s tree = over_in tree (meant s.conditions) (project_of s) (order_of s)
 
@@ -281,7 +281,7 @@ pub record IsSelect (s : Selection) : Type 0 where
   pub accepted : (schema : Schema) (tree : ℕ) → IsThere s schema tree
       → IsAccepted s schema tree [] × ForAll s.parameters (IsAccepted s schema tree)
 
--- it is that query, wherever its table stands
+-- it is that query, wherever its table is
 abbrev pub SelectMeans : Selection → Type 0
 SelectMeans s = (schema : Schema) (tree : ℕ) → IsThere s schema tree
     → Means schema s.text (length s.parameters) (Select (program (query_in s tree)) (names_of s))

@@ -1,4 +1,4 @@
--- Where the table stands that a name finds.
+-- The place of the table that a name finds.
 use Rattle.std.proofs.Common.{◌≡◌, ◌≢◌, inl, inr, ℕ, suc, ◌+◌, ◌<◌, ◌^◌, List, [], ◌∷◌, Bool, false, find, slice_get, Some, refl, ap, ◌∙◌, arith, eqb, eq-eqb, nat_le}
 use Rattle.std.specs.List.{position_from}
 use Rattle.std.proofs.lemmas.Bool.{cases_Bool, ne_eqb, false_from_ne_true, leb-true}
@@ -13,17 +13,17 @@ use Rattle.sqlite_rules.specs.Lists.{Has}
 use Rattle.sqlite_rules.proofs.ListLemmas.{all_has, has_found}
 use Rattle.sqlite_rules.proofs.RuleLemmas.{same_table}
 
--- what is found first stands somewhere
-pub record StandsAt {A : Type 0} (p : A → Bool) (n : ℕ) (xs : List A) (x : A) : Type 0 where
+-- what is found first has a place
+pub record IsAt {A : Type 0} (p : A → Bool) (n : ℕ) (xs : List A) (x : A) : Type 0 where
   pub at : ℕ
   pub position : position_from p n xs ≡ Some (n + at)
   pub listed : slice_get xs at ≡ Some x
 
-pub stands_at : {A : Type 0} (p : A → Bool) (n : ℕ) (xs : List A) (x : A) → find p xs ≡ Some x → StandsAt p n xs x
-stands_at p n [] x h = absurd (cc)
-stands_at p n (y ∷ xs) x h = elim (cases_Bool (p y)) [
+pub is_at : {A : Type 0} (p : A → Bool) (n : ℕ) (xs : List A) (x : A) → find p xs ≡ Some x → IsAt p n xs x
+is_at p n [] x h = absurd (cc)
+is_at p n (y ∷ xs) x h = elim (cases_Bool (p y)) [
   | inl here ↦ record { at = 0; position = rw here (ap (λ k. Some k) (omega arith)); listed = rw here at h }
-  | inr other ↦ (let more = stands_at p (n + 1) xs x (rw other at h) in record { at = suc more.at; position = rw other (more.position ∙ ap (λ k. Some k) (omega arith)); listed = more.listed })
+  | inr other ↦ (let more = is_at p (n + 1) xs x (rw other at h) in record { at = suc more.at; position = rw other (more.position ∙ ap (λ k. Some k) (omega arith)); listed = more.listed })
 ]
 
 found_by_tree : (tables : List Table) (t : Table) → IsAscending (λ a b. a.tree ≡ b.tree → ⊥) tables → Has tables t → find (λ u. eqb u.tree t.tree) tables ≡ Some t
@@ -45,13 +45,13 @@ low_tree n h = false_from_ne_true _ (λ yes. omega (arith, leb-true (2 ^ 31) n y
 
 pub is_found : (db : Database) (name : List ℕ) (table : Table) → IsDatabase db → IsAscending (λ a b. a.tree ≡ b.tree → ⊥) db.schema.tables → find (λ t. same_name t.name name) db.schema.tables ≡ Some table → IsFound db.schema name table
 is_found db name table sound apart h =
-    let stands = stands_at (λ (t : Table). same_name t.name name) 0 db.schema.tables table h in
+    let represented = is_at (λ (t : Table). same_name t.name name) 0 db.schema.tables table h in
     let there = (has_found (λ (t : Table). same_name t.name name) db.schema.tables table h).0 in
     let row = zipped_left IsTableRow _ db.schema.tables table sound.lists.listed.tables there in
     record {
-      at = stands.at;
-      named = stands.position ∙ ap (λ k. Some k) (omega arith);
-      listed = stands.listed;
+      at = represented.at;
+      named = represented.position ∙ ap (λ k. Some k) (omega arith);
+      listed = represented.listed;
       there = there;
       by_tree = found_by_tree db.schema.tables table apart there;
       low = low_tree table.tree row.2.described.low;

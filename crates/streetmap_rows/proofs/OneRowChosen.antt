@@ -1,4 +1,4 @@
--- What a query over one table answers, where its test picks one row at most.
+-- What a query over one table answers, if its test picks one row at most.
 use Rattle.std.proofs.Common.{nat_le, ◌^◌, ◌≡◌, ℕ, List, [], ◌∷◌, ◌++◌, length, map, filter, flat_map, Bool, true, false, not, if◌then◌else◌, drop, Option, Some, None, option_map, is_some, nat_eq, refl, ap, subst, ◌∙◌, arith}
 use Rattle.std.specs.List.{list_all}
 use Rattle.std.specs.Option.{option_to_list}
@@ -60,14 +60,14 @@ module _ (db : Trees) (tree : ℕ) (tests project : List Term) (params : Row) (s
       shows None = refl
       shows (Some r) = refl
 
--- a row that has the cells of what stands at its key shows that
+-- a row with the cells of the value at its key shows that value
 pub shown_as : {X : Type 0} (cells view : X → Row) (shown : Row → Row) (o : Option Row) (x : Option X) → option_map (drop 1) o ≡ option_map cells x → ((r : Row) (v : X) → drop 1 r ≡ cells v → shown r ≡ view v) → option_map shown o ≡ option_map view x
 shown_as cells view shown None None h each = refl
 shown_as cells view shown None (Some v) h each = absurd (cc)
 shown_as cells view shown (Some r) None h each = absurd (cc)
 shown_as cells view shown (Some r) (Some v) h each = let same : drop 1 r ≡ cells v = cc in ap (λ x. Some x) (each r v same)
 
--- whether there is a row
+-- whether a row exists
 pub none_empty : {A B : Type 0} (f : A → B) (o : Option A) (rows : List B) → rows ≡ option_to_list (option_map f o) → (b : Bool) → b ≡ nat_eq (length rows) 0 → not b ≡ is_some o
 none_empty f None rows is b e = ap not e ∙ ap (λ l. not (nat_eq (length l) 0)) is
 none_empty f (Some x) rows is b e = ap not e ∙ ap (λ l. not (nat_eq (length l) 0)) is

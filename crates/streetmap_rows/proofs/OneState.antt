@@ -29,7 +29,7 @@ use Rattle.sqlite.specs.Table.{Table}
 use Rattle.sqlite_schema.specs.Names.{same_name}
 use Rattle.streetmap_rows.proofs.Schemas.{one_schema}
 use Rattle.streetmap_rows.specs.Tables.{Roots, IsNamed, IsOurs, meta, collections, batches, features, meta_name, collections_name, batches_name, features_name}
-use Rattle.streetmap_rows.specs.Keeping.{Keeps, AreTreesOf}
+use Rattle.streetmap_rows.specs.KeptStates.{Keeps, AreTreesOf}
 use Rattle.streetmap_rows.proofs.TextKeys.{one_text}
 
 abbrev nat_in : Value → ℕ
@@ -111,7 +111,7 @@ untimed_is f h = record { named = h.named; text = h.text; made = h.made; few = h
 one_root : (a b : Schema) (name : List ℕ) (s t : Table) → a.tables ≡ b.tables → IsNamed a name s → IsNamed b name t → s.tree ≡ t.tree
 one_root a b name s t same p q = let e : ◌≡◌ {A = Option Table} (Some s) (Some t) = sym p ∙ ap (find (λ (x : Table). same_name x.name name)) same ∙ q in let is : s ≡ t = cc in ap (λ (x : Table). x.tree) is
 
--- our tables stand in the same trees wherever a schema lists them
+-- our tables are in the same trees wherever a schema lists them
 one_roots : (a b : Schema) (p q : Roots) → a.tables ≡ b.tables → IsOurs p a → IsOurs q b → p ≡ q
 one_roots a b p q same x y =
     let m = one_root a b meta_name (meta p.meta) (meta q.meta) same x.meta_is y.meta_is in

@@ -1,4 +1,4 @@
--- Why the look whether a connection is open may fail.
+-- Why the check whether a connection is open may fail.
 use Rattle.std.proofs.Common.{inl, inr, ℕ, List, [], codes, refl, subst, arith}
 use Rattle.sqlite.specs.declared.error.Error.{Error}
 use Rattle.sqlite.specs.Order.{Row}
@@ -8,7 +8,7 @@ use Rattle.sqlite.specs.State.{State as Seen, IsNotRun, KeepsCommit}
 use Rattle.sqlite.proofs.Callers.{IsPlain}
 use Rattle.sqlite.proofs.InsideLemmas.{unchanged_keeps}
 use Rattle.sqlite_tied.specs.Compute.{everything}
-use Rattle.streetmap_rows.specs.Failing.{IsOfStore}
+use Rattle.streetmap_rows.specs.Failures.{IsOfStore}
 use Rattle.streetmap_rows.proofs.StoreErrors.{failure_is}
 use Rattle.streetmap_rows.proofs.Resolving.{IsWhole}
 

@@ -169,7 +169,7 @@ module _ {V B : Type 0} (value_of : Text → Option V) (view : Text → V → B)
   pub listed_is : (kept : List (Text × V)) → T (is_sorted text_cmp kept) → ((q : Text) → value_of q ≡ find text_cmp q kept) → es ≡ viewed view kept
   listed_is kept up are = same_entries text_cmp nat_list_cmp_total one_text es (viewed view kept) it.in_order (sorted_viewed view kept up) (λ q. entry_of q ∙ ap (option_map (view q)) (are q) ∙ sym (find_viewed view kept q))
 
--- texts of which none comes before the one before it, and none stands twice, so each is below the next
+-- distinct texts, none of which comes before the previous one, so each is below the next
 pub rises : (names : List Text) → ((k : ℕ) → k + 1 < length names → is_lt (text_cmp (get_or names (k + 1) []) (get_or names k [])) ≡ false) → IsDistinct same_text names → IsStrictlySortedBy text_cmp names
 rises names order distinct = sorted_from_all_adjacent nat_list_cmp_total names [] (λ k low. less (get_or names k []) (get_or names (k + 1) []) (apart_from_distinct same_text names k (k + 1) [] distinct (omega arith) low) (order k low))
   where
@@ -320,7 +320,7 @@ module _ (tree : ℕ) (tests project : List Term) (at : ℕ) (params : Row) wher
 -- ---- entries that pass a test
 
 module _ {V : Type 0} (test : V → Bool) where
-  -- the value, where it passes
+  -- the value, if it passes
   abbrev pub if_passes : Option V → Option V
   if_passes None = None
   if_passes (Some v) = cond (test v) (Some v) None

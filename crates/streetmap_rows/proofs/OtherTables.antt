@@ -1,4 +1,4 @@
--- A write of one of our tables leaves what stands beside them.
+-- A write of one of our tables leaves what is beside them.
 use Rattle.std.proofs.Common.{◌≡◌, true, refl, sym, ap, ◌∙◌}
 use Rattle.std.proofs.lemmas.Bool.{both_ways}
 use Rattle.sqlite.specs.Effect.{Database}

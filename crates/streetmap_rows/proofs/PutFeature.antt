@@ -1,4 +1,4 @@
--- A feature that is new goes in, and no rule stands against it.
+-- A feature that is new goes in, and no rule forbids it.
 use Rattle.std.proofs.Common.{◌≡◌, inl, inr, ℤ, [], ◌∷◌, true, false, ◌&&◌, cond, drop, Option, Some, None, option_map, option_and_then, refl, sym, ap, subst, ◌∙◌, eqb-true, eq-eqb}
 use Rattle.std.specs.List.{list_all}
 use Rattle.std.specs.FinMap.{get, insert, get-insert}
@@ -77,7 +77,7 @@ module _ (s : State) (schema : Schema) (roots : Roots) (ours : IsOurs roots sche
   is_table : Has schema.tables (features roots.features)
   is_table = features_there roots schema ours
 
-  -- its collection is there
+  -- its collection exists
   pub own_parent : list_all (has_parent schema.tables db row) ((features roots.features).references) ≡ true
   own_parent =
       let at = there first_key is_first first_is first_self _ (db roots.collections) of.collections p.0 _ (ap (option_map (collection_cells p.0)) collected) in

@@ -1,4 +1,4 @@
--- Features that one statement puts in: where it did, each was new, and they stand one after the
+-- Features that one statement puts in: if it did, each was new, and their rows are one after the
 -- other.
 use Rattle.std.proofs.Common.{◌≡◌, List, [], ◌∷◌, true, false, ◌&&◌, cond, not, map, Option, Some, None, option_map, refl, sym, ap, subst, ◌∙◌, eq-eqb, Ordering, Less, Equal, Greater, true≢false}
 use Rattle.std.specs.List.{AllByRecursion}
@@ -29,7 +29,7 @@ use Rattle.streetmap_ledger.specs.State.{State, Collection, with_features}
 use Rattle.streetmap_rows.specs.Holds.{pair_key, has_pair}
 use Rattle.streetmap_rows.specs.Tables.{Roots, features, IsOurs}
 use Rattle.streetmap_rows.specs.Rows.{AreOf, feature_at, feature_cells}
-use Rattle.streetmap_rows.specs.Stands.{CanBeRead}
+use Rattle.streetmap_rows.specs.Representations.{CanBeRead}
 use Rattle.streetmap_rows.specs.FeatureRows.{Entry, PutsEach}
 use Rattle.streetmap_rows.proofs.HeldKeys.{there, holds_same}
 use Rattle.streetmap_rows.proofs.TextKeys.{pair_is, pair_self, text_self, agree_two, column_later, truth_is}
@@ -79,7 +79,7 @@ module _ (roots : Roots) (schema : Schema) (ours : IsOurs roots schema) (name : 
         let apart : is_eq (value_cmp (rowid r) (rowid row)) ≡ false = false_from_ne_true _ (λ same. both_ways _ free (some_from (λ x. is_eq (value_cmp (rowid x) (rowid row))) (db roots.features) r h same)) in
         rw id (truth_is _ ∙ other_is _ (rw id at apart))
 
-    -- what the final rows have at no other key was not there
+    -- what the final rows have at no other key is new
     pub was_new : (final : List Row) → AreApart final → ((r : Row) → Has (put_row row (db roots.features)) r → Has final r) → is_taken (db roots.features) row ≡ false → get c.features e.0 ≡ None
     was_new final apart kept free = go (get c.features e.0) refl
       where

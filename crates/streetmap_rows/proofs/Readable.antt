@@ -8,7 +8,7 @@ use Rattle.streetmap_batch.specs.Text.{Text, text_cmp}
 use Rattle.streetmap_rows.specs.Holds.{KeyPair}
 use Rattle.streetmap_ledger.specs.State.{State, Collection, Features, with_features, opened}
 use Rattle.streetmap_ledger.proofs.StatesStay.{put_or_there, was_there}
-use Rattle.streetmap_rows.specs.Stands.{HasTextNames, CanBeRead}
+use Rattle.streetmap_rows.specs.Representations.{HasTextNames, CanBeRead}
 
 -- each feature of a collection can be read
 abbrev pub AllRead : Features → Type 0

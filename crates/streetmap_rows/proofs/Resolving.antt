@@ -1,4 +1,4 @@
--- What the resolver makes of a statement over one table, wherever the table stands in its schema.
+-- What the resolver makes of a statement over one table, wherever the table is in its schema.
 use Rattle.std.proofs.Common.{◌≡◌, ℕ, ◌+◌, ◌≤◌, List, [], ◌∷◌, length, Ok, Err, Result, refl, Some, None, Option, true, false, suc, ◌||◌, slice_get, negsuc}
 use Rattle.sqlite_ast.specs.declared.Statement.TheVariants as written
 use Rattle.sqlite_ast.specs.declared.Conflict.TheVariants as conflict
@@ -110,7 +110,7 @@ pub program_is : (schema : Schema) (d : Draft) → accepts_program schema [] (qu
 unfolding program
 program_is schema d h = rw h refl
 
--- The text is one statement with so many parameters, which means this command; it has no RETURNING, and reads no clock and no listing.
+-- The text means this command, with this number of parameters and no RETURNING, clock or listing.
 pub record Means (schema : Schema) (sql : List ℕ) (count : ℕ) (k : Command) : Type 0 where
   pub compiled_as : Compiled
   pub is : compiled schema sql ≡ Ok compiled_as
@@ -137,7 +137,7 @@ module _ (schema : Schema) (sql : List ℕ) (count : ℕ) (k : Command) (it : Me
   pub is_plain : IsPlain (understood schema sql)
   is_plain = rw understood_is it.plain_is
 
--- it is one statement with so many parameters
+-- it is one statement with this number of parameters
 abbrev pub IsWhole : List ℕ → ℕ → Result Compiled CompileError → Type 0
 IsWhole sql params (Ok c) = (length sql ≤ c.tail) × (params ≡ length c.names)
 IsWhole sql params (Err e) = ⊥

@@ -28,9 +28,9 @@ use Rattle.streetmap_ledger.specs.State.{State, Collection, AcceptedBatch, with_
 use Rattle.streetmap_rows.specs.Tables.{Roots, IsOurs, collections, meta, batches, features, collections_name, batches_name, features_name}
 use Rattle.streetmap_rows.specs.Statements.{insert_collection, insert_feature, insert_batch, delete_feature}
 use Rattle.streetmap_rows.specs.Rows.{AreOf, feature_cells, batch_cells, extent_in, seconds_in}
-use Rattle.streetmap_rows.specs.Stands.{StandsFor}
+use Rattle.streetmap_rows.specs.Representations.{StandsFor}
 use Rattle.streetmap_rows.specs.Elsewhere.{IsSameElsewhere}
-use Rattle.streetmap_rows.specs.Failing.{IsOfStore}
+use Rattle.streetmap_rows.specs.Failures.{IsOfStore}
 use Rattle.streetmap_rows.proofs.ColumnCasts.{cast_null, cast_int, whole_null, word_null}
 use Rattle.streetmap_rows.specs.Queries.{program}
 use Rattle.streetmap_rows.proofs.NamedTables.{IsFound}
@@ -56,33 +56,33 @@ use Rattle.streetmap_rows.proofs.Readable.{insert_read, delete_read, open_read, 
 abbrev pub open_params : Text → Text → Option Text → Row
 open_params name title time = Words name ∷ Words title ∷ or_null Words time ∷ []
 
-module _ (old new : Seen) (s : State) (stands : StandsFor s old.now) (limit : old.step_limit ≡ None) where
+module _ (old new : Seen) (s : State) (represented : StandsFor s old.now) (limit : old.step_limit ≡ None) where
   abbrev roots : Roots
-  roots = stands.roots
+  roots = represented.roots
 
   abbrev schema : Schema
   schema = old.now.schema
 
   abbrev ours : IsOurs roots schema
-  ours = stands.ours
+  ours = represented.ours
 
   abbrev db : Trees
   db = old.now.trees
 
   keeps : Keeps Unique schema db
-  keeps = stands.sound.obeys.rules Unique
+  keeps = represented.sound.obeys.rules Unique
 
   was : Refers All schema db
-  was = refers_if_sound _ _ stands.sound
+  was = refers_if_sound _ _ represented.sound
 
   in_collections : IsFound schema collections_name (collections roots.collections)
-  in_collections = placing.collections_found roots old.now ours stands.sound
+  in_collections = placing.collections_found roots old.now ours represented.sound
 
   in_batches : IsFound schema batches_name (batches roots.batches)
-  in_batches = placing.batches_found roots old.now ours stands.sound
+  in_batches = placing.batches_found roots old.now ours represented.sound
 
   in_features : IsFound schema features_name (features roots.features)
-  in_features = placing.features_found roots old.now ours stands.sound
+  in_features = placing.features_found roots old.now ours represented.sound
 
   -- the other tables are as they were
   kept_rows : (next : Trees) (tree : ℕ) → AllByRecursion (λ t. t.tree ≢ tree → next t.tree ≡ db t.tree) schema.tables → (t : Table) → Has schema.tables t → t.tree ≢ tree → next t.tree ≡ db t.tree
@@ -91,29 +91,29 @@ module _ (old new : Seen) (s : State) (stands : StandsFor s old.now) (limit : ol
   -- ---- a collection
   module _ (name title : Text) (time : Option Text) (absent : get s.collections name ≡ None) where
     row : Row
-    row = collection.row s schema roots ours db stands.of name title time absent
+    row = collection.row s schema roots ours db represented.of name title time absent
 
-    pub open_stands : IsUtf8 name → IsUtf8 title → IfSome time IsUtf8 → (count : ℕ) → Executes insert_collection (open_params name title time) old new (Ok count) → StandsFor (opened s name title time) new.now × IsSameElsewhere old.now new.now
+    pub open_represented : IsUtf8 name → IsUtf8 title → IfSome time IsUtf8 → (count : ℕ) → Executes insert_collection (open_params name title time) old new (Ok count) → StandsFor (opened s name title time) new.now × IsSameElsewhere old.now new.now
     unfolding row
-    open_stands a b c count h =
+    open_represented a b c count h =
         let r = run.inserted _ roots.collections _ _ _ _ _ in_collections.at compile.insert_collection_terms 4 insert_collection (open_params name title time) old new schema (row ∷ []) refl limit (command_is schema insert_collection 3 _ (compile.insert_collection_means schema roots.collections in_collections)) (is_plain schema insert_collection 3 _ (compile.insert_collection_means schema roots.collections in_collections)) (is_fit schema insert_collection 3 _ (compile.insert_collection_means schema roots.collections in_collections) refl) (rw ((word_null time).classed) refl)
         in_collections.listed (rw (cast_null, (word_null time).cast_is) refl) count h in (
           record {
             roots = roots;
             ours = subst (IsOurs roots) (sym r.same_schema) ours;
-            of = collection.of_after s schema roots ours db stands.of name title time absent new.now.trees r.step.rows (kept_rows new.now.trees roots.collections r.step.tables (meta roots.meta) (placing.meta_there roots schema ours) (placing.meta_collections roots schema ours)) (kept_rows new.now.trees roots.collections r.step.tables (batches roots.batches) (placing.batches_there roots schema ours) (placing.batches_collections roots schema ours)) (kept_rows new.now.trees roots.collections r.step.tables (features roots.features) (placing.features_there roots schema ours) (λ e. placing.collections_features roots schema ours (sym e)));
-            readable = open_read s name title time stands.readable a b c;
+            of = collection.of_after s schema roots ours db represented.of name title time absent new.now.trees r.step.rows (kept_rows new.now.trees roots.collections r.step.tables (meta roots.meta) (placing.meta_there roots schema ours) (placing.meta_collections roots schema ours)) (kept_rows new.now.trees roots.collections r.step.tables (batches roots.batches) (placing.batches_there roots schema ours) (placing.batches_collections roots schema ours)) (kept_rows new.now.trees roots.collections r.step.tables (features roots.features) (placing.features_there roots schema ours) (λ e. placing.collections_features roots schema ours (sym e)));
+            readable = open_read s name title time represented.readable a b c;
             sound = r.sound;
           },
           same_elsewhere old.now new.now _ _ ours.apart (placing.collections_there roots schema ours) collections_ours r.same_schema r.step,
         )
 
-    pub open_told : (e : Error) → ExecutesInside 0 insert_collection (open_params name title time) old new (Err e) → IsOfStore e
+    pub open_reported : (e : Error) → ExecutesInside 0 insert_collection (open_params name title time) old new (Err e) → IsOfStore e
     unfolding row
-    open_told =
-        run.told _ roots.collections _ _ _ _ _ in_collections.at compile.insert_collection_terms 4 insert_collection (open_params name title time) old new schema (row ∷ []) refl limit (command_is schema insert_collection 3 _ (compile.insert_collection_means schema roots.collections in_collections)) (is_plain schema insert_collection 3 _ (compile.insert_collection_means schema roots.collections in_collections)) (is_fit schema insert_collection 3 _ (compile.insert_collection_means schema roots.collections in_collections) refl) (rw ((word_null time).classed) refl)
+    open_reported =
+        run.reported _ roots.collections _ _ _ _ _ in_collections.at compile.insert_collection_terms 4 insert_collection (open_params name title time) old new schema (row ∷ []) refl limit (command_is schema insert_collection 3 _ (compile.insert_collection_means schema roots.collections in_collections)) (is_plain schema insert_collection 3 _ (compile.insert_collection_means schema roots.collections in_collections)) (is_fit schema insert_collection 3 _ (compile.insert_collection_means schema roots.collections in_collections) refl) (rw ((word_null time).classed) refl)
         in_collections.listed (rw (cast_null, (word_null time).cast_is) refl)
-        (collection.only_rowid s schema roots ours db stands.of name title time absent keeps) (collection.refers s schema roots ours db stands.of name title time absent was)
+        (collection.only_rowid s schema roots ours db represented.of name title time absent keeps) (collection.refers s schema roots ours db represented.of name title time absent was)
 
   -- ---- a feature
   module _ (p : KeyPair) (c : Collection) (collected : get s.collections p.0 ≡ Some c) (f : FeatureValue) where
@@ -137,63 +137,63 @@ module _ (old new : Seen) (s : State) (stands : StandsFor s old.now) (limit : ol
 
     module _ (new_id : get c.features p.1 ≡ None) where
       abbrev feature_row : Row
-      feature_row = feature.row s schema roots ours db stands.of p c collected f new_id
+      feature_row = feature.row s schema roots ours db represented.of p c collected f new_id
 
-      pub insert_stands : IsFeature f → (count : ℕ) → Executes insert_feature (feature_cells p f) old new (Ok count) → StandsFor (with_features s p.0 c (insert c.features p.1 f)) new.now × IsSameElsewhere old.now new.now
+      pub insert_represented : IsFeature f → (count : ℕ) → Executes insert_feature (feature_cells p f) old new (Ok count) → StandsFor (with_features s p.0 c (insert c.features p.1 f)) new.now × IsSameElsewhere old.now new.now
       unfolding x0 y0 x1 y1 s0 s1
-      insert_stands fine count h =
+      insert_represented fine count h =
           let r = run.inserted _ roots.features _ _ _ _ _ in_features.at compile.insert_feature_terms 10 insert_feature (feature_cells p f) old new schema (feature_row ∷ []) refl limit (command_is schema insert_feature 9 _ (compile.insert_feature_means schema roots.features in_features)) (is_plain schema insert_feature 9 _ (compile.insert_feature_means schema roots.features in_features)) (is_fit schema insert_feature 9 _ (compile.insert_feature_means schema roots.features in_features) refl)
           (rw ((whole_null x0).classed, (whole_null y0).classed, (whole_null x1).classed, (whole_null y1).classed, (whole_null s0).classed, (whole_null s1).classed) refl)
           in_features.listed (rw (cast_null, (whole_null x0).cast_is, (whole_null y0).cast_is, (whole_null x1).cast_is, (whole_null y1).cast_is, (whole_null s0).cast_is, (whole_null s1).cast_is) refl) count h in (
             record {
               roots = roots;
               ours = subst (IsOurs roots) (sym r.same_schema) ours;
-              of = feature.of_after s schema roots ours db stands.of p c collected f new_id new.now.trees r.step.rows (kept_rows new.now.trees roots.features r.step.tables (collections roots.collections) (placing.collections_there roots schema ours) (placing.collections_features roots schema ours)) (kept_rows new.now.trees roots.features r.step.tables (meta roots.meta) (placing.meta_there roots schema ours) (placing.meta_features roots schema ours)) (kept_rows new.now.trees roots.features r.step.tables (batches roots.batches) (placing.batches_there roots schema ours) (placing.batches_features roots schema ours));
-              readable = insert_read s stands.readable p.0 c collected p.1 f fine;
+              of = feature.of_after s schema roots ours db represented.of p c collected f new_id new.now.trees r.step.rows (kept_rows new.now.trees roots.features r.step.tables (collections roots.collections) (placing.collections_there roots schema ours) (placing.collections_features roots schema ours)) (kept_rows new.now.trees roots.features r.step.tables (meta roots.meta) (placing.meta_there roots schema ours) (placing.meta_features roots schema ours)) (kept_rows new.now.trees roots.features r.step.tables (batches roots.batches) (placing.batches_there roots schema ours) (placing.batches_features roots schema ours));
+              readable = insert_read s represented.readable p.0 c collected p.1 f fine;
               sound = r.sound;
             },
             same_elsewhere old.now new.now _ _ ours.apart (placing.features_there roots schema ours) features_ours r.same_schema r.step,
           )
 
-      pub insert_told : (e : Error) → ExecutesInside 0 insert_feature (feature_cells p f) old new (Err e) → IsOfStore e
+      pub insert_reported : (e : Error) → ExecutesInside 0 insert_feature (feature_cells p f) old new (Err e) → IsOfStore e
       unfolding x0 y0 x1 y1 s0 s1
-      insert_told =
-          run.told _ roots.features _ _ _ _ _ in_features.at compile.insert_feature_terms 10 insert_feature (feature_cells p f) old new schema (feature_row ∷ []) refl limit (command_is schema insert_feature 9 _ (compile.insert_feature_means schema roots.features in_features)) (is_plain schema insert_feature 9 _ (compile.insert_feature_means schema roots.features in_features)) (is_fit schema insert_feature 9 _ (compile.insert_feature_means schema roots.features in_features) refl)
+      insert_reported =
+          run.reported _ roots.features _ _ _ _ _ in_features.at compile.insert_feature_terms 10 insert_feature (feature_cells p f) old new schema (feature_row ∷ []) refl limit (command_is schema insert_feature 9 _ (compile.insert_feature_means schema roots.features in_features)) (is_plain schema insert_feature 9 _ (compile.insert_feature_means schema roots.features in_features)) (is_fit schema insert_feature 9 _ (compile.insert_feature_means schema roots.features in_features) refl)
           (rw ((whole_null x0).classed, (whole_null y0).classed, (whole_null x1).classed, (whole_null y1).classed, (whole_null s0).classed, (whole_null s1).classed) refl)
           in_features.listed (rw (cast_null, (whole_null x0).cast_is, (whole_null y0).cast_is, (whole_null x1).cast_is, (whole_null y1).cast_is, (whole_null s0).cast_is, (whole_null s1).cast_is) refl)
-          (feature.only_rowid s schema roots ours db stands.of p c collected f new_id keeps) (feature.refers s schema roots ours db stands.of p c collected f new_id was)
+          (feature.only_rowid s schema roots ours db represented.of p c collected f new_id keeps) (feature.refers s schema roots ours db represented.of p c collected f new_id was)
 
     module _ (is : get c.features p.1 ≡ Some f) where
       abbrev deletes : Means schema delete_feature 2 (Delete in_features.at (program (cut.delete_query roots.features)))
       deletes = compile.delete_feature_means schema roots.features in_features
 
-      pub delete_stands : (count : ℕ) → Executes delete_feature (cut.keys_of p) old new (Ok count) → StandsFor (with_features s p.0 c (remove c.features p.1)) new.now × IsSameElsewhere old.now new.now
-      delete_stands count h =
+      pub delete_represented : (count : ℕ) → Executes delete_feature (cut.keys_of p) old new (Ok count) → StandsFor (with_features s p.0 c (remove c.features p.1)) new.now × IsSameElsewhere old.now new.now
+      delete_represented count h =
           let w = runs_as delete_feature (cut.keys_of p) old new schema refl (Delete in_features.at (program (cut.delete_query roots.features))) (command_is schema delete_feature 2 _ deletes) (is_plain schema delete_feature 2 _ deletes) count h in
           let text = statement_of delete_feature (understood schema delete_feature) in
           let ran = subst (λ l. Does l (mode_of old) (cut.keys_of p) old.now text None (Delete in_features.at (program (cut.delete_query roots.features))) (Ok (w.tally, new.now))) limit w.changed in
-          let done = went (gone.at_table s schema roots ours db stands.of p c collected f is in_features text (Ok (w.tally, new.now)) ran) in
-          let end = concluded (gone.task_of s schema roots ours db stands.of p c collected f is in_features (mode_of old)) (mode_of old) done.0 w.tally new.now done.2 in
-          let step = gone.made s schema roots ours db stands.of p c collected f is in_features (mode_of old) refl done.0 done.1 in
+          let done = went (gone.at_table s schema roots ours db represented.of p c collected f is in_features text (Ok (w.tally, new.now)) ran) in
+          let end = concluded (gone.task_of s schema roots ours db represented.of p c collected f is in_features (mode_of old)) (mode_of old) done.0 w.tally new.now done.2 in
+          let step = gone.made s schema roots ours db represented.of p c collected f is in_features (mode_of old) refl done.0 done.1 in
           let trees = ap (λ (x : Database). x.trees) end in (
             record {
               roots = roots;
               ours = subst (IsOurs roots) (sym (ap (λ (x : Database). x.schema) end)) ours;
               of = subst (AreOf (with_features s p.0 c (remove c.features p.1)) roots) (sym trees)
-                  (cut.of_after s schema roots ours db stands.of p c collected f is done.0.trees step.rows (kept_rows done.0.trees roots.features step.tables (collections roots.collections) (placing.collections_there roots schema ours) (placing.collections_features roots schema ours)) (kept_rows done.0.trees roots.features step.tables (meta roots.meta) (placing.meta_there roots schema ours) (placing.meta_features roots schema ours)) (kept_rows done.0.trees roots.features step.tables (batches roots.batches) (placing.batches_there roots schema ours) (placing.batches_features roots schema ours)));
-              readable = delete_read s stands.readable p.0 c collected p.1;
+                  (cut.of_after s schema roots ours db represented.of p c collected f is done.0.trees step.rows (kept_rows done.0.trees roots.features step.tables (collections roots.collections) (placing.collections_there roots schema ours) (placing.collections_features roots schema ours)) (kept_rows done.0.trees roots.features step.tables (meta roots.meta) (placing.meta_there roots schema ours) (placing.meta_features roots schema ours)) (kept_rows done.0.trees roots.features step.tables (batches roots.batches) (placing.batches_there roots schema ours) (placing.batches_features roots schema ours)));
+              readable = delete_read s represented.readable p.0 c collected p.1;
               sound = w.sound;
             },
             subst (λ d. IsSameElsewhere old.now d) (sym end) (same_elsewhere old.now (record { schema = schema; trees = done.0.trees }) _ _ ours.apart (placing.features_there roots schema ours) features_ours refl step),
           )
 
-      pub delete_told : (e : Error) → ExecutesInside 0 delete_feature (cut.keys_of p) old new (Err e) → IsOfStore e
-      delete_told e (inr ended) = absurd (never_ends delete_feature (cut.keys_of p) old schema _ refl (command_is schema delete_feature 2 _ deletes) (λ q. absurd (cc)) (λ q. absurd (cc)) (λ n q. absurd (cc)) (λ n q. absurd (cc)) ended.0)
-      delete_told e (inl h) =
+      pub delete_reported : (e : Error) → ExecutesInside 0 delete_feature (cut.keys_of p) old new (Err e) → IsOfStore e
+      delete_reported e (inr ended) = absurd (never_ends delete_feature (cut.keys_of p) old schema _ refl (command_is schema delete_feature 2 _ deletes) (λ q. absurd (cc)) (λ q. absurd (cc)) (λ n q. absurd (cc)) (λ n q. absurd (cc)) ended.0)
+      delete_reported e (inl h) =
           elim (refused_as delete_feature (cut.keys_of p) old new schema refl _ (command_is schema delete_feature 2 _ deletes) (is_plain schema delete_feature 2 _ deletes) (is_fit schema delete_feature 2 _ deletes refl) e h.0) [
             | inl refused ↦ elim refused.0 [
               | inl misplaced ↦ absurd (never_misplaced old _ e (λ q. absurd (cc)) (λ q. absurd (cc)) (λ q. absurd (cc)) (λ n q. absurd (cc)) (λ n q. absurd (cc)) misplaced)
-              | inr done ↦ absurd (gone.never_refused s schema roots ours db stands.of p c collected f is in_features (mode_of old) old.now e (statement_of delete_feature (understood schema delete_feature)) refl refl refl
+              | inr done ↦ absurd (gone.never_refused s schema roots ours db represented.of p c collected f is in_features (mode_of old) old.now e (statement_of delete_feature (understood schema delete_feature)) refl refl refl
                   keeps was (subst (λ l. Does l (mode_of old) (cut.keys_of p) old.now (statement_of delete_feature (understood schema delete_feature)) None (Delete in_features.at (program (cut.delete_query roots.features))) (Err (Some e))) limit done))
             ]
             | inr failed ↦ failure_is e failed.1.0 failed.1.1
@@ -202,24 +202,24 @@ module _ (old new : Seen) (s : State) (stands : StandsFor s old.now) (limit : ol
   -- ---- what is kept for a batch
   module _ (key : Text) (kept : AcceptedBatch) (absent : get s.keys key ≡ None) (next_serial : kept.serial ≡ len s.keys + 1) (counted : (q : Text) (k : AcceptedBatch) → get s.keys q ≡ Some k → k.serial ≤ len s.keys) where
     abbrev kept_row : Row
-    kept_row = batch.row s schema roots ours db stands.of key kept absent next_serial counted
+    kept_row = batch.row s schema roots ours db represented.of key kept absent next_serial counted
 
-    pub keep_stands : (count : ℕ) → Executes insert_batch (batch_cells key kept) old new (Ok count) → StandsFor (record s { keys = insert s.keys key kept }) new.now × IsSameElsewhere old.now new.now
-    keep_stands count h =
+    pub keep_represented : (count : ℕ) → Executes insert_batch (batch_cells key kept) old new (Ok count) → StandsFor (record s { keys = insert s.keys key kept }) new.now × IsSameElsewhere old.now new.now
+    keep_represented count h =
         let r = run.inserted _ roots.batches _ _ _ _ _ in_batches.at compile.insert_batch_terms 8 insert_batch (batch_cells key kept) old new schema (kept_row ∷ []) refl limit (command_is schema insert_batch 7 _ (compile.insert_batch_means schema roots.batches in_batches)) (is_plain schema insert_batch 7 _ (compile.insert_batch_means schema roots.batches in_batches)) (is_fit schema insert_batch 7 _ (compile.insert_batch_means schema roots.batches in_batches) refl)
         refl in_batches.listed (rw (cast_null, cast_int (pos kept.counts.opened), cast_int (pos kept.counts.inserted), cast_int (pos kept.counts.replaced), cast_int (pos kept.counts.deleted), cast_int (pos kept.serial)) refl) count h in (
           record {
             roots = roots;
             ours = subst (IsOurs roots) (sym r.same_schema) ours;
-            of = batch.of_after s schema roots ours db stands.of key kept absent next_serial counted new.now.trees r.step.rows (kept_rows new.now.trees roots.batches r.step.tables (collections roots.collections) (placing.collections_there roots schema ours) (λ e. placing.batches_collections roots schema ours (sym e))) (kept_rows new.now.trees roots.batches r.step.tables (meta roots.meta) (placing.meta_there roots schema ours) (placing.meta_batches roots schema ours)) (kept_rows new.now.trees roots.batches r.step.tables (features roots.features) (placing.features_there roots schema ours) (λ e. placing.batches_features roots schema ours (sym e)));
-            readable = keep_read s (insert s.keys key kept) stands.readable;
+            of = batch.of_after s schema roots ours db represented.of key kept absent next_serial counted new.now.trees r.step.rows (kept_rows new.now.trees roots.batches r.step.tables (collections roots.collections) (placing.collections_there roots schema ours) (λ e. placing.batches_collections roots schema ours (sym e))) (kept_rows new.now.trees roots.batches r.step.tables (meta roots.meta) (placing.meta_there roots schema ours) (placing.meta_batches roots schema ours)) (kept_rows new.now.trees roots.batches r.step.tables (features roots.features) (placing.features_there roots schema ours) (λ e. placing.batches_features roots schema ours (sym e)));
+            readable = keep_read s (insert s.keys key kept) represented.readable;
             sound = r.sound;
           },
           same_elsewhere old.now new.now _ _ ours.apart (placing.batches_there roots schema ours) batches_ours r.same_schema r.step,
         )
 
-    pub keep_told : (e : Error) → ExecutesInside 0 insert_batch (batch_cells key kept) old new (Err e) → IsOfStore e
-    keep_told =
-        run.told _ roots.batches _ _ _ _ _ in_batches.at compile.insert_batch_terms 8 insert_batch (batch_cells key kept) old new schema (kept_row ∷ []) refl limit (command_is schema insert_batch 7 _ (compile.insert_batch_means schema roots.batches in_batches)) (is_plain schema insert_batch 7 _ (compile.insert_batch_means schema roots.batches in_batches)) (is_fit schema insert_batch 7 _ (compile.insert_batch_means schema roots.batches in_batches) refl)
+    pub keep_reported : (e : Error) → ExecutesInside 0 insert_batch (batch_cells key kept) old new (Err e) → IsOfStore e
+    keep_reported =
+        run.reported _ roots.batches _ _ _ _ _ in_batches.at compile.insert_batch_terms 8 insert_batch (batch_cells key kept) old new schema (kept_row ∷ []) refl limit (command_is schema insert_batch 7 _ (compile.insert_batch_means schema roots.batches in_batches)) (is_plain schema insert_batch 7 _ (compile.insert_batch_means schema roots.batches in_batches)) (is_fit schema insert_batch 7 _ (compile.insert_batch_means schema roots.batches in_batches) refl)
         refl in_batches.listed (rw (cast_null, cast_int (pos kept.counts.opened), cast_int (pos kept.counts.inserted), cast_int (pos kept.counts.replaced), cast_int (pos kept.counts.deleted), cast_int (pos kept.serial)) refl)
-        (batch.only_rowid s schema roots ours db stands.of key kept absent next_serial counted keeps) (batch.refers s schema roots ours db stands.of key kept absent next_serial counted was)
+        (batch.only_rowid s schema roots ours db represented.of key kept absent next_serial counted keeps) (batch.refers s schema roots ours db represented.of key kept absent next_serial counted was)

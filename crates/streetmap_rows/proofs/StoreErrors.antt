@@ -6,7 +6,7 @@ use Rattle.sqlite.specs.declared.error.Error.TheVariants.{SqliteFailure}
 use Rattle.sqlite.specs.declared.error.ErrorCode.TheVariants.{NoRowid}
 use Rattle.sqlite_trees.specs.declared.error.StoreError.{StoreError}
 use Rattle.sqlite_trees.specs.declared.error.StoreError.TheVariants as store
-use Rattle.streetmap_rows.specs.Failing.{IsOfStore, is_of_store}
+use Rattle.streetmap_rows.specs.Failures.{IsOfStore, is_of_store}
 
 pub no_rowid_is : (e : Error) → e ≡ SqliteFailure NoRowid → IsOfStore e
 no_rowid_is e is = ap is_of_store is

@@ -14,14 +14,14 @@ use Rattle.streetmap_geojson.specs.FeatureInvariant.{IsFeature}
 use Rattle.streetmap_batch.specs.Text.{Text}
 use Rattle.streetmap_ledger.specs.State.{State, Collection, AcceptedBatch, with_features, opened}
 use Rattle.streetmap_rows.specs.Rows.{feature_text, extent_in, seconds_in}
-use Rattle.streetmap_rows.specs.Stands.{StandsFor}
+use Rattle.streetmap_rows.specs.Representations.{StandsFor}
 use Rattle.streetmap_rows.specs.Elsewhere.{IsSameElsewhere}
-use Rattle.streetmap_rows.specs.Failing.{IsOfStore}
+use Rattle.streetmap_rows.specs.Failures.{IsOfStore}
 use Rattle.streetmap_rows.specs.Holds.{KeyPair}
 
 -- the rows of a read, which leaves the database
-abbrev pub LooksAll : (State → List Row) → Seen → Seen → Result (Vec Row Global) Error → Type 0
-LooksAll f old new r = old.step_limit ≡ None → (s : State) → StandsFor s old.now
+abbrev pub ReadsRows : (State → List Row) → Seen → Seen → Result (Vec Row Global) Error → Type 0
+ReadsRows f old new r = old.step_limit ≡ None → (s : State) → StandsFor s old.now
     → MatchResult r (λ rows. (rows.items ≡ f s) × IsUnchanged old new) (λ e. IsOfStore e
     × KeepsCommit old new)
 

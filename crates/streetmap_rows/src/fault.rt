@@ -1,8 +1,8 @@
 //! Why a read of the tables gave up.
 ghost use Rattle.std.specs.Prelude.{◌≡◌, if◌then◌else◌};
-ghost use Rattle.streetmap_rows.specs.Failing as failing;
+ghost use Rattle.streetmap_rows.specs.Failures as failing;
 
-use crate::failing::is_memory;
+use crate::failures::is_memory;
 use sqlite::Error;
 use std::alloc::{AllocError, AllocFailed};
 

@@ -3,11 +3,11 @@ ghost use Rattle.std.specs.Prelude.{◌≡◌, ◌++◌, IfErr, IfOk, OnOk, List
 ghost use Rattle.sqlite.specs.Held.{state};
 ghost use Rattle.sqlite.specs.State.{HasCleanDisk, KeepsCommit, Survives};
 ghost use Rattle.sqlite.specs.Values.{bound};
-ghost use Rattle.streetmap_rows.specs.Failing.{HasReason};
+ghost use Rattle.streetmap_rows.specs.Failures.{HasReason};
 ghost use Rattle.streetmap_rows.specs.FeatureRows.{Entry, AreRowsOf, PutsAllOrNone};
 ghost use Rattle.streetmap_rows.specs.FeatureRows.{values_of, values_in};
 
-use crate::failing::is_of_store;
+use crate::failures::is_of_store;
 use sqlite::{Alter, Error, ErrorCode, Transaction, params};
 use sqlite_value::value::ValueRef;
 use std::alloc::{AllocError, Global};

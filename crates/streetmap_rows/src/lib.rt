@@ -10,23 +10,23 @@
 //! (`proofs/InsertRuns`) and a DELETE (`proofs/DeleteRuns`) do and why they may fail, and what a
 //! query shows (`proofs/OneRowChosen`, `proofs/OrderedRows`, `proofs/AnyOrder`).
 //!
-//! In the order of reading: `openness` (whether a connection is open), `failing` (how a call ends
+//! In the order of reading: `openness` (whether a connection is open), `failures` (how a call ends
 //! that met an error), `fault` (why a read gives up), `bodies` (a feature's text, parsed again),
-//! `looks` (reads by a key), `writes` (of one row), `feature_rows` (of several).
+//! `lookups` (reads by a key), `writes` (of one row), `feature_rows` (of several).
 #![tactic(auto)]
 
 mod bodies;
-mod failing;
+mod failures;
 mod fault;
 mod feature_rows;
-mod looks;
+mod lookups;
 mod openness;
 mod writes;
 
 pub use bodies::read_body;
-pub use failing::{Shut, Stop, cause_of, is_memory, is_of_store, settle};
+pub use failures::{Shut, Stop, cause_of, is_memory, is_of_store, settle};
 pub use fault::{ReadFault, unread};
 pub use feature_rows::{FeatureRow, ROWS, insert_features};
-pub use looks::{collection_rows, has_feature, kept_rows, time_in};
+pub use lookups::{collection_rows, has_feature, kept_rows, time_in};
 pub use openness::probe;
 pub use writes::{delete_feature, insert_batch, insert_collection, insert_feature};

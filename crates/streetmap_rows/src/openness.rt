@@ -2,7 +2,7 @@
 ghost use Rattle.std.specs.Prelude.{◌≡◌, IsTrue, false, IfErr, OnOk};
 ghost use Rattle.sqlite.specs.Held.{state};
 ghost use Rattle.sqlite.specs.State.{HasCleanDisk, IsUnchanged, KeepsCommit, Survives};
-ghost use Rattle.streetmap_rows.specs.Failing.{IsOfStore, HasReason};
+ghost use Rattle.streetmap_rows.specs.Failures.{IsOfStore, HasReason};
 
 use sqlite::{Alter, Connection, Error};
 

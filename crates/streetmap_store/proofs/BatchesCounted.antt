@@ -9,7 +9,7 @@ use Rattle.streetmap_ledger.specs.State.{State, AcceptedBatch}
 use Rattle.streetmap_ledger.specs.Batches.{Outcome, edited, fresh, by_key, kept_for, act, most_batches}
 use Rattle.streetmap_ledger.specs.declared.reply.Refusal.{Refusal}
 use Rattle.streetmap_ledger.proofs.Repeat.{either, edited_keys}
-use Rattle.streetmap_store.specs.Serving.{count_after}
+use Rattle.streetmap_store.specs.CallResults.{count_after}
 
 pub count_is : (s : State) (b : BatchValue) → len (act s b).state.keys ≡ count_after (act s b).reply (len s.keys)
 count_is s b = by (get s.keys b.key) refl

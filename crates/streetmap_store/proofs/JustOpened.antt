@@ -9,12 +9,12 @@ use Rattle.sqlite.specs.Effect.{Database}
 use Rattle.sqlite.specs.Held.{Held}
 use Rattle.sqlite.specs.Files.{file_state}
 use Rattle.streetmap_ledger.specs.State.{State}
-use Rattle.streetmap_rows.specs.Keeping.{Keeps, Rests}
-use Rattle.streetmap_tables.specs.Making.{HasRoom, IsReady, is_taken}
+use Rattle.streetmap_rows.specs.KeptStates.{Keeps, Rests}
+use Rattle.streetmap_tables.specs.Creation.{HasRoom, IsReady, is_taken}
 use Rattle.streetmap_tables.specs.Old.{KeepsOld, RestsOld}
 use Rattle.streetmap_store.specs.IndexesListed.{keeps_too}
 use Rattle.streetmap_store.proofs.Reopened.{old_too}
-use Rattle.streetmap_store.specs.Holding.{IsJustOpenedOn, HoldsState, HoldsOldState, LeavesRoom}
+use Rattle.streetmap_store.specs.HeldFiles.{IsJustOpenedOn, HoldsState, HoldsOldState, LeavesRoom}
 use Rattle.streetmap_store.specs.Reasons.{RefusesToCreate}
 use Rattle.streetmap_store.specs.declared.fault.CreateFault.TheVariants.{Taken}
 

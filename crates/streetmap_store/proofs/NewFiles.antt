@@ -21,7 +21,7 @@ use Rattle.sqlite_pool.specs.StoredLaws.{trimmed_some}
 use Rattle.sqlite_pool.specs.Header.{first_page}
 use Rattle.sqlite_pool.specs.File.{IsSoundFile, header_in}
 use Rattle.sqlite_pool.proofs.ProbeLemmas.{first_byte}
-use Rattle.streetmap_tables.specs.Making.{HasRoom, is_taken}
+use Rattle.streetmap_tables.specs.Creation.{HasRoom, is_taken}
 use Rattle.streetmap_store.specs.Reasons.{NewFilesLeaveRoom}
 
 -- a first page begins with the S of SQLite, which no blank file does

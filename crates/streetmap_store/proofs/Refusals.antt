@@ -15,14 +15,14 @@ use Rattle.sqlite.specs.Held.{Held}
 use Rattle.sqlite_store.specs.declared.store.FileStore.{FileStore}
 use Rattle.sqlite.specs.Files.{IsNothing, FailsToOpenFiles, image_of}
 use Rattle.streetmap_ledger.specs.State.{State}
-use Rattle.streetmap_tables.specs.Telling.{TellsFault, TellsNothing, LosesKeys}
-use Rattle.streetmap_tables.specs.Carrying.{IsOld, Carries, Opens, OpensBy}
-use Rattle.streetmap_tables.specs.declared.opening.TablesFault.{TablesFault}
-use Rattle.streetmap_tables.specs.declared.opening.TablesFault.TheVariants as tables
-use Rattle.streetmap_tables.specs.declared.adopting.AdoptFault.TheVariants as adopting
-use Rattle.streetmap_tables.specs.declared.making.MakeFault.{MakeFault}
-use Rattle.streetmap_tables.specs.declared.making.MakeFault.TheVariants as making
-use Rattle.streetmap_store.specs.Refusing.{refused_to_open, refused_to_create, not_adopted, not_made}
+use Rattle.streetmap_tables.specs.QueryResults.{ShowsFault, ShowsNothing, LosesKeys}
+use Rattle.streetmap_tables.specs.Migration.{IsOld, Carries, Opens, OpensBy}
+use Rattle.streetmap_tables.specs.declared.openings.TablesFault.{TablesFault}
+use Rattle.streetmap_tables.specs.declared.openings.TablesFault.TheVariants as tables
+use Rattle.streetmap_tables.specs.declared.adoption.AdoptFault.TheVariants as adopting
+use Rattle.streetmap_tables.specs.declared.creation.MakeFault.{MakeFault}
+use Rattle.streetmap_tables.specs.declared.creation.MakeFault.TheVariants as making
+use Rattle.streetmap_store.specs.RefusalCauses.{refused_to_open, refused_to_create, not_adopted, not_made}
 use Rattle.streetmap_store.specs.Reasons.{IsUnopened, OpensNothing, CreatesNothing}
 use Rattle.streetmap_store.specs.Reasons.{IsForeign, OpenBlamesNoFile, CreateBlamesNoFile, Showed, RefusesToOpen, RefusesToCreate, FailsToConnect, StaysAsItWas, HoldsStill}
 use Rattle.streetmap_store.specs.declared.fault.OpenFault.TheVariants as opened
@@ -34,19 +34,19 @@ use Rattle.streetmap_store.proofs.NewFiles.{new_takes_none}
 
 -- ---- no connection
 
--- whether an error tells files that are no database
-tells_foreign : Error → Bool
-tells_foreign (SqliteFailure code.NotADatabase) = true
-tells_foreign _ = false
+-- whether an error says that files are no database
+is_foreign_error : Error → Bool
+is_foreign_error (SqliteFailure code.NotADatabase) = true
+is_foreign_error _ = false
 
 no_kind : (k : StoreError) → store_error k ≡ SqliteFailure code.NotADatabase → ⊥
-unfolding tells_foreign
-no_kind stored.OutOfMemory is = let e : false ≡ true = ap tells_foreign is in cc
-no_kind stored.Io is = let e : false ≡ true = ap tells_foreign is in cc
-no_kind stored.Corrupt is = let e : false ≡ true = ap tells_foreign is in cc
-no_kind stored.Full is = let e : false ≡ true = ap tells_foreign is in cc
-no_kind stored.Broken is = let e : false ≡ true = ap tells_foreign is in cc
-no_kind stored.Unstorable is = let e : false ≡ true = ap tells_foreign is in cc
+unfolding is_foreign_error
+no_kind stored.OutOfMemory is = let e : false ≡ true = ap is_foreign_error is in cc
+no_kind stored.Io is = let e : false ≡ true = ap is_foreign_error is in cc
+no_kind stored.Corrupt is = let e : false ≡ true = ap is_foreign_error is in cc
+no_kind stored.Full is = let e : false ≡ true = ap is_foreign_error is in cc
+no_kind stored.Broken is = let e : false ≡ true = ap is_foreign_error is in cc
+no_kind stored.Unstorable is = let e : false ≡ true = ap is_foreign_error is in cc
 
 -- files that are called no database hold none
 pub foreign : {D : Type 0} {g : disk.Ghosts D} (image : Image) (files : Files D) (rest : Leftover D g) (e : Error) → image_of g files ≡ image → FailsToOpenFiles files rest e
@@ -59,54 +59,54 @@ foreign image files rest e same (inr (inr (inr full))) is = absurd (no_kind stor
 -- nor are those that were not opened called so
 pub not_opened : (image : Image) (e : Error) → (e ≡ SqliteFailure code.CannotOpen) ⊎ ((e ≡ SqliteFailure code.OutOfMemory) ⊎ (e ≡ SqliteFailure code.DatabaseBusy))
     → e ≡ SqliteFailure code.NotADatabase → IsForeign image
-unfolding tells_foreign
-not_opened image e (inl h) is = let wrong : false ≡ true = ap tells_foreign (sym h ∙ is) in cc
-not_opened image e (inr (inl h)) is = let wrong : false ≡ true = ap tells_foreign (sym h ∙ is) in cc
-not_opened image e (inr (inr h)) is = let wrong : false ≡ true = ap tells_foreign (sym h ∙ is) in cc
+unfolding is_foreign_error
+not_opened image e (inl h) is = let wrong : false ≡ true = ap is_foreign_error (sym h ∙ is) in cc
+not_opened image e (inr (inl h)) is = let wrong : false ≡ true = ap is_foreign_error (sym h ∙ is) in cc
+not_opened image e (inr (inr h)) is = let wrong : false ≡ true = ap is_foreign_error (sym h ∙ is) in cc
 
 -- an error of opening is reported as no database, as out of memory, or as it is
-abbrev IsTold : Error → Type 0
-IsTold e = (e ≡ SqliteFailure code.NotADatabase) ⊎ ((e ≡ SqliteFailure code.OutOfMemory) ⊎ ((refused_to_open e ≡ opened.Device e) × (refused_to_create e ≡ created.Device e)))
+abbrev IsReturned : Error → Type 0
+IsReturned e = (e ≡ SqliteFailure code.NotADatabase) ⊎ ((e ≡ SqliteFailure code.OutOfMemory) ⊎ ((refused_to_open e ≡ opened.Device e) × (refused_to_create e ≡ created.Device e)))
 
-told : (e : Error) → IsTold e
-told (SqliteFailure code.NotADatabase) = inl refl
-told (SqliteFailure code.OutOfMemory) = inr (inl refl)
-told (SqliteFailure code.DatabaseCorrupt) = inr (inr (refl, refl))
-told (SqliteFailure code.SystemIoFailure) = inr (inr (refl, refl))
-told (SqliteFailure code.DiskFull) = inr (inr (refl, refl))
-told (SqliteFailure code.CannotOpen) = inr (inr (refl, refl))
-told (SqliteFailure code.DatabaseBusy) = inr (inr (refl, refl))
-told (SqliteFailure code.Closed) = inr (inr (refl, refl))
-told (SqliteFailure code.TooBig) = inr (inr (refl, refl))
-told (SqliteFailure (code.ConstraintViolation c)) = inr (inr (refl, refl))
-told (SqliteFailure code.TypeMismatch) = inr (inr (refl, refl))
-told (SqliteFailure code.IntegerOverflow) = inr (inr (refl, refl))
-told (SqliteFailure code.NoRowid) = inr (inr (refl, refl))
-told (SqliteFailure code.ForeignKeyMismatch) = inr (inr (refl, refl))
-told (SqliteFailure code.TooDeep) = inr (inr (refl, refl))
-told (SqliteFailure code.NoClock) = inr (inr (refl, refl))
-told (SqliteFailure code.NameTaken) = inr (inr (refl, refl))
-told (SqliteFailure code.BadName) = inr (inr (refl, refl))
-told (SqliteFailure code.BadKey) = inr (inr (refl, refl))
-told (SqliteFailure code.BadText) = inr (inr (refl, refl))
-told (SqliteFailure code.SchemaTooBig) = inr (inr (refl, refl))
-told (SqliteFailure code.TransactionState) = inr (inr (refl, refl))
-told (SqliteFailure code.NoSuchSavepoint) = inr (inr (refl, refl))
-told (SqliteFailure code.OperationInterrupted) = inr (inr (refl, refl))
-told (SqlInputError x) = inr (inr (refl, refl))
-told (InvalidParameterCount m n) = inr (inr (refl, refl))
-told ExecuteReturnedResults = inr (inr (refl, refl))
-told InvalidQuery = inr (inr (refl, refl))
-told MultipleStatement = inr (inr (refl, refl))
-told QueryReturnedNoRows = inr (inr (refl, refl))
-told (InvalidColumnIndex n) = inr (inr (refl, refl))
-told (InvalidColumnType n t) = inr (inr (refl, refl))
-told (IntegralValueOutOfRange n) = inr (inr (refl, refl))
-told (Utf8Error n) = inr (inr (refl, refl))
+reported : (e : Error) → IsReturned e
+reported (SqliteFailure code.NotADatabase) = inl refl
+reported (SqliteFailure code.OutOfMemory) = inr (inl refl)
+reported (SqliteFailure code.DatabaseCorrupt) = inr (inr (refl, refl))
+reported (SqliteFailure code.SystemIoFailure) = inr (inr (refl, refl))
+reported (SqliteFailure code.DiskFull) = inr (inr (refl, refl))
+reported (SqliteFailure code.CannotOpen) = inr (inr (refl, refl))
+reported (SqliteFailure code.DatabaseBusy) = inr (inr (refl, refl))
+reported (SqliteFailure code.Closed) = inr (inr (refl, refl))
+reported (SqliteFailure code.TooBig) = inr (inr (refl, refl))
+reported (SqliteFailure (code.ConstraintViolation c)) = inr (inr (refl, refl))
+reported (SqliteFailure code.TypeMismatch) = inr (inr (refl, refl))
+reported (SqliteFailure code.IntegerOverflow) = inr (inr (refl, refl))
+reported (SqliteFailure code.NoRowid) = inr (inr (refl, refl))
+reported (SqliteFailure code.ForeignKeyMismatch) = inr (inr (refl, refl))
+reported (SqliteFailure code.TooDeep) = inr (inr (refl, refl))
+reported (SqliteFailure code.NoClock) = inr (inr (refl, refl))
+reported (SqliteFailure code.NameTaken) = inr (inr (refl, refl))
+reported (SqliteFailure code.BadName) = inr (inr (refl, refl))
+reported (SqliteFailure code.BadKey) = inr (inr (refl, refl))
+reported (SqliteFailure code.BadText) = inr (inr (refl, refl))
+reported (SqliteFailure code.SchemaTooBig) = inr (inr (refl, refl))
+reported (SqliteFailure code.TransactionState) = inr (inr (refl, refl))
+reported (SqliteFailure code.NoSuchSavepoint) = inr (inr (refl, refl))
+reported (SqliteFailure code.OperationInterrupted) = inr (inr (refl, refl))
+reported (SqlInputError x) = inr (inr (refl, refl))
+reported (InvalidParameterCount m n) = inr (inr (refl, refl))
+reported ExecuteReturnedResults = inr (inr (refl, refl))
+reported InvalidQuery = inr (inr (refl, refl))
+reported MultipleStatement = inr (inr (refl, refl))
+reported QueryReturnedNoRows = inr (inr (refl, refl))
+reported (InvalidColumnIndex n) = inr (inr (refl, refl))
+reported (InvalidColumnType n t) = inr (inr (refl, refl))
+reported (IntegralValueOutOfRange n) = inr (inr (refl, refl))
+reported (Utf8Error n) = inr (inr (refl, refl))
 
 module _ {D : Type 0} {g : disk.Ghosts D} (image : Image) (e : Error) (rest : Left (Leftover D g) (Held (FileStore D g))) (fails : FailsToConnect image e rest) where
   pub not_connected : RefusesToOpen image (refused_to_open e) rest
-  not_connected = elim (told e) [
+  not_connected = elim (reported e) [
     | inl is ↦ subst (λ x. RefusesToOpen image (refused_to_open x) rest) (sym is) (inl (fails.foreign is))
     | inr more ↦ elim more [
       | inl is ↦ subst (λ x. RefusesToOpen image (refused_to_open x) rest) (sym is) tt
@@ -115,12 +115,12 @@ module _ {D : Type 0} {g : disk.Ghosts D} (image : Image) (e : Error) (rest : Le
   ]
 
   pub not_connected_to_create : RefusesToCreate image (refused_to_create e)
-  not_connected_to_create = elim (told e) [
+  not_connected_to_create = elim (reported e) [
     | inl is ↦ subst (λ x. RefusesToCreate image (refused_to_create x)) (sym is) (fails.foreign is)
     | inr more ↦ elim more [ inl is ↦ subst (λ x. RefusesToCreate image (refused_to_create x)) (sym is) tt | inr is ↦ subst (RefusesToCreate image) (sym is.1) tt ]
   ]
 
--- where nothing was opened
+-- if nothing was opened
 pub unopened_to_open : (e : Error) → IsUnopened e → OpensNothing (refused_to_open e)
 unopened_to_open e (inl is) = subst (λ x. OpensNothing (refused_to_open x)) (sym is) (inl refl)
 unopened_to_open e (inr (inl is)) = subst (λ x. OpensNothing (refused_to_open x)) (sym is) tt
@@ -143,26 +143,26 @@ still_held image (left.Connection c) h = record { first = h.first; on = h.on; cl
 -- tables that are not opened
 pub not_adopted_for : {D : Type 0} {g : disk.Ghosts D} (image : Image) (rest : Left (Leftover D g) (Held (FileStore D g))) (seen : Seen) → ((P : Seen → Type 0) → P seen → Showed image P rest) → (fault : TablesFault)
     → OpensBy seen (Err fault) → RefusesToOpen image (not_adopted fault) rest
-not_adopted_for image rest seen show tables.NotOurs by = inr (show (λ x. TellsFault x adopting.NotOurs ⊎ TellsNothing x) by)
-not_adopted_for image rest seen show tables.NewFormat by = show (λ x. TellsFault x adopting.NewFormat) by
+not_adopted_for image rest seen show tables.NotOurs by = inr (show (λ x. ShowsFault x adopting.NotOurs ⊎ ShowsNothing x) by)
+not_adopted_for image rest seen show tables.NewFormat by = show (λ x. ShowsFault x adopting.NewFormat) by
 not_adopted_for image rest seen show tables.Damaged by = show (λ x. IsOld x ⊎ LosesKeys x) by
 not_adopted_for image rest seen show (tables.Device e) (inl of) = inr (inl of)
 not_adopted_for image rest seen show (tables.Device e) (inr old) = inr (inr (show IsOld old))
 not_adopted_for image rest seen show tables.Memory by = tt
 
-pub ours_spared : (s : State) (old new : Seen) (fault : TablesFault) → Opens s old new (Err fault) → OpenBlamesNoFile (not_adopted fault)
-ours_spared s old new tables.NotOurs h = absurd h
-ours_spared s old new tables.NewFormat h = absurd h
-ours_spared s old new tables.Damaged h = absurd h
-ours_spared s old new (tables.Device e) h = tt
-ours_spared s old new tables.Memory h = tt
+pub ours_blame_no_file : (s : State) (old new : Seen) (fault : TablesFault) → Opens s old new (Err fault) → OpenBlamesNoFile (not_adopted fault)
+ours_blame_no_file s old new tables.NotOurs h = absurd h
+ours_blame_no_file s old new tables.NewFormat h = absurd h
+ours_blame_no_file s old new tables.Damaged h = absurd h
+ours_blame_no_file s old new (tables.Device e) h = tt
+ours_blame_no_file s old new tables.Memory h = tt
 
-pub old_spared : (s : State) (old new : Seen) (fault : TablesFault) → Carries s old new (Err fault) → OpenBlamesNoFile (not_adopted fault)
-old_spared s old new tables.NotOurs h = absurd h
-old_spared s old new tables.NewFormat h = absurd h
-old_spared s old new tables.Damaged h = absurd h
-old_spared s old new (tables.Device e) h = tt
-old_spared s old new tables.Memory h = tt
+pub old_blame_no_file : (s : State) (old new : Seen) (fault : TablesFault) → Carries s old new (Err fault) → OpenBlamesNoFile (not_adopted fault)
+old_blame_no_file s old new tables.NotOurs h = absurd h
+old_blame_no_file s old new tables.NewFormat h = absurd h
+old_blame_no_file s old new tables.Damaged h = absurd h
+old_blame_no_file s old new (tables.Device e) h = tt
+old_blame_no_file s old new tables.Memory h = tt
 
 -- tables that are not made
 pub not_made_for : (image : Image) (fault : MakeFault) → (fault ≡ making.Taken → RefusesToCreate image created.Taken) → RefusesToCreate image (not_made fault)
@@ -171,8 +171,8 @@ not_made_for image (making.Device e) taken = tt
 not_made_for image making.Memory taken = tt
 
 -- new files are not to blame
-pub new_spared : (image : Image) → IsNothing image → (fault : CreateFault) → RefusesToCreate image fault → CreateBlamesNoFile fault
-new_spared image nothing created.NotOurs h = h (inr nothing)
-new_spared image nothing created.Taken h = let none = new_takes_none image nothing h.0 h.1 h.2 h.3 in let wrong : false ≡ true = subst IsTrue none h.4 in cc
-new_spared image nothing (created.Device e) h = tt
-new_spared image nothing created.Memory h = tt
+pub new_blame_no_file : (image : Image) → IsNothing image → (fault : CreateFault) → RefusesToCreate image fault → CreateBlamesNoFile fault
+new_blame_no_file image nothing created.NotOurs h = h (inr nothing)
+new_blame_no_file image nothing created.Taken h = let none = new_takes_none image nothing h.0 h.1 h.2 h.3 in let wrong : false ≡ true = subst IsTrue none h.4 in cc
+new_blame_no_file image nothing (created.Device e) h = tt
+new_blame_no_file image nothing created.Memory h = tt

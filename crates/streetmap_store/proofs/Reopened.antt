@@ -12,12 +12,12 @@ use Rattle.streetmap_ledger.specs.State.{State}
 use Rattle.streetmap_ledger.specs.Keep.{LeavesOnly, LeavesEither}
 use Rattle.streetmap_rows.proofs.Schemas.{one_schema}
 use Rattle.streetmap_rows.specs.Tables.{meta_name, features_name}
-use Rattle.streetmap_rows.specs.Keeping.{Keeps, MayLeave, Rests, AreTreesOf}
-use Rattle.streetmap_rows.specs.declared.failing.Shut.{Shut}
+use Rattle.streetmap_rows.specs.KeptStates.{Keeps, MayLeave, Rests, AreTreesOf}
+use Rattle.streetmap_rows.specs.declared.failures.Shut.{Shut}
 use Rattle.streetmap_tables.specs.Old.{KeepsOld}
 use Rattle.streetmap_store.specs.IndexesListed.{one_indexes, keeps_too}
-use Rattle.streetmap_store.specs.Reopening.{IsJustOpened, OpensWithin}
-use Rattle.streetmap_store.specs.Serving.{KeepsState}
+use Rattle.streetmap_store.specs.Reopenings.{IsJustOpened, OpensWithin}
+use Rattle.streetmap_store.specs.CallResults.{KeepsState}
 use Rattle.streetmap_store.specs.TableModel.{LeavesStates, leaves_states}
 
 -- trees that are a state's in format 1 under one schema are so under each that they list
@@ -78,8 +78,8 @@ within_two seen s t only o left = elim (only o left) [ inl is ↦ (s, is, inl re
 
 -- trees of a state that are opened again
 rests_again : (new : Seen) (s : State) → AreTreesOf new.now.trees (Some s) → IsJustOpened new → Rests new s
-rests_again new s tells fresh = record {
-  kept = keeps_too s tells.0 new.now.schema new.now.trees fresh.sound tells.1;
+rests_again new s reports fresh = record {
+  kept = keeps_too s reports.0 new.now.schema new.now.trees fresh.sound reports.1;
   settled = fresh.settled;
   live = fresh.live;
   unlimited = fresh.unlimited;

@@ -16,26 +16,26 @@ use Rattle.streetmap_ledger.specs.declared.reply.Cause.{Cause}
 use Rattle.streetmap_ledger.specs.declared.reply.Reply.{Reply}
 use Rattle.streetmap_ledger.specs.declared.reply.Fault.{Fault}
 use Rattle.streetmap_ledger.specs.declared.reply.Fault.TheVariants as fault
-use Rattle.streetmap_rows.specs.declared.failing.Stop.{Stop}
-use Rattle.streetmap_rows.specs.declared.failing.Stop.TheVariants as stop
-use Rattle.streetmap_rows.specs.declared.failing.Shut.{Shut}
-use Rattle.streetmap_rows.specs.declared.failing.Shut.TheVariants as shut
+use Rattle.streetmap_rows.specs.declared.failures.Stop.{Stop}
+use Rattle.streetmap_rows.specs.declared.failures.Stop.TheVariants as stop
+use Rattle.streetmap_rows.specs.declared.failures.Shut.{Shut}
+use Rattle.streetmap_rows.specs.declared.failures.Shut.TheVariants as shut
 use Rattle.streetmap_rows.specs.declared.fault.ReadFault.{ReadFault}
 use Rattle.streetmap_rows.specs.declared.fault.ReadFault.TheVariants as read
-use Rattle.streetmap_rows.specs.Failing.{HasReason}
-use Rattle.streetmap_rows.specs.Settling.{Settles, StopsFor}
-use Rattle.streetmap_rows.specs.Keeping.{Rests, MayLeave, MayBecome, AreTreesOf}
+use Rattle.streetmap_rows.specs.Failures.{HasReason}
+use Rattle.streetmap_rows.specs.CallEnds.{Settles, StopsFor}
+use Rattle.streetmap_rows.specs.KeptStates.{Rests, MayLeave, MayBecome, AreTreesOf}
 use Rattle.streetmap_rows.proofs.CrashLeaves.{leaves_only, leaves_either}
 use Rattle.streetmap_rows.proofs.OneState.{trees_of_one}
 use Rattle.streetmap_rows.proofs.ErrorReasons.{counts_then, more_before, more_later, stops_settled}
-use Rattle.streetmap_reading.specs.Looking.{LooksInto, Stays}
-use Rattle.streetmap_reading.specs.Taking.{Stopped}
-use Rattle.streetmap_tables.specs.Acting.{Applied, IsToldByStore, LeavesOtherTables}
+use Rattle.streetmap_reading.specs.ReadResults.{ReadsState, Stays}
+use Rattle.streetmap_reading.specs.FoldStops.{Stopped}
+use Rattle.streetmap_tables.specs.BatchEffects.{Applied, IsByStoreError, LeavesOtherTables}
 use Rattle.streetmap_tables.proofs.BeforeCleanEnd.{clean_back}
 use Rattle.streetmap_tables.proofs.CallsInTransaction.{same_all}
-use Rattle.streetmap_tables.proofs.RestsAfterLook.{rests_still, rests_if_open}
-use Rattle.streetmap_store.specs.Serving.{KeepsState, LeavesLast, HasShut, Acts, Answers, Returns, EndsRead}
-use Rattle.streetmap_store.specs.Serving.{cause_in, is_named, fault_by, shut_by, count_after}
+use Rattle.streetmap_tables.proofs.RestsAfterRead.{rests_still, rests_if_open}
+use Rattle.streetmap_store.specs.CallResults.{KeepsState, LeavesLast, HasShut, Acts, Answers, Returns, EndsRead}
+use Rattle.streetmap_store.specs.CallResults.{cause_in, is_named, fault_by, shut_by, count_after}
 use Rattle.streetmap_store.specs.TableModel.{View, Represents, Spares, Fails, LeavesStates, table_model, leaves_states}
 use Rattle.streetmap_store.proofs.BatchesCounted.{count_is}
 
@@ -83,10 +83,10 @@ never_reopen r old new says free err =
     absurd cc
 
 -- what shut it is named by an error of the store
-pub named_after : (it : Stop) (was now : Option Shut) → now ≡ shut_by it was → IsToldByStore it → IsTrue (is_named was) → IsTrue (is_named now)
-named_after stop.Memory was now same told before = ap is_named same ∙ before
-named_after (stop.Closed (shut.Device e)) was now same told before = ap is_named same ∙ told
-named_after (stop.Closed shut.Damaged) was now same told before = ap is_named same
+pub named_after : (it : Stop) (was now : Option Shut) → now ≡ shut_by it was → IsByStoreError it → IsTrue (is_named was) → IsTrue (is_named now)
+named_after stop.Memory was now same reported before = ap is_named same ∙ before
+named_after (stop.Closed (shut.Device e)) was now same reported before = ap is_named same ∙ reported
+named_after (stop.Closed shut.Damaged) was now same reported before = ap is_named same
 
 -- and arose for a reason
 shut_for_reason : (old new : Seen) (it : Stop) (was now : Option Shut) → was ≡ None → now ≡ shut_by it was → StopsFor old new it
@@ -165,10 +165,10 @@ module _ (was now : Option Shut) (count : ℕ) (old mid new : Seen) (s : State) 
   ended : {T : Type 0} (Is : T → Type 0) (found : Result T ReadFault) (result : Result T Fault)
       → MatchResult found (λ a. Is a × IsUnchanged old mid) (Stopped old mid) → Returns found was mid now new result
       → Kept count old now new s × Says Is now result
-  ended Is (Ok x) result looks gives =
-      (unchanged looks.1 (gives.2 looks.1.0.is_open) gives.1, subst (Says Is now) (sym gives.0) (looks.0, gives.1 ∙ keeps.unshut))
-  ended Is (Err f) result looks gives =
-      let it = gave_up Is f gives.0 looks gives.2 (gives.3 clean) in
+  ended Is (Ok x) result reads_state gives =
+      (unchanged reads_state.1 (gives.2 reads_state.1.0.is_open) gives.1, subst (Says Is now) (sym gives.0) (reads_state.0, gives.1 ∙ keeps.unshut))
+  ended Is (Err f) result reads_state gives =
+      let it = gave_up Is f gives.0 reads_state gives.2 (gives.3 clean) in
       (it.0, subst (Says Is now) (sym gives.1) it.1)
 
 -- a call that commits nothing leaves no more than before
@@ -188,7 +188,7 @@ closes_on old mid new Commits After first second clean live =
     ]
 
 module _ {K T : Type 0} (view : View K) (k l : K) (mid : Seen) (found : Result T ReadFault) (result : Result T Fault) (Is : State → T → Type 0)
-    (free : view.shut k ≡ None) (same : view.count l ≡ view.count k) (looks : HasCleanDisk mid → LooksInto Is (view.seen k) mid found)
+    (free : view.shut k ≡ None) (same : view.count l ≡ view.count k) (reads_state : HasCleanDisk mid → ReadsState Is (view.seen k) mid found)
     (stays : Stays (view.seen k) mid) (first : Survives (view.seen k) mid (λ _. Unit {0}))
     (answers : Answers found (view.shut k) mid (view.shut l) (view.seen l) result) where
   abbrev old : Seen
@@ -207,7 +207,7 @@ module _ {K T : Type 0} (view : View K) (k l : K) (mid : Seen) (found : Result T
   kept clean s is =
       let keeps = subst (λ n. KeepsState (view.shut k) old n s) (sym same) is in
       ended (view.shut k) (view.shut l) (view.count l) old mid new s keeps first answers.survives clean answers.last (Is s) found result
-      (looks (early clean) s is.rests.unlimited is.rests.kept) answers.returns
+      (reads_state (early clean) s is.rests.unlimited is.rests.kept) answers.returns
 
   no_more : HasCleanDisk new → (s : State) → Represents view k s → (trees : Trees) → new.may_leave trees → old.may_leave trees
   no_more clean s is trees may =
@@ -217,8 +217,8 @@ module _ {K T : Type 0} (view : View K) (k l : K) (mid : Seen) (found : Result T
   leaves clean s is o left =
       leaves_only old s is.rests is.last.only o (left.0, no_more clean s is left.0 left.1, left.2)
 
-  read_spares : Spares view k l
-  read_spares = record {
+  read_preserves : Spares view k l
+  read_preserves = record {
     still = λ some. shut_of_none (view.shut k) free some;
     clean = λ clean. clean_back old mid (λ _. Unit {0}) first (early clean);
     counts = counts_then old.faults mid.faults new.faults first.counts answers.survives.counts;
@@ -244,8 +244,8 @@ module _ {K T : Type 0} (view : View K) (k l : K) (mid : Seen) (found : Result T
   read_is =
       let says = returned found answers.returns in record {
         call = record {
-          spared = read_spares;
-          began_clean = read_spares.clean;
+          preserved = read_preserves;
+          began_clean = read_preserves.clean;
           faults = says;
           reopen = λ err. never_reopen result _ _ says (ap (option_map cause_in) free) err;
         };
@@ -255,10 +255,10 @@ module _ {K T : Type 0} (view : View K) (k l : K) (mid : Seen) (found : Result T
 -- a read over the connection of a keeper that is open, and its answer
 pub read_over : {K T : Type 0} {view : View K} {k l : K} {mid : Seen} {found : Result T ReadFault} {result : Result T Fault} {Is : State → T → Type 0}
     → option_map cause_in (view.shut k) ≡ None → view.count l ≡ view.count k
-    → (HasCleanDisk mid → LooksInto Is (view.seen k) mid found) → Stays (view.seen k) mid → Survives (view.seen k) mid (λ _. Unit {0})
+    → (HasCleanDisk mid → ReadsState Is (view.seen k) mid found) → Stays (view.seen k) mid → Survives (view.seen k) mid (λ _. Unit {0})
     → Answers found (view.shut k) mid (view.shut l) (view.seen l) result → IsRead (table_model view) k l result Is
-read_over {K} {T} {view} {k} {l} {mid} {found} {result} {Is} free same looks stays first answers =
-    read_is view k l mid found result Is (unshut_of (view.shut k) free) same looks stays first answers
+read_over {K} {T} {view} {k} {l} {mid} {found} {result} {Is} free same reads_state stays first answers =
+    read_is view k l mid found result Is (unshut_of (view.shut k) free) same reads_state stays first answers
 
 -- ---- a batch
 
@@ -329,8 +329,8 @@ module _ {K : Type 0} (view : View K) (k l : K) (b : BatchValue) (r : Result Rep
   write_acts clean s is =
       acts (view.shut k) (view.shut l) (view.count k) (view.count l) before after s b is last r result (applied clean s is.rests is.counted) gives
 
-  write_spares : Spares view k l
-  write_spares = record {
+  write_preserves : Spares view k l
+  write_preserves = record {
     still = λ some. shut_of_none (view.shut k) free some;
     clean = λ clean. clean_back before after (λ _. Unit {0}) survives clean;
     counts = survives.counts;
@@ -366,8 +366,8 @@ module _ {K : Type 0} (view : View K) (k l : K) (b : BatchValue) (r : Result Rep
       let says = write_shuts r gives in record {
         applied = λ clean s is. (others clean s is.rests is.counted, write_acts clean s is);
         call = record {
-          spared = write_spares;
-          began_clean = write_spares.clean;
+          preserved = write_preserves;
+          began_clean = write_preserves.clean;
           faults = says;
           reopen = λ err. never_reopen result _ _ says (ap (option_map cause_in) free) err;
         };
@@ -398,7 +398,7 @@ shut_write {K} {view} k {b} some =
     let m = table_model view in record {
       applied = λ clean s is. absurd (m.shut_has_none k s some is);
       call = record {
-        spared = m.spares_itself k;
+        preserved = m.preserves_itself k;
         began_clean = λ clean. clean;
         faults = (some, refl);
         reopen = λ err o. (λ left. left, λ left. left);

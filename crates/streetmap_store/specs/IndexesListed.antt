@@ -19,7 +19,7 @@ use Rattle.sqlite_resolve.specs.Lowering.{Checked}
 use Rattle.streetmap_ledger.specs.State.{State}
 use Rattle.streetmap_rows.proofs.Schemas.{one_schema}
 use Rattle.streetmap_rows.specs.Tables.{Roots, IsOurs, IsNamed, features_name}
-use Rattle.streetmap_rows.specs.Keeping.{Keeps}
+use Rattle.streetmap_rows.specs.KeptStates.{Keeps}
 
 -- no two tables have one name
 abbrev IsNamedOnce : List Table → Type 0

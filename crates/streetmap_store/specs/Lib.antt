@@ -1,7 +1,7 @@
-pub mod Serving
+pub mod CallResults
 pub mod TableModel
 pub mod IndexesListed
-pub mod Reopening
-pub mod Holding
-pub mod Refusing
+pub mod Reopenings
+pub mod HeldFiles
+pub mod RefusalCauses
 pub mod Reasons

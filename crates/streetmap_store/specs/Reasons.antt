@@ -17,15 +17,15 @@ use Rattle.sqlite.specs.Held.{Held}
 use Rattle.sqlite.specs.Opening.{is_open_error}
 use Rattle.sqlite.specs.Files.{HoldsDatabase, IsNothing, AreFoundIn, IsCleanLeft, LeavesFiles}
 use Rattle.sqlite.specs.Files.{image_of, file_state}
-use Rattle.streetmap_rows.specs.Failing.{IsOfStore}
-use Rattle.streetmap_tables.specs.Adopting.{IsAsItWas}
-use Rattle.streetmap_tables.specs.Telling.{TellsFault, TellsNothing, LosesKeys}
-use Rattle.streetmap_tables.specs.Making.{is_taken}
+use Rattle.streetmap_rows.specs.Failures.{IsOfStore}
+use Rattle.streetmap_tables.specs.Adoption.{IsAsItWas}
+use Rattle.streetmap_tables.specs.QueryResults.{ShowsFault, ShowsNothing, LosesKeys}
+use Rattle.streetmap_tables.specs.Creation.{is_taken}
 use Rattle.streetmap_ledger.specs.State.{State}
 use Rattle.streetmap_tables.specs.Old.{RestsOld}
-use Rattle.streetmap_tables.specs.Carrying.{IsOld, UntouchedUnlessFormat1, MayCarry}
-use Rattle.streetmap_tables.specs.declared.adopting.AdoptFault.TheVariants as adopting
-use Rattle.streetmap_store.specs.Holding.{IsJustOpenedOn, LeavesRoom}
+use Rattle.streetmap_tables.specs.Migration.{IsOld, UntouchedUnlessFormat1, MayCarry}
+use Rattle.streetmap_tables.specs.declared.adoption.AdoptFault.TheVariants as adopting
+use Rattle.streetmap_store.specs.HeldFiles.{IsJustOpenedOn, LeavesRoom}
 use Rattle.streetmap_store.specs.declared.fault.OpenFault.{OpenFault}
 use Rattle.streetmap_store.specs.declared.fault.OpenFault.TheVariants as opened
 use Rattle.streetmap_store.specs.declared.fault.CreateFault.{CreateFault}
@@ -124,15 +124,15 @@ module _ {D : Type 0} {g : disk.Ghosts D} where
   abbrev pub RefusesToOpen : Image → OpenFault → Left (Leftover D g) (Held (FileStore D g)) → Type 0
   -- They are no database; or the read of the format row found none of ours, or was refused.
   RefusesToOpen image opened.NotOurs rest = IsForeign image
-      ⊎ Showed image (λ seen. TellsFault seen adopting.NotOurs ⊎ TellsNothing seen) rest
+      ⊎ Showed image (λ seen. ShowsFault seen adopting.NotOurs ⊎ ShowsNothing seen) rest
   -- The read of the format row found a format above 2.
   RefusesToOpen image opened.NewFormat rest = Showed image (λ seen.
-      TellsFault seen adopting.NewFormat) rest
+      ShowsFault seen adopting.NewFormat) rest
   -- The format is 1, and the tables are damaged, of which no more is said here; or it is 2, and the
   -- read of the batches was refused.
   RefusesToOpen image opened.Damaged rest = Showed image (λ seen. IsOld seen ⊎ LosesKeys seen) rest
   -- The error is one of opening, or one by which the store failed; or the format is 1, and a
-  -- statement that makes the tables anew was refused with it.
+  -- statement that makes the new tables was refused with it.
   RefusesToOpen image (opened.Device e) rest = IsTrue (is_open_error e)
       ⊎ (IsOfStore e ⊎ Showed image IsOld rest)
   -- Memory ran out, which may happen with any files.

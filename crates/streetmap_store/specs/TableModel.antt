@@ -8,14 +8,14 @@ use Rattle.sqlite_trees.specs.Tree.{Trees}
 use Rattle.sqlite.specs.State.{State as Seen, HasCleanDisk}
 use Rattle.streetmap_ledger.specs.State.{State}
 use Rattle.streetmap_ledger.specs.Model.{Model}
-use Rattle.streetmap_rows.specs.declared.failing.Shut.{Shut}
-use Rattle.streetmap_rows.specs.declared.failing.Shut.TheVariants.{Device, Damaged}
-use Rattle.streetmap_rows.specs.Keeping.{MayLeave, AreTreesOf}
+use Rattle.streetmap_rows.specs.declared.failures.Shut.{Shut}
+use Rattle.streetmap_rows.specs.declared.failures.Shut.TheVariants.{Device, Damaged}
+use Rattle.streetmap_rows.specs.KeptStates.{MayLeave, AreTreesOf}
 use Rattle.streetmap_rows.proofs.ErrorReasons.{counts_then, more_before, more_later, reason_on}
-use Rattle.streetmap_tables.specs.Acting.{LeavesOtherTables}
+use Rattle.streetmap_tables.specs.BatchEffects.{LeavesOtherTables}
 use Rattle.streetmap_tables.proofs.BeforeCleanEnd.{may_leave_it}
 use Rattle.streetmap_tables.proofs.CallsInTransaction.{same_all, elsewhere_then}
-use Rattle.streetmap_store.specs.Serving.{KeepsState, HasShut, Acts, cause_in, never_shut}
+use Rattle.streetmap_store.specs.CallResults.{KeepsState, HasShut, Acts, cause_in, never_shut}
 
 -- what is seen of a keeper over tables: what shut it, how many batches were accepted, and its
 -- connection
@@ -86,8 +86,8 @@ leaves_it shut seen count s is o left =
     is.only o (subst (λ trees. AreTreesOf trees o) same left.2)
 
 module _ {K : Type 0} (view : View K) where
-  pub spares_itself : (k : K) → Spares view k k
-  spares_itself k = record {
+  pub preserves_itself : (k : K) → Spares view k k
+  preserves_itself k = record {
     still = λ shut. refl;
     clean = λ clean. clean;
     counts = le_refl (view.seen k).faults;
@@ -103,10 +103,10 @@ module _ {K : Type 0} (view : View K) where
   -- if the store failed before and shut the keeper, it failed up to the last
   pub fails_still : (first mid last : K) → Fails view first mid → IsSome (view.shut mid)
       → Spares view mid last → Fails view first last
-  fails_still first mid last fails shut spares = record {
+  fails_still first mid last fails shut preserves = record {
     reason = λ clean.
         subst (λ k. HasShut (view.seen first) (view.seen k) (view.shut k))
-        (sym (spares.still shut)) (fails.reason (spares.clean clean));
+        (sym (preserves.still shut)) (fails.reason (preserves.clean clean));
   }
 
 module _ {K : Type 0} (view : View K) (first mid last : K) (one : Spares view first mid)
@@ -148,8 +148,8 @@ module _ {K : Type 0} (view : View K) (first mid last : K) (one : Spares view fi
       → view.shut mid ≡ None → (t : State) × Represents view mid t
   its_state clean s is none = one.stays (two.clean clean) s is none
 
-  pub spares_then : Spares view first last
-  spares_then = record {
+  pub preserves_then : Spares view first last
+  preserves_then = record {
     still = λ shut.
         let same = one.still shut in
         two.still (subst (λ k. IsSome (view.shut k)) (sym same) shut) ∙ same;
@@ -200,16 +200,16 @@ table_model view = record {
   applies = λ k b result after. HasCleanDisk (view.seen after) → (s : State) →
       Represents view k s → LeavesOtherTables (view.seen k) (view.seen after)
       × Acts s b result (Represents view after);
-  spares = Spares view;
+  preserves = Spares view;
   fails = Fails view;
   one_state = λ k s t p q. one_state (view.shut k) (view.seen k) (view.count k) s t p q;
   shut_has_none = λ k s shut is. never_shut (view.shut k) is.unshut shut;
   may_leave_it = λ k s is. may_leave_it (view.seen k) s is.rests is.last.left;
   leaves_it = λ k s is. leaves_it (view.shut k) (view.seen k) (view.count k) s is;
   well_formed = λ k s is. is.rests.kept.well;
-  spares_itself = spares_itself view;
-  spares_then = spares_then view;
+  preserves_itself = preserves_itself view;
+  preserves_then = preserves_then view;
   fails_later = fails_later view;
-  fails_still = λ first mid last failed shut spared.
-      fails_still view first mid last failed (is_shut (view.shut mid) shut) spared;
+  fails_still = λ first mid last failed shut preserved.
+      fails_still view first mid last failed (is_shut (view.shut mid) shut) preserved;
 }

@@ -1,8 +1,8 @@
 //! Why a file is not made or opened, and what is left of it.
 ghost use Rattle.std.specs.Prelude.{◌≡◌};
-ghost use Rattle.streetmap_store.specs.Refusing.{open_code, create_code, open_description};
-ghost use Rattle.streetmap_store.specs.Refusing.{create_description, refused_to_open};
-ghost use Rattle.streetmap_store.specs.Refusing.{refused_to_create, not_adopted, not_made};
+ghost use Rattle.streetmap_store.specs.RefusalCauses.{open_code, create_code, open_description};
+ghost use Rattle.streetmap_store.specs.RefusalCauses.{create_description, refused_to_open};
+ghost use Rattle.streetmap_store.specs.RefusalCauses.{refused_to_create, not_adopted, not_made};
 
 use sqlite::{Error, ErrorCode};
 use streetmap_tables::{MakeFault, TablesFault};

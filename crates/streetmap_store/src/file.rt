@@ -4,15 +4,15 @@ ghost use Rattle.sqlite_wal.specs.Files.{image_at};
 ghost use Rattle.sqlite.specs.State.{HasCleanDisk};
 ghost use Rattle.sqlite.specs.Files.{file_state, IsNothing};
 ghost use Rattle.streetmap_ledger.specs.State.{State, opening_state};
-ghost use Rattle.streetmap_store.specs.Serving.{KeepsState};
-ghost use Rattle.streetmap_store.specs.Holding.{HoldsState, HoldsOldState, LeavesRoom};
+ghost use Rattle.streetmap_store.specs.CallResults.{KeepsState};
+ghost use Rattle.streetmap_store.specs.HeldFiles.{HoldsState, HoldsOldState, LeavesRoom};
 ghost use Rattle.streetmap_store.specs.Reasons.{IsCleanRest, RefusesToOpen};
 ghost use Rattle.streetmap_store.specs.Reasons.{RefusesToCreate};
 ghost use Rattle.streetmap_store.specs.Reasons.{OpenBlamesNoFile, CreateBlamesNoFile, StaysAsItWas};
 ghost use Rattle.streetmap_store.specs.Reasons.{HoldsStill};
 ghost use Rattle.streetmap_store.specs.Reasons.{OpensNothing, CreatesNothing};
 
-use crate::connecting::connect;
+use crate::connection::connect;
 use crate::fault::{CreateFault, Left, OpenFault};
 use crate::keeper::TableKeeper;
 use sqlite::{Connection, FileFrom, FileStore, Leftover, Start};

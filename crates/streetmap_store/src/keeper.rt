@@ -5,22 +5,23 @@ ghost use Rattle.sqlite.specs.Held.{state};
 ghost use Rattle.sqlite.specs.State.{HasCleanDisk, Survives};
 ghost use Rattle.streetmap_ledger.specs.State.{State, opening_state};
 ghost use Rattle.streetmap_ledger.specs.Keep.{LeavesOnly, LeavesEither};
-ghost use Rattle.streetmap_rows.specs.Failing.{IsOfStore};
-ghost use Rattle.streetmap_tables.specs.Acting.{IsToldByStore};
-ghost use Rattle.streetmap_rows.specs.Keeping.{Rests, MayLeave};
-ghost use Rattle.streetmap_tables.specs.Adopting.{IsAsItWas, LeavesTheSame};
-ghost use Rattle.streetmap_tables.specs.Making.{is_taken, IsReady, KeepsOtherTables, Makes};
-ghost use Rattle.streetmap_tables.specs.Making.{MayOpen};
-ghost use Rattle.streetmap_tables.specs.Refusing.{IsTold, IsReasoned};
+ghost use Rattle.streetmap_rows.specs.Failures.{IsOfStore};
+ghost use Rattle.streetmap_tables.specs.BatchEffects.{IsByStoreError};
+ghost use Rattle.streetmap_rows.specs.KeptStates.{Rests, MayLeave};
+ghost use Rattle.streetmap_tables.specs.Adoption.{IsAsItWas, LeavesTheSame};
+ghost use Rattle.streetmap_tables.specs.Creation.{is_taken, IsReady, KeepsOtherTables, Makes};
+ghost use Rattle.streetmap_tables.specs.Creation.{MayOpen};
+ghost use Rattle.streetmap_tables.specs.CreationRefusals.{IsReturned, IsReasoned};
 ghost use Rattle.streetmap_tables.specs.Reasons.{OpensFor};
-ghost use Rattle.streetmap_tables.specs.Telling.{TellsKeys};
+ghost use Rattle.streetmap_tables.specs.QueryResults.{ShowsKeys};
 ghost use Rattle.streetmap_tables.specs.Part.{HasCarried};
 ghost use Rattle.streetmap_tables.specs.Old.{RestsOld};
-ghost use Rattle.streetmap_tables.specs.Carrying.{UntouchedUnlessFormat1, MayCarry, Carries};
-ghost use Rattle.streetmap_tables.specs.Carrying.{Opens, OpensBy, KeepsNoMore};
-ghost use Rattle.streetmap_store.specs.Reopening.{IsJustOpened, OpensAs, OpensAsEither};
-ghost use Rattle.streetmap_store.specs.Serving.{KeepsState, EndsRead, Answers, is_named, error_in};
-ghost use Rattle.streetmap_store.specs.Serving.{count_after, shut_by, fault_by};
+ghost use Rattle.streetmap_tables.specs.Migration.{UntouchedUnlessFormat1, MayCarry, Carries};
+ghost use Rattle.streetmap_tables.specs.Migration.{Opens, OpensBy, KeepsNoMore};
+ghost use Rattle.streetmap_store.specs.Reopenings.{IsJustOpened, OpensAs, OpensAsEither};
+ghost use Rattle.streetmap_store.specs.CallResults.{KeepsState, EndsRead, Answers, is_named};
+ghost use Rattle.streetmap_store.specs.CallResults.{error_in};
+ghost use Rattle.streetmap_store.specs.CallResults.{count_after, shut_by, fault_by};
 ghost use Rattle.streetmap_store.specs.TableModel.{LeavesStates};
 
 use json::Scratch;
@@ -79,7 +80,7 @@ fn fault_of(stop: Stop) -> Fault
 fn shut_for(shut: &mut Option<Shut>, stop: Stop) -> Fault
     ensures value { result ≡ fault_by stop }
     ensures after { shut.new ≡ shut_by stop shut.old }
-    ensures named { IsToldByStore stop → IsTrue (is_named shut.old)
+    ensures named { IsByStoreError stop → IsTrue (is_named shut.old)
         → IsTrue (is_named shut.new) }
 {
     if let Stop::Closed(cause) = stop {
@@ -95,7 +96,7 @@ fn give_up<S: Alter>(conn: &mut Connection<S>, fault: ReadFault) -> Stop
     ensures survives { Survives (state S.Store conn.old) (state S.Store conn.new) (λ _. ⊥) }
     ensures ends { HasCleanDisk (state S.Store conn.new)
         → EndsRead fault (state S.Store conn.old) (state S.Store conn.new) result }
-    ensures told { HasCleanDisk (state S.Store conn.new) → IsToldByStore result }
+    ensures reported { HasCleanDisk (state S.Store conn.new) → IsByStoreError result }
 {
     match fault {
         ReadFault::Memory => Stop::Memory,
@@ -130,7 +131,7 @@ fn answer<S: Alter, T>(
 impl<S: Alter> TableKeeper<S> {
     /// Makes the four tables in a connection, with the opening state, and keeps it there.
     ///
-    /// The connection is to have no step limit and room for the tables (`make_tables`). A crash
+    /// The connection must have no step limit and room for the tables (`make_tables`). A crash
     /// then leaves the opening state; after a refusal the connection, given back, holds what it
     /// held, and a crash may leave the same as before while it is open.
     ///
@@ -160,8 +161,8 @@ impl<S: Alter> TableKeeper<S> {
         ensures refused { IfErr result (λ refused. HasCleanDisk (state S.Store refused.1)
             → IsReady (state S.Store conn)
             → Makes (state S.Store conn) (state S.Store refused.1) (Err refused.0)) }
-        ensures told { IfErr result (λ refused. HasCleanDisk (state S.Store refused.1)
-            → IsReady (state S.Store conn) → IsTold (state S.Store conn).now.schema refused.0) }
+        ensures reported { IfErr result (λ refused. HasCleanDisk (state S.Store refused.1)
+            → IsReady (state S.Store conn) → IsReturned (state S.Store conn).now.schema refused.0) }
         ensures same { IfErr result (λ refused. HasCleanDisk (state S.Store refused.1)
             → IsAsItWas (state S.Store conn) (state S.Store refused.1)) }
         ensures leaves { IfErr result (λ refused. HasCleanDisk (state S.Store refused.1) →
@@ -195,13 +196,13 @@ impl<S: Alter> TableKeeper<S> {
     /// that a query returns, or if a row was put into the new features for each row of the old
     /// ones, with its text.
     ///
-    /// The connection is to have no step limit. After a refusal an open connection holds what it
+    /// The connection must have no step limit. After a refusal an open connection holds what it
     /// held, and a crash may leave the same as before; after one that blames the tables a crash may
     /// leave no more than before in any case.
     ///
     /// # Errors
     ///
-    /// `NotOurs` if there is no format row of this product, `NewFormat` for a format above 2,
+    /// `NotOurs` if they have no format row of this product, `NewFormat` for a format above 2,
     /// `Damaged` if the format is 1 and this product does not write one of the rows, or it is 2 and
     /// the query of the batches is refused, `Device` if the store fails, or if tables of format 1
     /// cannot be migrated, with the error that `open_tables` reports, and `Memory`.
@@ -227,11 +228,11 @@ impl<S: Alter> TableKeeper<S> {
         ensures leaves { IfErr result (λ refused. HasCleanDisk (state S.Store refused.1) →
             IsTrue (state S.Store conn).is_open → IsTrue (state S.Store refused.1).is_open →
             LeavesTheSame (state S.Store conn) (state S.Store refused.1)) }
-        ensures tells { MatchResult result (λ keeper. HasCleanDisk (state S.Store keeper.conn)
+        ensures reports { MatchResult result (λ keeper. HasCleanDisk (state S.Store keeper.conn)
             → OpensBy (state S.Store conn) (Ok keeper.count)) (λ refused.
             HasCleanDisk (state S.Store refused.1) → OpensBy (state S.Store conn) (Err refused.0)) }
         ensures each { IfOk result (λ keeper. HasCleanDisk (state S.Store keeper.conn) →
-            TellsKeys (state S.Store conn) keeper.count ⊎ HasCarried S.Store conn keeper.conn) }
+            ShowsKeys (state S.Store conn) keeper.count ⊎ HasCarried S.Store conn keeper.conn) }
         ensures adopted { IfOk result (λ keeper. HasCleanDisk (state S.Store keeper.conn)
             → (s : State) → Rests (state S.Store conn) s
             → KeepsState keeper.shut (state S.Store keeper.conn) keeper.count s) }
@@ -296,8 +297,8 @@ impl<S: Alter> TableKeeper<S> {
 
 /// What a crash leaves of a keeper, opened again. Of a keeper that represents a state it is that
 /// state; and if each database that a crash may leave is a state's, as after each run of calls
-/// (`spares` of the keeper's model), one of these states. If the clauses on crashes name one state,
-/// or one of two, the tables are those of that state, or of one of the two. With
+/// (`preserves` of the keeper's model), one of these states. If the clauses on crashes name one
+/// state, or one of two, the tables are those of that state, or of one of the two. With
 /// `TableKeeper::adopt` it is kept again.
 pub fn what_a_crash_leaves_opens<S: Alter, T: Alter>(
     keeper: &TableKeeper<S>,
@@ -456,8 +457,8 @@ impl<S: Alter> KeepsBatches for TableKeeper<S> {
 impl<S: Alter> Durable for TableKeeper<S> {
     ghost use Rattle.sqlite.specs.Held.{state};
     ghost use Rattle.sqlite.specs.Effect.{Database};
-    ghost use Rattle.streetmap_rows.specs.Keeping.{Keeps};
-    ghost use Rattle.streetmap_store.specs.Reopening.{LeavesDatabase};
+    ghost use Rattle.streetmap_rows.specs.KeptStates.{Keeps};
+    ghost use Rattle.streetmap_store.specs.Reopenings.{LeavesDatabase};
     ghost use Rattle.streetmap_store.specs.IndexesListed.{keeps_too};
 
     // A database that SQLite's model of a crash admits. It holds the state that its rows are of.
@@ -467,8 +468,8 @@ impl<S: Alter> Durable for TableKeeper<S> {
 
     ghost holds = { λ db s. Keeps s db };
 
-    ghost images_hold_states = { λ first last s db is spared clean left.
-        let it = spared.states clean s is db.trees left.0 in (
+    ghost images_hold_states = { λ first last s db is preserved clean left.
+        let it = preserved.states clean s is db.trees left.0 in (
           it.0,
           keeps_too it.0 it.1.0 db.schema db.trees left.1 it.1.1,
           (db.trees, left.0, it.1),

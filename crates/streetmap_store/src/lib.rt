@@ -11,10 +11,10 @@
 //! which fault. A database is two files, the one at the path and its log beside it (`-wal`); while
 //! a keeper has them, SQLite finds them locked.
 //!
-//! Modules, in the order of reading: `keeper`; `fault`, `connecting`, `file`, `laws`.
+//! Modules, in the order of reading: `keeper`; `fault`, `connection`, `file`, `laws`.
 #![tactic(auto)]
 
-mod connecting;
+mod connection;
 mod fault;
 mod file;
 mod keeper;

@@ -4,7 +4,7 @@ use streetmap_ledger::{Keeper, read_batch};
 use streetmap_routes::Base;
 use streetmap_web::serve;
 
-/// A keeper's answers to requests; none if there is no memory for the base of links.
+/// A keeper's answers to requests; none if memory runs out for the base of links.
 pub(crate) fn answers<K: Keeper>(alloc: Global, keeper: &mut K, requests: &str) -> Option<Vec<u8>> {
     let base = Base::new(alloc, "http://localhost/").ok()?;
     let mut reader = requests.as_bytes();

@@ -3,7 +3,7 @@
 //! was there.
 use crate::files::{ALL_CALLS, Calls, Fused, Visit, visit_again, visit_new};
 use crate::keepers::{Outcome, OverNew, OverOpened, Task};
-use crate::states::{COUNT, Look, Seen, act, seen_twice, states};
+use crate::states::{COUNT, Lookup, Seen, act, seen_twice, states};
 use sqlite::{Alter, Connection};
 use sqlite_disk::Files;
 use std::alloc::Global;
@@ -66,11 +66,11 @@ fn may_be_left(seen: Seen, acknowledged: Option<usize>) -> bool {
 /// acknowledged; none if what is left is not allowed.
 fn crashed(alloc: Global, calls: Calls, states: &[Vec<u8>]) -> Result<Option<bool>, Fail> {
     let (acknowledged, mut files) = acted(alloc, calls)?;
-    let look = Look {
+    let lookup = Lookup {
         states,
         acts_again: true,
     };
-    let (written, synchronised) = seen_twice(alloc, &mut files, look)?;
+    let (written, synchronised) = seen_twice(alloc, &mut files, lookup)?;
     let is_right = may_be_left(written, acknowledged) && may_be_left(synchronised, acknowledged);
     Ok(is_right.then_some(acknowledged == Some(COUNT)))
 }
@@ -146,11 +146,11 @@ fn migrated(
     let Some(mut files) = left else {
         return Err(Fail::from("the files were dropped"));
     };
-    let look = Look {
+    let lookup = Lookup {
         states,
         acts_again: false,
     };
-    let seen = seen_twice(alloc, &mut files, look)?;
+    let seen = seen_twice(alloc, &mut files, lookup)?;
     let is_right = seen == (Seen::After(COUNT), Seen::After(COUNT));
     Ok(is_right.then_some(opened == Some(Outcome::Done(()))))
 }

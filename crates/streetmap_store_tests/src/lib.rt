@@ -5,6 +5,8 @@
 #![tactic(auto)]
 
 #[cfg(test)]
+mod adoption;
+#[cfg(test)]
 mod answers;
 #[cfg(test)]
 mod crashes;
@@ -14,8 +16,6 @@ mod files;
 mod http_rows;
 #[cfg(test)]
 mod keepers;
-#[cfg(test)]
-mod opening;
 #[cfg(test)]
 mod rows;
 #[cfg(test)]

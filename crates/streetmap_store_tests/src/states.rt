@@ -18,7 +18,7 @@ const BATCHES: [&str; COUNT] = [
     r#"{"key":"b5","edits":[{"op":"delete","collection":"works","id":"K2"}]}"#,
 ];
 
-/// How many batches there are.
+/// The number of batches.
 pub(crate) const COUNT: usize = 5;
 
 /// The requests that read a state.
@@ -85,12 +85,12 @@ fn acts_again<K: Keeper>(alloc: Global, keeper: &mut K, states: &[Vec<u8>]) -> b
 
 /// Tables are opened and read, and all batches act again if requested.
 #[derive(Clone, Copy)]
-pub(crate) struct Look<'a> {
+pub(crate) struct Lookup<'a> {
     pub(crate) states: &'a [Vec<u8>],
     pub(crate) acts_again: bool,
 }
 
-impl Task for Look<'_> {
+impl Task for Lookup<'_> {
     type Output = Seen;
 
     /// What is seen of a keeper.
@@ -105,8 +105,8 @@ impl Task for Look<'_> {
 }
 
 /// What is seen of files that are opened again.
-fn reopened(alloc: Global, files: &Files<Fused>, look: Look<'_>) -> Result<Seen, Fail> {
-    match visit_again(alloc, files, ALL_CALLS, OverOpened(look))?.0 {
+fn reopened(alloc: Global, files: &Files<Fused>, lookup: Lookup<'_>) -> Result<Seen, Fail> {
+    match visit_again(alloc, files, ALL_CALLS, OverOpened(lookup))?.0 {
         Some(Outcome::Done(seen)) => Ok(seen),
         Some(Outcome::NotOurs) => Ok(Seen::NotOurs),
         Some(Outcome::Refused) | None => Ok(Seen::Other),
@@ -117,10 +117,10 @@ fn reopened(alloc: Global, files: &Files<Fused>, look: Look<'_>) -> Result<Seen,
 pub(crate) fn seen_twice(
     alloc: Global,
     files: &mut Files<Fused>,
-    look: Look<'_>,
+    lookup: Lookup<'_>,
 ) -> Result<(Seen, Seen), Fail> {
-    let written = reopened(alloc, files, look)?;
+    let written = reopened(alloc, files, lookup)?;
     files.log.crash();
     files.db.crash();
-    Ok((written, reopened(alloc, files, look)?))
+    Ok((written, reopened(alloc, files, lookup)?))
 }

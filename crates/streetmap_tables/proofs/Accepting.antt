@@ -13,10 +13,10 @@ use Rattle.streetmap_ledger.specs.declared.reply.Refusal.TheVariants.{Full}
 use Rattle.streetmap_ledger.specs.declared.reply.Reply.TheVariants.{Refused}
 use Rattle.streetmap_ledger.proofs.Repeat.{edited_keys}
 use Rattle.streetmap_ledger.proofs.StatesStay.{act_sound}
-use Rattle.streetmap_rows.specs.Stands.{StandsFor}
-use Rattle.streetmap_rows.specs.Keeping.{Keeps}
+use Rattle.streetmap_rows.specs.Representations.{StandsFor}
+use Rattle.streetmap_rows.specs.KeptStates.{Keeps}
 use Rattle.streetmap_rows.specs.Calls.{KeepsBatch}
-use Rattle.streetmap_tables.specs.Acting.{Awaits}
+use Rattle.streetmap_tables.specs.BatchEffects.{Awaits}
 
 room : (n : ℕ) → n < 2 ^ 63 - 1 → nat_lt n most_batches ≡ true
 room n h = grind (arith, nat_tests)

@@ -1,13 +1,13 @@
--- What is so before a call whose end is clean, and what a stop may leave of an open connection.
+-- What holds before a call whose end is clean, and what a crash may leave of an open connection.
 use Rattle.std.proofs.Common.{◌≡◌, inl, inr, Some, Ok, Err, Result, OnOk, IfErr, IsErrAnd, IsTrue, sym, ap, subst, ◌∙◌, arith}
 use Rattle.sqlite.specs.State.{State as Seen, HasCleanDisk, Survives, KeepsCommit}
 use Rattle.sqlite.specs.Effect.{Database}
 use Rattle.sqlite.specs.Steps.{FailsToCommit}
 use Rattle.sqlite.specs.declared.error.Error.{Error}
-use Rattle.streetmap_tables.specs.Making.{HasSame}
+use Rattle.streetmap_tables.specs.Creation.{HasSame}
 use Rattle.sqlite_trees.specs.Tree.{Trees}
 use Rattle.streetmap_ledger.specs.State.{State}
-use Rattle.streetmap_rows.specs.Keeping.{Rests, MayLeave}
+use Rattle.streetmap_rows.specs.KeptStates.{Rests, MayLeave}
 
 pub clean_back : (old new : Seen) (Commits : Trees → Type 0) → Survives old new Commits → HasCleanDisk new → HasCleanDisk old
 clean_back old new Commits survives clean = omega (arith, survives.clean, clean)
@@ -16,7 +16,7 @@ clean_back old new Commits survives clean = omega (arith, survives.clean, clean)
 pub may_leave_it : (seen : Seen) (s : State) → Rests seen s → seen.may_leave seen.committed.trees → MayLeave seen (Some s)
 may_leave_it seen s rests left = (seen.now.trees, subst (λ (d : Database). seen.may_leave d.trees) (sym rests.settled) left, (seen.now.schema, rests.kept))
 
--- of two open connections with one last commit, a stop may leave the same
+-- of two open connections with one last commit, a crash may leave the same
 pub leaves_same : (old new : Seen) → new.committed ≡ old.committed → ((trees : Trees) → new.may_leave trees → trees ≡ new.committed.trees) → old.may_leave old.committed.trees → (trees : Trees) → new.may_leave trees → old.may_leave trees
 leaves_same old new same only left trees may = subst old.may_leave (sym (only trees may ∙ ap (λ (d : Database). d.trees) same)) left
 

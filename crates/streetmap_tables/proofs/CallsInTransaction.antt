@@ -2,12 +2,12 @@
 use Rattle.std.proofs.Common.{◌∙◌, Option, Result, Ok, Err, MatchResult, IsTrue}
 use Rattle.sqlite.specs.declared.error.Error.{Error}
 use Rattle.streetmap_ledger.specs.declared.reply.Refusal.{Refusal}
-use Rattle.streetmap_rows.specs.Failing.{IsOfStore}
+use Rattle.streetmap_rows.specs.Failures.{IsOfStore}
 use Rattle.sqlite.specs.State.{State as Seen, KeepsCommit, IsUnchanged}
 use Rattle.streetmap_ledger.specs.State.{State}
-use Rattle.streetmap_rows.specs.Stands.{StandsFor}
+use Rattle.streetmap_rows.specs.Representations.{StandsFor}
 use Rattle.streetmap_rows.specs.Elsewhere.{IsSameElsewhere}
-use Rattle.streetmap_tables.specs.Editing.{KeepsRest}
+use Rattle.streetmap_tables.specs.EditEffects.{KeepsRest}
 use Rattle.std.proofs.Common.{◌≡◌, refl, sym, subst}
 use Rattle.sqlite.specs.Effect.{Database}
 
@@ -35,8 +35,8 @@ rest_then a b c p q = (keeps_then a b c p.0 q.0, elsewhere_then a.now b.now c.no
 
 -- ---- the state
 
-pub stands_still : (a b : Seen) (s : State) → IsUnchanged a b → StandsFor s a.now → StandsFor s b.now
-stands_still a b s u h = subst (StandsFor s) (sym u.0.now_is) h
+pub still_represented : (a b : Seen) (s : State) → IsUnchanged a b → StandsFor s a.now → StandsFor s b.now
+still_represented a b s u h = subst (StandsFor s) (sym u.0.now_is) h
 
 -- what a call inside answers, after others that kept the commit
 pub answered_on : (old mid new : Seen) (P Q : Option Refusal → Type 0) (r : Result (Option Refusal) Error) → ((o : Option Refusal) → P o → Q o) → KeepsRest old mid

@@ -1,4 +1,4 @@
--- How carrying over ends, and what tables of format 1 tell.
+-- How a migration ends, and what tables of format 1 show.
 use Rattle.std.proofs.Common.{◌≡◌, inl, inr, ℕ, ℤ, pos, Option, Some, Result, Ok, Err, IfErr}
 use Rattle.std.proofs.Common.{IsTrue}
 use Rattle.std.proofs.Common.{refl, sym, ap, subst, ◌∙◌, arith}
@@ -7,23 +7,23 @@ use Rattle.sqlite.specs.State.{State as Seen, KeepsCommit, IsRolledBack}
 use Rattle.streetmap_ledger.specs.State.{State}
 use Rattle.streetmap_rows.proofs.NamedTables.{IsFound, is_found}
 use Rattle.streetmap_rows.specs.Tables.{meta, meta_name}
-use Rattle.streetmap_tables.specs.Making.{HasSame}
-use Rattle.streetmap_tables.specs.Adopting.{LeavesNoMore, LeavesTheSame}
-use Rattle.streetmap_tables.specs.Telling.{TellsFormat, TellsNothing, AdoptsBy, format_in}
-use Rattle.streetmap_tables.specs.declared.adopting.AdoptFault.TheVariants as adopting
+use Rattle.streetmap_tables.specs.Creation.{HasSame}
+use Rattle.streetmap_tables.specs.Adoption.{LeavesNoMore, LeavesTheSame}
+use Rattle.streetmap_tables.specs.QueryResults.{ShowsFormat, ShowsNothing, AdoptsBy, format_in}
+use Rattle.streetmap_tables.specs.declared.adoption.AdoptFault.TheVariants as adopting
 use Rattle.streetmap_tables.proofs.FormatAndSerials.{format_seen, format_unrefused}
 use Rattle.streetmap_tables.specs.Old.{KeepsOld, RestsOld}
-use Rattle.streetmap_tables.specs.Carrying.{IsToldOld, CarryingRefusedFor, IsRefusedOld, Carries}
-use Rattle.streetmap_tables.specs.Carrying.{IsNamedFault, KeepsNoMore}
-use Rattle.streetmap_tables.specs.Part.{IsSpared}
+use Rattle.streetmap_tables.specs.Migration.{IsMigrationError, CarryingRefusedFor, IsRefusedOld, Carries}
+use Rattle.streetmap_tables.specs.Migration.{IsNamedFault, KeepsNoMore}
+use Rattle.streetmap_tables.specs.Part.{IsMemoryOrStore}
 use Rattle.streetmap_rows.specs.declared.fault.ReadFault.{ReadFault}
 use Rattle.streetmap_rows.specs.declared.fault.ReadFault.TheVariants as read
 use Rattle.sqlite.specs.Schema.{Schema}
 use Rattle.sqlite.specs.Effect.{Database}
-use Rattle.streetmap_tables.specs.declared.opening.TablesFault.{TablesFault}
-use Rattle.streetmap_tables.specs.declared.opening.TablesFault.TheVariants.{NotOurs, NewFormat, Damaged, Device, Memory}
+use Rattle.streetmap_tables.specs.declared.openings.TablesFault.{TablesFault}
+use Rattle.streetmap_tables.specs.declared.openings.TablesFault.TheVariants.{NotOurs, NewFormat, Damaged, Device, Memory}
 
--- it rests where it has the database that it had
+-- it rests if it has the database that it had
 pub old_same : (old new : Seen) (s : State) → RestsOld old s → HasSame old new → new.step_limit ≡ old.step_limit → IsTrue new.is_open → RestsOld new s
 old_same old new s rests same limit live = record {
   kept = subst (KeepsOld s) (sym same.0) rests.kept;
@@ -39,30 +39,30 @@ same_after_rollback old begun mid new same kept back settled live =
     let undone = back.undone live in
     (undone.0 ∙ was ∙ sym settled, undone.1 ∙ was)
 
--- a refusal, by what it tells
+-- a refusal, by what it reports
 pub refused_old : (s : State) (old new : Seen) (fault : TablesFault) → IsRefusedOld old.now.schema fault → (IsTrue new.is_open → RestsOld new s) → (fault ≡ Memory → IsTrue new.is_open × LeavesTheSame old new) → Carries s old new (Err fault)
-refused_old s old new NotOurs told rests memory = told
-refused_old s old new NewFormat told rests memory = told
-refused_old s old new Damaged told rests memory = told
-refused_old s old new (Device e) told rests memory = (told, rests)
-refused_old s old new Memory told rests memory = let it = memory refl in (rests it.0, it.1)
+refused_old s old new NotOurs reported rests memory = reported
+refused_old s old new NewFormat reported rests memory = reported
+refused_old s old new Damaged reported rests memory = reported
+refused_old s old new (Device e) reported rests memory = (reported, rests)
+refused_old s old new Memory reported rests memory = let it = memory refl in (rests it.0, it.1)
 
--- what part of it gave up for
-pub held_back : (schema : Schema) (fault : ReadFault) → IsSpared fault → CarryingRefusedFor schema fault
-held_back schema read.Memory spared = tt
-held_back schema (read.Store e) spared = inl spared
-held_back schema read.Unread spared = spared
+-- why part of it gave up
+pub held_back : (schema : Schema) (fault : ReadFault) → IsMemoryOrStore fault → CarryingRefusedFor schema fault
+held_back schema read.Memory not_of_disk = tt
+held_back schema (read.Store e) not_of_disk = inl not_of_disk
+held_back schema read.Unread not_of_disk = not_of_disk
 
--- after a look that left the same
+-- after a read that left the same
 pub carries_on : (s : State) (old mid new : Seen) (r : Result ℕ TablesFault) → mid.now ≡ old.now → LeavesTheSame old mid → Carries s mid new r → Carries s old new r
 carries_on s old mid new (Ok count) now same h = h
 carries_on s old mid new (Err NotOurs) now same h = h
 carries_on s old mid new (Err NewFormat) now same h = h
 carries_on s old mid new (Err Damaged) now same h = h
-carries_on s old mid new (Err (Device e)) now same h = (subst (λ (d : Database). IsToldOld d.schema e) now h.0, h.1)
+carries_on s old mid new (Err (Device e)) now same h = (subst (λ (d : Database). IsMigrationError d.schema e) now h.0, h.1)
 carries_on s old mid new (Err Memory) now same h = (h.0, (λ trees may. same.0 trees (h.1.0 trees may), λ trees may. h.1.1 trees (same.1 trees may)))
 
--- a refusal after a look that leaves no more to a stop
+-- a refusal after a read, if a crash can leave no more than before
 pub fewer_on : (old mid new : Seen) (r : Result ℕ TablesFault) → IfErr r IsNamedFault
     → IfErr r (λ fault. fault ≡ Damaged → LeavesNoMore mid new) → LeavesNoMore old mid
     → IfErr r (λ fault. KeepsNoMore fault old new)
@@ -73,23 +73,23 @@ fewer_on old mid new (Err Damaged) named fewer before = λ trees may. before tre
 fewer_on old mid new (Err (Device e)) named fewer before = tt
 fewer_on old mid new (Err Memory) named fewer before = tt
 
--- ---- what the looks tell of tables of format 1
+-- ---- what the reads show of tables of format 1
 
 module _ (seen : Seen) (s : State) (rests : RestsOld seen s) where
   in_meta : IsFound seen.now.schema meta_name (meta rests.kept.roots.meta)
   in_meta = is_found seen.now meta_name (meta rests.kept.roots.meta) rests.kept.sound rests.kept.ours.room.apart rests.kept.ours.meta_is
 
-  pub old_format : (format : Option ℤ) → TellsFormat seen format → format ≡ Some (pos 1)
-  old_format format told = sym told.2 ∙ ap format_in (format_seen seen seen rests.kept.roots.meta in_meta (pos 1) rests.kept.of.format told.0 told.1).0
+  pub old_format : (format : Option ℤ) → ShowsFormat seen format → format ≡ Some (pos 1)
+  old_format format reported = sym reported.2 ∙ ap format_in (format_seen seen seen rests.kept.roots.meta in_meta (pos 1) rests.kept.of.format reported.0 reported.1).0
 
-  never_refused : TellsNothing seen → ⊥
+  never_refused : ShowsNothing seen → ⊥
   never_refused it = it.1 (format_unrefused seen seen rests.kept.roots.meta in_meta rests.unlimited it.0 (inl it.2))
 
   pub never_counted : (count : ℕ) → AdoptsBy seen (Ok count) → ⊥
-  never_counted count told = let wrong : Some (pos 2) ≡ Some (pos 1) = old_format (Some (pos 2)) told.0 in absurd (cc)
+  never_counted count reported = let wrong : Some (pos 2) ≡ Some (pos 1) = old_format (Some (pos 2)) reported.0 in absurd (cc)
 
   pub never_lost : AdoptsBy seen (Err adopting.Damaged) → ⊥
-  never_lost told = let wrong : Some (pos 2) ≡ Some (pos 1) = old_format (Some (pos 2)) told.0 in absurd (cc)
+  never_lost reported = let wrong : Some (pos 2) ≡ Some (pos 1) = old_format (Some (pos 2)) reported.0 in absurd (cc)
 
   pub never_foreign : AdoptsBy seen (Err adopting.NotOurs) → ⊥
   never_foreign (inl it) = let below = it.1 (pos 1) (old_format it.0 it.2) in omega (arith, ints, below)

@@ -29,7 +29,7 @@ use Rattle.streetmap_rows.proofs.FixedRefused.{refused_as}
 use Rattle.streetmap_rows.proofs.Resolving.{Means, command_is, is_plain, is_fit as runs_so, understood_is}
 use Rattle.streetmap_rows.proofs.InsertRuns.{never_misplaced, never_ends}
 use Rattle.streetmap_tables.specs.Made.{creating, IsTableText}
-use Rattle.streetmap_tables.specs.Refusing.{IsToldFor}
+use Rattle.streetmap_tables.specs.CreationRefusals.{IsCreateError}
 
 -- no rule of the language or of the database is against the text or the table
 pub record IsAllowed (text : List ℕ) (table : Table) : Type 0 where
@@ -79,7 +79,7 @@ module _ (text : List ℕ) (table : Table) (it : IsAllowed text table) where
     text_is : statement_of text (understood schema text) ≡ text
     text_is = rw (understood_is schema text 0 CreateTable meant) it.is.whole
 
-    only_full : (e : Error) (why : Refusal) → RefusesTable schema text why → e ≡ alter_error why → IsToldFor (table ∷ []) schema e
+    only_full : (e : Error) (why : Refusal) → RefusesTable schema text why → e ≡ alter_error why → IsCreateError (table ∷ []) schema e
     only_full e (Invalid fault) h is = absurd (let clash = sym it.is.defined ∙ h in cc)
     only_full e NameTaken h is =
         let same : h.0 ≡ table = same_ok h.0 table _ h.1 it.is.defined in
@@ -105,10 +105,10 @@ module _ (text : List ℕ) (table : Table) (it : IsAllowed text table) where
         absurd (let clash = sym it.fit ∙ ap (λ (t : Table). is_fit (Text (codes "table")) (Text t.name) (Text t.name) (Text text)) (sym same) ∙ h.2 in cc)
     only_full e (Violates rule) h is = absurd h
 
-  pub told_created : (old new : Seen) → is_used old.now.schema table.name ≡ false → lacks_sequence (created old.now.schema table) ≡ false → (e : Error) → ExecutesInside 0 text [] old new (Err e) → IsToldFor (table ∷ []) old.now.schema e
-  told_created old new free counts e (inr ended) =
+  pub reported_created : (old new : Seen) → is_used old.now.schema table.name ≡ false → lacks_sequence (created old.now.schema table) ≡ false → (e : Error) → ExecutesInside 0 text [] old new (Err e) → IsCreateError (table ∷ []) old.now.schema e
+  reported_created old new free counts e (inr ended) =
       absurd (never_ends text [] old old.now.schema CreateTable refl (command_is old.now.schema text 0 CreateTable (meant old.now.schema free)) (λ q. absurd (cc)) (λ q. absurd (cc)) (λ n q. absurd (cc)) (λ n q. absurd (cc)) ended.0)
-  told_created old new free counts e (inl h) =
+  reported_created old new free counts e (inl h) =
       let m = meant old.now.schema free in
       elim (refused_as text [] old new old.now.schema refl CreateTable (command_is old.now.schema text 0 CreateTable m) (is_plain old.now.schema text 0 CreateTable m) (runs_so old.now.schema text 0 CreateTable m refl) e h.0) [
         | inl refused ↦ elim refused.0 [
@@ -118,11 +118,11 @@ module _ (text : List ℕ) (table : Table) (it : IsAllowed text table) where
         | inr failed ↦ inl (failure_is e failed.1.0 failed.1.1)
       ]
     where
-      full : MakesTable text old.now (Err (Some e)) → IsToldFor (table ∷ []) old.now.schema e
+      full : MakesTable text old.now (Err (Some e)) → IsCreateError (table ∷ []) old.now.schema e
       full (inl other) = absurd (other.0 it.utf8)
       full (inr why) = only_full old.now.schema free e why.0 why.1 why.2
 
-      refuses : Does old.step_limit (mode_of old) [] old.now text None CreateTable (Err (Some e)) → IsToldFor (table ∷ []) old.now.schema e
+      refuses : Does old.step_limit (mode_of old) [] old.now text None CreateTable (Err (Some e)) → IsCreateError (table ∷ []) old.now.schema e
       refuses done = elim (stopped (Then (MakesTable text old.now) MakesSequence) (λ after. Gives (no_rows (mode_of old).in_doubt, after)) (Some e) done) [
         | inl early ↦ elim (stopped (MakesTable text old.now) MakesSequence (Some e) early) [
           | inl table ↦ full table

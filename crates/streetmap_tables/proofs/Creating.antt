@@ -50,7 +50,7 @@ only_made schema def c fresh h = go (is_attached schema def.name) (is_reserved d
     go false false false true false f d e = absurd (cc)
     go false false false false m f d e = makes d e
 
--- what a result has, where it has something
+-- the value of a result, or this one if it has none
 abbrev or_this : {A E : Type 0} → A → Result A E → A
 or_this a (Ok x) = x
 or_this a (Err e) = a
@@ -82,7 +82,7 @@ made_is text old mode tally new table it counts sound changed =
         }
 
 module _ (text : List ℕ) (table : Table) (it : IsTableText text table) where
-  -- the plan of such a statement, where it has one
+  -- the plan of such a statement, if it has one
   only_planned : (schema : Schema) (plan : List (List ℕ) × (Command × Option Returning)) → planned schema it.parsed ≡ Ok plan → plan ≡ ([], (CreateTable, None))
   unfolding planned meaning returning command timed
   only_planned schema plan h = go (create_table schema [] it.written) refl (rw (it.makes, it.plain) at h)

@@ -17,9 +17,9 @@ use Rattle.streetmap_ledger.specs.declared.reply.Refusal.TheVariants.{NoCollecti
 use Rattle.streetmap_rows.specs.Rows.{feature_at}
 use Rattle.streetmap_rows.specs.Calls.{CutsFeature, OpensCollection}
 use Rattle.sqlite.specs.State.{State as Seen}
-use Rattle.streetmap_rows.specs.Stands.{StandsFor}
-use Rattle.streetmap_tables.specs.Editing.{Answered}
-use Rattle.streetmap_tables.specs.Storing.{WasPut}
+use Rattle.streetmap_rows.specs.Representations.{StandsFor}
+use Rattle.streetmap_tables.specs.EditEffects.{Answered}
+use Rattle.streetmap_tables.specs.StoredFeatures.{WasPut}
 
 pub no_collection : (s : State) (name id : Text) → false ≡ is_some (get s.collections name) → step s (edit.delete name id) ≡ Err NoCollection
 no_collection s name id h = go (get s.collections name) h

@@ -26,15 +26,15 @@ use Rattle.sqlite_schema.specs.Rules.{Refers, parent_key, key_in, key_places, ha
 use Rattle.sqlite_trees.specs.Tree.{Trees, IsAscending}
 use Rattle.sqlite_catalog.specs.Change.{without_table}
 use Rattle.sqlite_resolve.specs.Compile.{planned, meaning, returning, command, timed, drop_table, is_reserved}
-use Rattle.streetmap_rows.specs.Failing.{IsOfStore}
-use Rattle.streetmap_rows.proofs.NamedTables.{stands_at}
+use Rattle.streetmap_rows.specs.Failures.{IsOfStore}
+use Rattle.streetmap_rows.proofs.NamedTables.{is_at}
 use Rattle.streetmap_rows.proofs.StoreErrors.{failure_is}
 use Rattle.streetmap_rows.proofs.StatementParts.{same_value}
 use Rattle.streetmap_rows.proofs.FixedRefused.{refused_as}
 use Rattle.streetmap_rows.proofs.Resolving.{Means, means, command_is, is_plain, is_fit}
 use Rattle.streetmap_rows.proofs.InsertRuns.{never_misplaced, never_ends}
-use Rattle.streetmap_tables.specs.Dropping.{IsDropAlone, CanGo}
-use Rattle.streetmap_tables.proofs.Dropping.{idle}
+use Rattle.streetmap_tables.specs.Drops.{IsDropAlone, CanGo}
+use Rattle.streetmap_tables.proofs.Drops.{idle}
 use Rattle.streetmap_tables.proofs.LeftOutLists.{find_left}
 use Rattle.streetmap_tables.proofs.ViewNames.{no_such_view}
 
@@ -64,7 +64,7 @@ module _ (schema : Schema) (db : Trees) (name : List ℕ) (table : Table) (can :
         | inr held ↦ or_right (has_null ref.columns r) _ (stays_held ref r (can.free t ref was known) (find (λ (u : Table). same_name u.name ref.parent) schema.tables) refl held)
       ])
 
--- ---- no rule stands against it
+-- ---- no rule forbids it
 
 -- a part that stopped did so in its first step or in a later one
 stopped : {A B : Type 0} (First : Part A) (Next : A → Part B) (s : Option Error) → Then First Next (Err s) → First (Err s) ⊎ ((a : A) × First (Ok a) × Next a (Err s))
@@ -128,9 +128,9 @@ module _ (text name : List ℕ) (it : IsDropAlone text name) (old new : Seen) (t
     meant : Means schema text 0 (DropTable at)
     meant = means schema text it.is.parsed 0 (DropTable at) it.is.is it.whole it.bare plan
 
-    told_at : (e : Error) → ExecutesInside 0 text [] old new (Err e) → IsOfStore e
-    told_at e (inr ended) = absurd (never_ends text [] old schema (DropTable at) refl (command_is schema text 0 (DropTable at) meant) (λ q. absurd (cc)) (λ q. absurd (cc)) (λ n q. absurd (cc)) (λ n q. absurd (cc)) ended.0)
-    told_at e (inl h) =
+    reported_at : (e : Error) → ExecutesInside 0 text [] old new (Err e) → IsOfStore e
+    reported_at e (inr ended) = absurd (never_ends text [] old schema (DropTable at) refl (command_is schema text 0 (DropTable at) meant) (λ q. absurd (cc)) (λ q. absurd (cc)) (λ n q. absurd (cc)) (λ n q. absurd (cc)) ended.0)
+    reported_at e (inl h) =
         elim (refused_as text [] old new schema refl (DropTable at) (command_is schema text 0 (DropTable at) meant) (is_plain schema text 0 (DropTable at) meant) (is_fit schema text 0 (DropTable at) meant refl) e h.0) [
           | inl refused ↦ elim refused.0 [
             | inl misplaced ↦ absurd (never_misplaced old (DropTable at) e (λ q. absurd (cc)) (λ q. absurd (cc)) (λ q. absurd (cc)) (λ n q. absurd (cc)) (λ n q. absurd (cc)) misplaced)
@@ -140,7 +140,7 @@ module _ (text name : List ℕ) (it : IsDropAlone text name) (old new : Seen) (t
           | inr failed ↦ failure_is e failed.1.0 failed.1.1
         ]
 
-  pub told_dropped : (e : Error) → ExecutesInside 0 text [] old new (Err e) → IsOfStore e
-  told_dropped =
-      let stands = stands_at (λ (t : Table). same_name t.name name) 0 schema.tables table can.named in
-      told_at stands.at (stands.position ∙ ap (λ k. Some k) (omega arith)) stands.listed
+  pub reported_dropped : (e : Error) → ExecutesInside 0 text [] old new (Err e) → IsOfStore e
+  reported_dropped =
+      let represented = is_at (λ (t : Table). same_name t.name name) 0 schema.tables table can.named in
+      reported_at represented.at (represented.position ∙ ap (λ k. Some k) (omega arith)) represented.listed

@@ -6,7 +6,7 @@ use Rattle.sqlite_resolve.specs.Compile.{first}
 use Rattle.sqlite_tied.specs.Compute.{everything}
 use Rattle.streetmap_rows.proofs.Drafts.{parsed_of, was_parsed}
 use Rattle.streetmap_rows.specs.Tables.{meta_name, features_name}
-use Rattle.streetmap_tables.specs.Dropping.{IsDropText, IsDropAlone}
+use Rattle.streetmap_tables.specs.Drops.{IsDropText, IsDropAlone}
 
 abbrev pub drop_features : List ℕ
 drop_features = codes "DROP TABLE streetmap_features"

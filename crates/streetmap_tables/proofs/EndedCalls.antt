@@ -1,4 +1,4 @@
--- Calls inside a transaction, one after the other, and what is so of each state where a call ended well.
+-- Calls in a transaction, one after the other, and what holds of each state if a call ended well.
 use Rattle.std.proofs.Common.{Result, Ok, Err, OnOk, subst, ◌∙◌}
 use Rattle.sqlite.specs.Effect.{Database}
 use Rattle.streetmap_ledger.specs.State.{State}

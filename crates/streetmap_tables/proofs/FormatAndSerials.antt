@@ -22,7 +22,7 @@ use Rattle.sqlite_rules.specs.Lists.{Has}
 use Rattle.streetmap_batch.specs.Text.{Text}
 use Rattle.streetmap_ledger.specs.State.{State}
 use Rattle.std.specs.FinMap.{len}
-use Rattle.streetmap_rows.specs.Failing.{IsOfStore}
+use Rattle.streetmap_rows.specs.Failures.{IsOfStore}
 use Rattle.streetmap_rows.specs.Holds.{HoldsByKey, first_key, is_first, same_text}
 use Rattle.streetmap_rows.specs.Queries.{over, program}
 use Rattle.streetmap_rows.proofs.OneRowChosen.{chosen, staged, picked}
@@ -33,12 +33,12 @@ use Rattle.streetmap_rows.proofs.Resolving.{Means}
 use Rattle.streetmap_rows.specs.Rows.{AreOf}
 use Rattle.streetmap_rows.specs.Statements.{select_format}
 use Rattle.streetmap_rows.specs.Tables.{Roots, meta, meta_name, batches, batches_name}
-use Rattle.streetmap_rows.specs.Keeping.{Keeps}
+use Rattle.streetmap_rows.specs.KeptStates.{Keeps}
 use Rattle.streetmap_rows.proofs.Drafts.{equal_terms}
 use Rattle.streetmap_rows.proofs.Compiles.{select_format_means, select_format_never}
-use Rattle.streetmap_rows.proofs.KeyLooks.{answered, fails_inside}
+use Rattle.streetmap_rows.proofs.KeyReads.{answered, fails_inside}
 use Rattle.streetmap_rows.proofs.TablesInSchema as placing
-use Rattle.streetmap_tables.specs.Adopting.{serials_text, IsAsItWas}
+use Rattle.streetmap_tables.specs.Adoption.{serials_text, IsAsItWas}
 use Rattle.streetmap_tables.proofs.BatchesCounted.{rows_counted}
 use Rattle.streetmap_tables.proofs.Serials.{select_serials_means, select_serials_never}
 
@@ -79,7 +79,7 @@ all_shown db tree project rows low a =
     let three = ap length kept ∙ map_length (output (over tree [] project)) (map (λ r. [] ∷ r ∷ []) (db tree)) ∙ map_length (λ r. [] ∷ r ∷ []) (db tree) in
     one ∙ two ∙ three
 
--- ---- a table of the format, whatever format it tells
+-- ---- a table of the format, whatever format it has
 
 module _ (old new : Seen) (tree : ℕ) (in_meta : IsFound old.now.schema meta_name (meta tree)) where
   format_means : Means old.now.schema select_format 0 (Select (program (over tree tests (col 1 2 ∷ []))) (codes "value" ∷ []))
@@ -143,11 +143,11 @@ module _ (old new : Seen) (s : State) (keeps : Keeps s old.now) where
       all_shown db roots.batches (col 1 7 ∷ []) rows in_batches.low (read.0.answer Null) ∙ rows_counted s (db roots.batches) of.batches
 
   module _ (limit : old.step_limit ≡ None) where
-    pub format_told : (e : Error) → FailsToQuery select_format [] old new e ⊎ IsTooLate select_format [] old new e → IsOfStore e
-    format_told = format_unrefused old new roots.meta in_meta limit
+    pub format_reported : (e : Error) → FailsToQuery select_format [] old new e ⊎ IsTooLate select_format [] old new e → IsOfStore e
+    format_reported = format_unrefused old new roots.meta in_meta limit
 
-    pub serials_told : (e : Error) → FailsToQuery serials_text [] old new e ⊎ IsTooLate serials_text [] old new e → IsOfStore e
-    serials_told = serials_unrefused old new roots.batches in_batches limit
+    pub serials_reported : (e : Error) → FailsToQuery serials_text [] old new e ⊎ IsTooLate serials_text [] old new e → IsOfStore e
+    serials_reported = serials_unrefused old new roots.batches in_batches limit
 
 -- ---- in a transaction a query commits nothing, whatever it is
 

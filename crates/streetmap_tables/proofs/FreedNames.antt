@@ -14,7 +14,7 @@ use Rattle.sqlite_catalog.proofs.StepLemmas.{no_table, no_index, no_view, named_
 use Rattle.sqlite_catalog.proofs.ListFacts.{none_placed}
 use Rattle.sqlite_rules.proofs.ListLemmas.{has_filtered, has_found}
 use Rattle.streetmap_rows.specs.Tables.{IsNamed}
-use Rattle.streetmap_tables.specs.Dropping.{Dropped}
+use Rattle.streetmap_tables.specs.Drops.{Dropped}
 use Rattle.streetmap_tables.proofs.ViewNames.{none_named, no_such_view, no_such_index}
 
 unused : (schema : Schema) (name : List ℕ) → table_named schema name ≡ None → index_named schema name ≡ None → view_named schema name ≡ None → is_used schema name ≡ false

@@ -1,4 +1,4 @@
--- What a schema is full for, before a table more and after it.
+-- What a schema is full for, before one more table and after it.
 use Rattle.std.proofs.Common.{◌≡◌, inl, inr, ℕ, ◌+◌, ◌≤◌, ◌<◌, max, Bool, List, [], ◌∷◌, ◌++◌, length, fold, refl, true, false, ◌||◌, is_some, ap, ap₂, sym, subst, ◌∙◌, arith, IsTrue}
 use Rattle.std.specs.List.{AllByRecursion, list_any, position_from}
 use Rattle.std.proofs.lemmas.Bool.{cases_Bool}
@@ -13,7 +13,7 @@ use Rattle.sqlite_catalog.proofs.StepLemmas.{table_below, index_below}
 use Rattle.sqlite_catalog.proofs.ListFacts.{most_from}
 use Rattle.sqlite_rules.specs.Lists.{Has}
 use Rattle.sqlite_rules.proofs.ListLemmas.{all_has, has_either}
-use Rattle.streetmap_tables.specs.Refusing.{IsToldFor, key_indexes}
+use Rattle.streetmap_tables.specs.CreationRefusals.{IsCreateError, key_indexes}
 
 -- ---- numbers
 
@@ -59,11 +59,11 @@ or_false : (b : Bool) → (b || false) ≡ b
 or_false true = refl
 or_false false = refl
 
--- neither the table nor an index that SQLite makes for it has the name, wherever it stands
+-- neither the table nor an index that SQLite makes for it has the name, wherever it is
 abbrev pub IsOther : Table → List ℕ → Type 0
 IsOther table name = (same_name table.name name ≡ false) × ((tree : ℕ) → list_any (λ i. same_name i.name name) (automatics (record table { tree = tree }) 0 (tree + 1) table.uniques) ≡ false)
 
--- another name is used after a table more where it was used before
+-- another name is used after one more table if it was used before
 pub used_same : (schema : Schema) (table : Table) (name : List ℕ) → IsOther table name → is_used (created schema table) name ≡ is_used schema name
 used_same schema table name other =
     ap₂ (λ a b. a || b || is_some (position_from (λ v. same_name v.name name) 0 schema.views))
@@ -76,15 +76,15 @@ used_same schema table name other =
 abbrev pub AreOther : Table → List Table → Type 0
 AreOther table tables = AllByRecursion (λ t. AllByRecursion (λ i. IsOther table i.name) (key_indexes t)) tables
 
--- what a schema is full for after a table more, it was full for before
-pub told_before : (schema : Schema) (table : Table) (tables : List Table) → AreOther table tables → (e : Error) → IsToldFor tables (created schema table) e → IsToldFor (table ∷ tables) schema e
-told_before schema table tables other e (inl store) = inl store
-told_before schema table tables other e (inr (inl high)) = inr (inl (high.0, let low = next_created schema table in let many = high.1 in omega (arith, low, many)))
-told_before schema table tables other e (inr (inr used)) =
+-- what a schema is full for after one more table, it was full for before
+pub reported_before : (schema : Schema) (table : Table) (tables : List Table) → AreOther table tables → (e : Error) → IsCreateError tables (created schema table) e → IsCreateError (table ∷ tables) schema e
+reported_before schema table tables other e (inl store) = inl store
+reported_before schema table tables other e (inr (inl high)) = inr (inl (high.0, let low = next_created schema table in let many = high.1 in omega (arith, low, many)))
+reported_before schema table tables other e (inr (inr used)) =
     inr (inr (used.0, used.1, inr used.2, used.3, used.4, subst IsTrue (used_same schema table used.3.name (all_has _ (key_indexes used.1) used.3 (all_has _ tables used.1 other used.2) used.4)) used.5))
 
 -- so it is for a table and more
-pub told_first : (schema : Schema) (table : Table) (tables : List Table) (e : Error) → IsToldFor (table ∷ []) schema e → IsToldFor (table ∷ tables) schema e
-told_first schema table tables e (inl store) = inl store
-told_first schema table tables e (inr (inl high)) = inr (inl (high.0, let many = high.1 in omega (arith, many)))
-told_first schema table tables e (inr (inr used)) = elim used.2 [ inl first ↦ inr (inr (used.0, used.1, inl first, used.3, used.4, used.5)) | inr none ↦ absurd none ]
+pub reported_first : (schema : Schema) (table : Table) (tables : List Table) (e : Error) → IsCreateError (table ∷ []) schema e → IsCreateError (table ∷ tables) schema e
+reported_first schema table tables e (inl store) = inl store
+reported_first schema table tables e (inr (inl high)) = inr (inl (high.0, let many = high.1 in omega (arith, many)))
+reported_first schema table tables e (inr (inr used)) = elim used.2 [ inl first ↦ inr (inr (used.0, used.1, inl first, used.3, used.4, used.5)) | inr none ↦ absurd none ]

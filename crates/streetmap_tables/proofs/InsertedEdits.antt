@@ -3,12 +3,12 @@ use Rattle.std.proofs.Common.{◌≡◌, ℕ, ◌+◌, suc, List, [], ◌∷◌,
 use Rattle.std.specs.Prelude.{MatchBool}
 use Rattle.sqlite.specs.State.{State as Seen, IsUnchanged, KeepsCommit}
 use Rattle.sqlite.specs.declared.error.Error.{Error}
-use Rattle.streetmap_rows.specs.Failing.{IsOfStore}
-use Rattle.streetmap_rows.specs.Stands.{StandsFor}
+use Rattle.streetmap_rows.specs.Failures.{IsOfStore}
+use Rattle.streetmap_rows.specs.Representations.{StandsFor}
 use Rattle.streetmap_rows.specs.Elsewhere.{IsSameElsewhere}
 use Rattle.streetmap_ledger.specs.declared.reply.Refusal.{Refusal}
-use Rattle.streetmap_tables.specs.Editing.{AnsweredAll, KeepsRest}
-use Rattle.streetmap_tables.proofs.CallsInTransaction.{keeps_then, keeps_rest, rest_then, stands_still}
+use Rattle.streetmap_tables.specs.EditEffects.{AnsweredAll, KeepsRest}
+use Rattle.streetmap_tables.proofs.CallsInTransaction.{keeps_then, keeps_rest, rest_then, still_represented}
 use Rattle.std.specs.FinMap.{get, insert, get-insert}
 use Rattle.std.specs.Cmp.Lexicographic.{nat_list_cmp_total}
 use Rattle.streetmap_batch.specs.Text.{Text}
@@ -22,10 +22,10 @@ use Rattle.streetmap_rows.specs.Calls.{PutsFeature}
 use Rattle.streetmap_rows.specs.FeatureRows.{Entry, PutsEach, AreRowsOf}
 use Rattle.streetmap_rows.specs.declared.feature_rows.FeatureRow.{FeatureRow}
 use Rattle.streetmap_rows.proofs.TextKeys.{text_self}
-use Rattle.streetmap_tables.specs.Inserting.{IsInsertion, AreInsertions, MadeOrLeft}
-use Rattle.streetmap_tables.proofs.Editing.{edited_more}
+use Rattle.streetmap_tables.specs.Insertions.{IsInsertion, AreInsertions, MadeOrLeft}
+use Rattle.streetmap_tables.proofs.EditEffects.{edited_more}
 
--- one row more
+-- one more row
 pub one_more : (name : Text) (property : Option Text) (es : List EditValue) (rows : List FeatureRow) (e : EditValue) (row : FeatureRow) → AreInsertions name property es rows → IsInsertion name property e row → AreInsertions name property (es ++ e ∷ []) (rows ++ row ∷ [])
 one_more name property [] [] e row are is = (is, tt)
 one_more name property (x ∷ es) (r ∷ rows) e row are is = (are.0, one_more name property es rows e row are.1 is)
@@ -54,9 +54,9 @@ module _ (name : Text) (property : Option Text) where
       let kept = is.under.kept in
       let same : puts.collection ≡ c = let h = sym puts.there ∙ there in cc in
       let absent : get c.features f.id ≡ None = subst (λ (x : Collection). get x.features f.id ≡ None) same puts.absent in
-      let told : timed c.time f ≡ Ok kept = ap (λ p. timed p f) time ∙ is.under.is in
+      let reported : timed c.time f ≡ Ok kept = ap (λ p. timed p f) time ∙ is.under.is in
       let put : m ≡ with_feature s name c kept = puts.is ∙ ap (λ (x : Collection). with_features s name x (insert x.features f.id kept)) same ∙ ap (λ id. with_features s name c (insert c.features id kept)) (sym is.under.named) in
-      let stepped : step s (edit.insert name f) ≡ Ok (with_feature s name c kept) = rw (there, absent, told) refl in
+      let stepped : step s (edit.insert name f) ≡ Ok (with_feature s name c kept) = rw (there, absent, reported) refl in
       let now = record c { features = insert c.features kept.id kept } in
       let has : get m.collections name ≡ Some now = ap (λ (x : State). get x.collections name) put ∙ (get-insert nat_list_cmp_total s.collections name now name ∙ ap (λ t. cond t (Some now) (get s.collections name)) (text_self name)) in
       (ap (step s) is.is ∙ stepped ∙ ap (λ x. Ok x) (sym put), (now, has, time))
@@ -83,11 +83,11 @@ module _ (name : Text) (property : Option Text) where
       → MatchResult r (λ put. MatchBool put ((t : State) × PutsEach name (entries es rows are) s t × StandsFor t new.now × IsSameElsewhere old.now new.now) (IsUnchanged old new)) IsOfStore
       → OnOk r (IsTrue new.in_transaction) → KeepsCommit old new
       → MatchResult r (λ made. MadeOrLeft s es new made × IsTrue new.in_transaction × KeepsRest old new) (λ e. IsOfStore e × KeepsCommit old new)
-  made_or_left es rows are old new s c there time stands (Ok true) put within kept = ((put.0, inserted_all es rows are 1 s put.0 c there time put.1, put.2), within, (kept, put.3))
-  made_or_left es rows are old new s c there time stands (Ok false) same within kept = (stands_still old new s same stands, within, keeps_rest old new same)
-  made_or_left es rows are old new s c there time stands (Err e) of_store within kept = (of_store, kept)
+  made_or_left es rows are old new s c there time represented (Ok true) put within kept = ((put.0, inserted_all es rows are 1 s put.0 c there time put.1, put.2), within, (kept, put.3))
+  made_or_left es rows are old new s c there time represented (Ok false) same within kept = (still_represented old new s same represented, within, keeps_rest old new same)
+  made_or_left es rows are old new s c there time represented (Err e) of_store within kept = (of_store, kept)
 
--- the same after a look
+-- the same after a read
 pub made_on : (old mid new : Seen) (s : State) (es : List EditValue) (r : Result Bool Error) → KeepsRest old mid
     → MatchResult r (λ made. MadeOrLeft s es new made × IsTrue new.in_transaction × KeepsRest mid new) (λ e. IsOfStore e × KeepsCommit mid new)
     → MatchResult r (λ made. MadeOrLeft s es new made × IsTrue new.in_transaction × KeepsRest old new) (λ e. IsOfStore e × KeepsCommit old new)

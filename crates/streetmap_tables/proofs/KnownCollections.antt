@@ -13,8 +13,8 @@ use Rattle.streetmap_ledger.specs.declared.reply.Refusal.{Refusal}
 use Rattle.streetmap_ledger.specs.declared.reply.Refusal.TheVariants.{NoCollection, CollectionExists, FeatureExists, NoFeature}
 use Rattle.streetmap_rows.specs.Holds.{same_text}
 use Rattle.streetmap_rows.proofs.TextKeys.{text_is}
-use Rattle.streetmap_tables.specs.Inserting.{HasCollection, IsKnown}
-use Rattle.streetmap_tables.specs.declared.inserting.KnownCollection.{KnownCollection}
+use Rattle.streetmap_tables.specs.Insertions.{HasCollection, IsKnown}
+use Rattle.streetmap_tables.specs.declared.insertions.KnownCollection.{KnownCollection}
 
 module _ (name : Text) (property : Option Text) (s : State) (c : Collection) (there : get s.collections name ≡ Some c) (time : c.time ≡ property) where
   -- another collection in the place of one with the same time property
@@ -27,7 +27,7 @@ module _ (name : Text) (property : Option Text) (s : State) (c : Collection) (th
     | inr apart ↦ (c, get-insert nat_list_cmp_total s.collections other e name ∙ ap (λ t. cond t (Some e) (get s.collections name)) apart ∙ there, time)
   ]
 
-  -- a collection that was not there
+  -- a collection that did not exist
   put_beside : (other : Text) (e : Collection) → get s.collections other ≡ None → HasCollection name property (record s { collections = insert s.collections other e })
   put_beside other e none = elim (cases_Bool (same_text name other)) [
     | inl alike ↦ absurd (let h = sym none ∙ ap (get s.collections) (sym (text_is name other alike)) ∙ there in cc)
@@ -91,7 +91,7 @@ pub on_any : {A E : Type 0} (r : Result A E) (P : Type 0) → P → OnOk r P
 on_any (Ok a) P h = h
 on_any (Err e) P h = tt
 
--- what is known is so after edits
+-- what is known stays true after edits
 pub still_known : (known : Option KnownCollection) (es : List EditValue) (place : ℕ) (s t : State) → edited place s es ≡ Ok t → IsKnown known s → IsKnown known t
 still_known None es place s t made is = tt
 still_known (Some it) es place s t made is = edited_keeps (string_bytes it.id) (option_map string_bytes it.property) es place s t made is

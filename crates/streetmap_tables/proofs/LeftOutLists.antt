@@ -1,8 +1,8 @@
--- What stays of a list where some of it is left out.
+-- What stays of a list if some of it is left out.
 use Rattle.std.proofs.Common.{◌≡◌, inl, inr, Bool, true, List, [], ◌∷◌, filter, find, Some, ap, ◌∙◌}
 use Rattle.std.proofs.lemmas.Bool.{cases_Bool}
 
--- what is found first is found still, where it stays
+-- what is found first is still found, if it stays
 pub find_left : {A : Type 0} (p g : A → Bool) (xs : List A) (x : A) → find p xs ≡ Some x → g x ≡ true → find p (filter g xs) ≡ Some x
 find_left p g [] x h k = absurd (cc)
 find_left p g (y ∷ xs) x h k = elim (cases_Bool (p y)) [

@@ -1,4 +1,4 @@
--- A schema with a table more.
+-- A schema with one more table.
 use Rattle.std.proofs.Common.{◌≡◌, inl, inr, ℕ, ◌+◌, ◌<◌, Bool, List, [], ◌∷◌, ◌++◌, refl, Some, None, Option, true, false, not, ◌&&◌, ◌||◌, find, is_some, ap, sym, subst, ◌∙◌, arith}
 use Rattle.std.specs.Prelude.{codes}
 use Rattle.std.specs.Option.{option_or}
@@ -19,10 +19,10 @@ use Rattle.sqlite_catalog.proofs.StepLemmas.{table_below}
 use Rattle.sqlite_catalog.proofs.ListFacts.{ascending_push}
 use Rattle.sqlite_rules.specs.Lists.{Has}
 use Rattle.sqlite_rules.proofs.ListLemmas.{all_has, has_left, has_either, has_found}
-use Rattle.streetmap_rows.proofs.NamedTables.{stands_at}
+use Rattle.streetmap_rows.proofs.NamedTables.{is_at}
 use Rattle.streetmap_rows.specs.Tables.{IsNamed, features_name}
 use Rattle.streetmap_tables.specs.Made.{Created}
-use Rattle.streetmap_tables.specs.Making.{HasRoom, KeepsOtherTables}
+use Rattle.streetmap_tables.specs.Creation.{HasRoom, KeepsOtherTables}
 
 -- ---- lists
 
@@ -63,7 +63,7 @@ sequence_found schema h None is = absurd (true≢false (sym (rw (not_found is_se
 
 pub found_sequence : (schema : Schema) (t : Table) → find is_sequence schema.tables ≡ Some t → is_some (sequence schema) ≡ true
 found_sequence schema t h =
-    let it = stands_at is_sequence 0 schema.tables t h in
+    let it = is_at is_sequence 0 schema.tables t h in
     let at : table_named schema (codes "sqlite_sequence") ≡ Some it.at = it.position ∙ ap (λ k. Some k) (omega arith) in
     rw (at, it.listed) refl
 
@@ -162,7 +162,7 @@ module _ (table : Table) (old new : Database) (c : Created table old new) where
   pub others_kept : KeepsOtherTables old new
   others_kept t had other = (subst (λ (s : Schema). Has s.tables t) (sym c.schema) (has_left old.schema.tables (fresh old.schema table ∷ []) t had), all_has (λ (u : Table). new.trees u.tree ≡ old.trees u.tree) old.schema.tables t c.others had)
 
-  -- the tree of a table that is there is below the next, and keeps its rows
+  -- the tree of an existing table is below the next, and keeps its rows
   pub below : (name : List ℕ) (t : Table) → IsNamed old.schema name t → t.tree < next_tree old.schema
   below name t h = table_below old.schema t (has_found (λ (u : Table). same_name u.name name) old.schema.tables t h).0
 

@@ -4,7 +4,7 @@ use Rattle.sqlite.specs.Effect.{Database}
 use Rattle.sqlite.specs.Schema.{Schema}
 use Rattle.sqlite_rules.specs.Lists.{Has}
 use Rattle.streetmap_rows.specs.Elsewhere.{IsSameElsewhere}
-use Rattle.streetmap_tables.specs.Making.{KeepsOtherTables}
+use Rattle.streetmap_tables.specs.Creation.{KeepsOtherTables}
 
 pub others_same : (a b : Database) → b ≡ a → KeepsOtherTables a b
 others_same a b same = subst (KeepsOtherTables a) (sym same) (λ t had other. (had, refl))

@@ -10,7 +10,7 @@ use Rattle.sqlite.specs.Does.{lacks_sequence}
 use Rattle.sqlite_tied.specs.Compute.{everything}
 use Rattle.streetmap_rows.specs.Tables.{Roots, IsNamed, IsKey, to_key, meta, collections, batches, features, meta_name, collections_name, batches_name, features_name}
 use Rattle.streetmap_tables.specs.Made.{Created}
-use Rattle.streetmap_tables.specs.Making.{HasRoom, AreMade}
+use Rattle.streetmap_tables.specs.Creation.{HasRoom, AreMade}
 use Rattle.streetmap_tables.proofs.OneTableMore.{references_none, OnTree, room_created, room_after, named_kept, named_new, on_kept, on_new, any_kept, any_new, below, rows_kept}
 
 pub meta_alone : references_none (meta 0)

@@ -33,16 +33,16 @@ use Rattle.streetmap_rows.proofs.Resolving.{command_is, is_plain, is_fit}
 use Rattle.streetmap_rows.proofs.Meaning.{Insertion, IsInsert, InsertMeans, quoted, terms_of, insert_means}
 use Rattle.streetmap_rows.proofs.InsertRuns as run
 use Rattle.sqlite.proofs.StateLemmas.{refers_if_sound}
-use Rattle.streetmap_rows.specs.Failing.{IsOfStore}
+use Rattle.streetmap_rows.specs.Failures.{IsOfStore}
 use Rattle.streetmap_rows.proofs.RowPut.{keeps_unique, refers_after}
 use Rattle.std.proofs.lemmas.Bool.{both_ways, true≢false, ne_eqb}
 use Rattle.streetmap_rows.specs.Tables.{Roots, IsOurs, meta, collections, batches, features, meta_name}
 use Rattle.streetmap_rows.specs.Rows.{feature_at, meta_cells}
-use Rattle.streetmap_rows.specs.Stands.{CanBeRead, StandsFor}
+use Rattle.streetmap_rows.specs.Representations.{CanBeRead, StandsFor}
 use Rattle.streetmap_rows.specs.Elsewhere.{is_our_name, IsSameElsewhere}
 use Rattle.streetmap_rows.proofs.OtherTables.{same_elsewhere}
 use Rattle.streetmap_rows.proofs.TablesInSchema as placing
-use Rattle.streetmap_tables.specs.Making.{AreMade, LacksFormat, format_text}
+use Rattle.streetmap_tables.specs.Creation.{AreMade, LacksFormat, format_text}
 
 -- ---- what the text means
 
@@ -123,7 +123,7 @@ module _ (s : State) (old new : Seen) (limit : old.step_limit ≡ None) (lacks :
   unused : is_taken (db roots.meta) row ≡ false
   unused = rw lacks.meta_empty refl
 
-  -- no row that is there stands in its way
+  -- no existing row is in its way
   only_rowid : (why : Refusal) → IsRefused schema Enforced db (record { table = meta roots.meta; gone = []; news = row ∷ [] }) why → why ≡ NoRowid
   only_rowid (Violates rule.Datatype) h = absurd (true≢false h)
   only_rowid (Violates rule.NotNull) h = absurd (true≢false h)
@@ -164,8 +164,8 @@ module _ (s : State) (old new : Seen) (limit : old.step_limit ≡ None) (lacks :
         same_elsewhere old.now new.now _ _ lacks.ours.apart (placing.meta_there roots schema lacks.ours) meta_ours r.same_schema r.step,
       )
 
-  pub format_told : (e : Error) → ExecutesInside 0 format_text [] old new (Err e) → IsOfStore e
-  format_told =
+  pub format_reported : (e : Error) → ExecutesInside 0 format_text [] old new (Err e) → IsOfStore e
+  format_reported =
       let it = format_means schema roots.meta found in
-      run.told _ roots.meta _ _ _ _ _ found.at format_terms 3 format_text [] old new schema (row ∷ []) refl limit (command_is schema format_text 0 _ it) (is_plain schema format_text 0 _ it) (is_fit schema format_text 0 _ it refl)
+      run.reported _ roots.meta _ _ _ _ _ found.at format_terms 3 format_text [] old new schema (row ∷ []) refl limit (command_is schema format_text 0 _ it) (is_plain schema format_text 0 _ it) (is_fit schema format_text 0 _ it refl)
       refl found.listed (rw (cast_null, cast_int (pos 2)) refl) only_rowid refers

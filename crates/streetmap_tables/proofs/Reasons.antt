@@ -4,13 +4,13 @@ use Rattle.std.proofs.Common.{IfErr, IsErrAnd, refl, sym, subst, arith}
 use Rattle.sqlite.specs.State.{State as Seen, HasCleanDisk, Survives}
 use Rattle.sqlite.specs.declared.error.Error.{Error}
 use Rattle.sqlite_trees.specs.Tree.{Trees}
-use Rattle.streetmap_rows.specs.Failing.{HasReason, is_memory}
+use Rattle.streetmap_rows.specs.Failures.{HasReason, is_memory}
 use Rattle.streetmap_rows.proofs.ErrorReasons.{reason_still, reason_later}
 use Rattle.streetmap_rows.specs.declared.fault.ReadFault.{ReadFault}
 use Rattle.streetmap_rows.specs.declared.fault.ReadFault.TheVariants as read
-use Rattle.streetmap_tables.specs.declared.opening.TablesFault.{TablesFault}
-use Rattle.streetmap_tables.specs.declared.opening.TablesFault.TheVariants as opening
-use Rattle.streetmap_tables.specs.Reasons.{IsOwn, HasReasonIn, TellsFor, OpensFor}
+use Rattle.streetmap_tables.specs.declared.openings.TablesFault.{TablesFault}
+use Rattle.streetmap_tables.specs.declared.openings.TablesFault.TheVariants as opening
+use Rattle.streetmap_tables.specs.Reasons.{IsOwn, HasReasonIn, IsReturnedFor, OpensFor}
 
 pub own_in : (old new : Seen) (f : ReadFault) → IsOwn f → HasReasonIn old new f
 own_in old new read.Memory own = tt
@@ -45,20 +45,20 @@ reason_in_still old mid new read.Memory After second come = tt
 reason_in_still old mid new (read.Store e) After second come = reason_still old mid new e come second.counts
 reason_in_still old mid new read.Unread After second come = tt
 
-pub opens_for : (old mid new : Seen) (f : ReadFault) (told : TablesFault) (Commits After : Trees → Type 0)
+pub opens_for : (old mid new : Seen) (f : ReadFault) (reported : TablesFault) (Commits After : Trees → Type 0)
     → Survives old mid Commits → Survives mid new After → HasCleanDisk new → HasReasonIn old mid f
-    → TellsFor mid new f told → OpensFor old new told
-opens_for old mid new f opening.NotOurs Commits After first second clean come tells = tt
-opens_for old mid new f opening.NewFormat Commits After first second clean come tells = tt
-opens_for old mid new f opening.Damaged Commits After first second clean come tells = tt
+    → IsReturnedFor mid new f reported → OpensFor old new reported
+opens_for old mid new f opening.NotOurs Commits After first second clean come reports = tt
+opens_for old mid new f opening.NewFormat Commits After first second clean come reports = tt
+opens_for old mid new f opening.Damaged Commits After first second clean come reports = tt
 opens_for old mid new f (opening.Device e) Commits After first second clean come (inl is) = reason_still old mid new e (subst (HasReasonIn old mid) is come) second.counts
 opens_for old mid new f (opening.Device e) Commits After first second clean come (inr since) =
     let early : HasCleanDisk mid = omega (arith, clean, second.clean) in reason_later old mid new e Commits first early second.counts since
-opens_for old mid new f opening.Memory Commits After first second clean come tells = tt
+opens_for old mid new f opening.Memory Commits After first second clean come reports = tt
 
-pub opens_later : (old mid new : Seen) (told : TablesFault) (Commits After : Trees → Type 0)
-    → Survives old mid Commits → Survives mid new After → HasCleanDisk new → OpensFor mid new told
-    → OpensFor old new told
+pub opens_later : (old mid new : Seen) (reported : TablesFault) (Commits After : Trees → Type 0)
+    → Survives old mid Commits → Survives mid new After → HasCleanDisk new → OpensFor mid new reported
+    → OpensFor old new reported
 opens_later old mid new opening.NotOurs Commits After first second clean come = tt
 opens_later old mid new opening.NewFormat Commits After first second clean come = tt
 opens_later old mid new opening.Damaged Commits After first second clean come = tt

@@ -1,4 +1,4 @@
--- The two tables made anew: what stands then, step by step.
+-- The two tables made again: what exists then, step by step.
 use Rattle.std.proofs.Common.{◌≡◌, ◌≢◌, ◌⊎◌, inl, inr, ℕ, List, [], ◌∷◌, length, map, true, false, cond, Option, Some, None, option_map, refl, sym, ap, subst, ◌∙◌, true≢false, arith}
 use Rattle.std.specs.Prelude.{option_and_then}
 use Rattle.std.specs.List.{list_any}
@@ -23,16 +23,16 @@ use Rattle.streetmap_rows.proofs.NamedTables.{trees_differ}
 use Rattle.streetmap_rows.proofs.HeldKeys.{holds_same}
 use Rattle.streetmap_rows.specs.Tables.{Roots, IsNamed, IsKey, to_key, meta, collections, batches, features, meta_name, collections_name, batches_name, features_name}
 use Rattle.streetmap_rows.specs.Rows.{feature_at, collection_cells}
-use Rattle.streetmap_rows.specs.Stands.{HasTextNames, CanBeRead}
+use Rattle.streetmap_rows.specs.Representations.{HasTextNames, CanBeRead}
 use Rattle.streetmap_rows.specs.Elsewhere.{is_our_name}
 use Rattle.streetmap_tables.specs.Made.{Created}
-use Rattle.streetmap_tables.specs.Making.{HasRoom, LacksFormat, KeepsOtherTables}
+use Rattle.streetmap_tables.specs.Creation.{HasRoom, LacksFormat, KeepsOtherTables}
 use Rattle.streetmap_tables.proofs.OneTableMore.{is_sequence, references_none, room_after, named_kept, named_new, on_kept, on_new, any_kept, others_kept, below, rows_kept}
 use Rattle.streetmap_tables.proofs.OurTablesMade.{meta_alone, features_alone, same_meta, same_features}
 use Rattle.streetmap_tables.proofs.PutFormat.{holds_none}
 use Rattle.streetmap_tables.proofs.OtherTables.{others_then}
 use Rattle.streetmap_tables.specs.Old.{WereOurs, KeepsOld, old_features}
-use Rattle.streetmap_tables.specs.Dropping.{CanGo, Dropped}
+use Rattle.streetmap_tables.specs.Drops.{CanGo, Dropped}
 use Rattle.streetmap_tables.specs.Part.{bare, emptied}
 use Rattle.streetmap_tables.proofs.TableDropped.{named_left, was_there, rows_left, others_left, index_was, any_left, room_left}
 

@@ -1,14 +1,14 @@
--- A connection at rest, after tables were looked at.
+-- A connection at rest, after tables were read.
 use Rattle.std.proofs.Common.{◌≡◌, ℕ, IsTrue, sym, ap, subst, ◌∙◌}
 use Rattle.sqlite.specs.State.{State as Seen, IsUnchanged, KeepsCommit}
 use Rattle.streetmap_ledger.specs.State.{State}
-use Rattle.streetmap_rows.specs.Keeping.{Keeps, Rests}
-use Rattle.streetmap_tables.specs.Making.{HasSame}
-use Rattle.streetmap_tables.specs.Adopting.{IsAsItWas}
-use Rattle.streetmap_tables.specs.declared.adopting.Found.{Found}
-use Rattle.streetmap_tables.specs.declared.adopting.Found.TheVariants.{Keys, Unread, Other}
+use Rattle.streetmap_rows.specs.KeptStates.{Keeps, Rests}
+use Rattle.streetmap_tables.specs.Creation.{HasSame}
+use Rattle.streetmap_tables.specs.Adoption.{IsAsItWas}
+use Rattle.streetmap_tables.specs.declared.adoption.Found.{Found}
+use Rattle.streetmap_tables.specs.declared.adoption.Found.TheVariants.{Keys, Unread, Other}
 
--- it rests where it has the database that it had
+-- it rests if it has the database that it had
 pub rests_same : (old new : Seen) (s : State) → Rests old s → HasSame old new → new.step_limit ≡ old.step_limit → IsTrue new.is_open → Rests new s
 rests_same old new s rests same limit live = record {
   kept = subst (Keeps s) (sym same.0) rests.kept;

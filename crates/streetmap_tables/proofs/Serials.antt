@@ -4,7 +4,7 @@ use Rattle.sqlite_tied.specs.Compute.{everything}
 use Rattle.streetmap_rows.proofs.Meaning.{Selection, IsSelect, SelectMeans, SelectNever}
 use Rattle.streetmap_rows.proofs.Meaning.{select_means, select_never}
 use Rattle.streetmap_rows.specs.Tables.{batches}
-use Rattle.streetmap_tables.specs.Adopting.{serials_text}
+use Rattle.streetmap_tables.specs.Adoption.{serials_text}
 
 abbrev pub selects_serials : Selection
 selects_serials = record {

@@ -16,9 +16,9 @@ use Rattle.sqlite_rules.proofs.ListLemmas.{all_has, all_from, has_filtered, has_
 use Rattle.sqlite_rules.proofs.RuleLemmas.{same_table}
 use Rattle.streetmap_rows.specs.Tables.{IsNamed}
 use Rattle.streetmap_rows.specs.Elsewhere.{is_our_name}
-use Rattle.streetmap_tables.specs.Making.{HasRoom, KeepsOtherTables}
+use Rattle.streetmap_tables.specs.Creation.{HasRoom, KeepsOtherTables}
 use Rattle.streetmap_tables.proofs.OneTableMore.{is_sequence, sequence_found, found_sequence, references_none}
-use Rattle.streetmap_tables.specs.Dropping.{Dropped}
+use Rattle.streetmap_tables.specs.Drops.{Dropped}
 use Rattle.streetmap_tables.proofs.LeftOutLists.{find_left}
 
 -- a list that has none left of what another lacks

@@ -15,7 +15,7 @@ is_create : Statement → Bool
 is_create (written.CreateTable def) = not def.if_missing
 is_create _ = false
 
--- a statement that makes a table, and does not pass over one that is there
+-- a statement that makes a table, and does not pass over an existing one
 record Makes (s : Statement) : Type 0 where
   def : Def
   is : s ≡ written.CreateTable def

@@ -1,4 +1,4 @@
--- A feature with the time that its collection's property tells.
+-- A feature with the time that its collection's property gives.
 use Rattle.std.proofs.Common.{◌≡◌, Option, Ok, Err, Result, option_map, refl, sym, ap}
 use Rattle.streetmap_grid.specs.Extent.{extent_of}
 use Rattle.streetmap_moment.specs.IntervalValue.{IntervalValue}
@@ -13,13 +13,13 @@ use Rattle.streetmap_geojson.proofs.Facts.{interval_made, retimed_is}
 use Rattle.streetmap_batch.specs.Text.{Text}
 use Rattle.streetmap_ledger.specs.State.{timed}
 use Rattle.streetmap_rows.specs.Rows.{feature_text, extent_in, seconds_in}
-use Rattle.streetmap_tables.specs.Storing.{IsTimed}
+use Rattle.streetmap_tables.specs.StoredFeatures.{IsTimed}
 
 pub timed_as : (property : Option Text) (f : FeatureValue) (t : Option Interval) → IsFeature f → time_of property f.properties ≡ Ok (option_map interval_value t) → IsTimed property f (option_map seconds_of (option_map interval_value t))
 unfolding feature_text extent_in seconds_in
-timed_as property f t fact told = record {
+timed_as property f t fact reported = record {
   kept = retimed f (option_map interval_value t);
-  is = rw told refl;
+  is = rw reported refl;
   fine = retimed_is f (option_map interval_value t) fact (interval_made t);
   named = refl;
   text_is = refl;

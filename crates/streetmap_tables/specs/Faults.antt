@@ -1,11 +1,11 @@
 -- Why tables are not made or opened: the names and sentences.
 use Rattle.std.specs.Prelude.{ℕ, List, codes}
-use Rattle.streetmap_tables.specs.declared.making.MakeFault.{MakeFault}
-use Rattle.streetmap_tables.specs.declared.making.MakeFault.TheVariants as making
-use Rattle.streetmap_tables.specs.declared.opening.TablesFault.{TablesFault}
-use Rattle.streetmap_tables.specs.declared.opening.TablesFault.TheVariants as tables
-use Rattle.streetmap_tables.specs.declared.adopting.AdoptFault.{AdoptFault}
-use Rattle.streetmap_tables.specs.declared.adopting.AdoptFault.TheVariants as adopting
+use Rattle.streetmap_tables.specs.declared.creation.MakeFault.{MakeFault}
+use Rattle.streetmap_tables.specs.declared.creation.MakeFault.TheVariants as making
+use Rattle.streetmap_tables.specs.declared.openings.TablesFault.{TablesFault}
+use Rattle.streetmap_tables.specs.declared.openings.TablesFault.TheVariants as tables
+use Rattle.streetmap_tables.specs.declared.adoption.AdoptFault.{AdoptFault}
+use Rattle.streetmap_tables.specs.declared.adoption.AdoptFault.TheVariants as adopting
 
 unfoldable pub make_code : MakeFault → List ℕ
 make_code making.Taken = codes "taken"

@@ -26,8 +26,8 @@ use Rattle.streetmap_rows.specs.Tables.{Roots, IsNamed, IsKey, to_key, to_collec
 use Rattle.streetmap_rows.specs.Tables.{collections, batches, meta_name, collections_name}
 use Rattle.streetmap_rows.specs.Tables.{batches_name, features_name}
 use Rattle.streetmap_rows.specs.Rows.{feature_at, feature_text, collection_cells, batch_cells}
-use Rattle.streetmap_rows.specs.Stands.{CanBeRead}
-use Rattle.streetmap_tables.specs.Making.{HasRoom}
+use Rattle.streetmap_rows.specs.Representations.{CanBeRead}
+use Rattle.streetmap_tables.specs.Creation.{HasRoom}
 
 -- ---- the tables
 

@@ -13,20 +13,20 @@ use Rattle.streetmap_geojson.specs.FeatureValue.{FeatureValue}
 use Rattle.streetmap_batch.specs.Text.{Text}
 use Rattle.streetmap_ledger.specs.State.{State, Collection}
 use Rattle.streetmap_ledger.specs.WellFormed.{IsState}
-use Rattle.streetmap_rows.specs.Failing.{IsOfStore}
+use Rattle.streetmap_rows.specs.Failures.{IsOfStore}
 use Rattle.sqlite.specs.Store.{Ghosts}
 use Rattle.sqlite.specs.Held.{Held, state}
 use Rattle.streetmap_rows.specs.Calls.{RanInsert}
 use Rattle.streetmap_rows.specs.Holds.{KeyPair}
 use Rattle.streetmap_rows.specs.Stored.{TextReadsAs}
 use Rattle.streetmap_rows.specs.Rows.{feature_at, feature_text}
-use Rattle.streetmap_rows.specs.Stands.{StandsFor}
+use Rattle.streetmap_rows.specs.Representations.{StandsFor}
 use Rattle.streetmap_rows.specs.Elsewhere.{IsSameElsewhere}
 use Rattle.streetmap_rows.specs.declared.fault.ReadFault.{ReadFault}
 use Rattle.streetmap_rows.specs.declared.fault.ReadFault.TheVariants.{Memory, Store, Unread}
-use Rattle.streetmap_tables.specs.Making.{format_text}
+use Rattle.streetmap_tables.specs.Creation.{format_text}
 use Rattle.streetmap_tables.specs.Old.{KeepsOld, old_cells}
-use Rattle.streetmap_tables.specs.Telling.{Sees}
+use Rattle.streetmap_tables.specs.QueryResults.{Sees}
 
 -- a collection, or a state, without its features
 abbrev pub bare : Collection → Collection
@@ -70,16 +70,16 @@ pub record Lacks (rows : List Row) (s t : State) : Type 0 where
 
 -- a read or a write gave up because memory ran out or the store failed, and met no row that cannot
 -- be read
-abbrev pub IsSpared : ReadFault → Type 0
-IsSpared Memory = Unit {0}
-IsSpared (Store e) = IsOfStore e
-IsSpared Unread = ⊥
+abbrev pub IsMemoryOrStore : ReadFault → Type 0
+IsMemoryOrStore Memory = Unit {0}
+IsMemoryOrStore (Store e) = IsOfStore e
+IsMemoryOrStore Unread = ⊥
 
 -- the rows of the features, which stay
 abbrev pub TakesRows : Seen → Seen → Result (Vec Row Global) ReadFault → Type 0
 TakesRows old new result = (s : State) → old.step_limit ≡ None → KeepsOld s old.now
     → MatchResult result (λ (rows : Vec Row Global). AreRowsOf s rows.items
-    × IsUnchanged old new) IsSpared
+    × IsUnchanged old new) IsMemoryOrStore
 
 -- the time property of an existing collection, which stays
 abbrev pub FindsTime : Text → Seen → Seen → Result (Option (String Global)) ReadFault → Type 0
@@ -87,7 +87,7 @@ FindsTime name old new result =
     old.step_limit ≡ None → (t : State) (c : Collection) → StandsFor t old.now
     → get t.collections name ≡ Some c
     → MatchResult result (λ time. (option_map string_bytes time ≡ c.time)
-    × IsUnchanged old new) IsSpared
+    × IsUnchanged old new) IsMemoryOrStore
 
 -- the feature of the first row is inserted
 abbrev pub PutsRow : Row → Seen → Seen → Result (Unit {0}) ReadFault → Type 0
@@ -95,14 +95,15 @@ PutsRow row old new result =
     old.step_limit ≡ None → IsTrue old.in_transaction → (s t : State) (more : List Row) → IsState s
     → StandsFor t old.now → Lacks (row ∷ more) s t
     → MatchResult result (λ _. ((u : State) × StandsFor u new.now × Lacks more s u)
-    × IsSameElsewhere old.now new.now) IsSpared
+    × IsSameElsewhere old.now new.now) IsMemoryOrStore
 
 -- the features of all rows are inserted
 abbrev pub PutsRows : List Row → Seen → Seen → Result (Unit {0}) ReadFault → Type 0
 PutsRows rows old new result =
     old.step_limit ≡ None → IsTrue old.in_transaction → (s t : State) → IsState s
     → StandsFor t old.now → Lacks rows s t
-    → MatchResult result (λ _. StandsFor s new.now × IsSameElsewhere old.now new.now) IsSpared
+    → MatchResult result (λ _. StandsFor s new.now
+    × IsSameElsewhere old.now new.now) IsMemoryOrStore
 
 -- the features and the format are dropped, made in format 2, and its number is inserted
 abbrev pub remaking_texts : List (List ℕ)

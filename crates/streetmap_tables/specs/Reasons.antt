@@ -1,13 +1,13 @@
 -- Errors of the store that have a reason.
 use Rattle.std.specs.Prelude.{◌≡◌, ◌⊎◌}
 use Rattle.sqlite.specs.State.{State as Seen}
-use Rattle.streetmap_rows.specs.Failing.{HasReason}
+use Rattle.streetmap_rows.specs.Failures.{HasReason}
 use Rattle.streetmap_rows.specs.declared.fault.ReadFault.{ReadFault}
 use Rattle.streetmap_rows.specs.declared.fault.ReadFault.TheVariants as read
-use Rattle.streetmap_tables.specs.declared.adopting.AdoptFault.{AdoptFault}
-use Rattle.streetmap_tables.specs.declared.adopting.AdoptFault.TheVariants as adopting
-use Rattle.streetmap_tables.specs.declared.opening.TablesFault.{TablesFault}
-use Rattle.streetmap_tables.specs.declared.opening.TablesFault.TheVariants as opening
+use Rattle.streetmap_tables.specs.declared.adoption.AdoptFault.{AdoptFault}
+use Rattle.streetmap_tables.specs.declared.adoption.AdoptFault.TheVariants as adopting
+use Rattle.streetmap_tables.specs.declared.openings.TablesFault.{TablesFault}
+use Rattle.streetmap_tables.specs.declared.openings.TablesFault.TheVariants as opening
 
 -- it comes from no statement
 abbrev pub IsOwn : ReadFault → Type 0
@@ -22,12 +22,12 @@ HasReasonIn old new (read.Store e) = HasReason old new e
 HasReasonIn old new read.Unread = Unit {0}
 
 -- the error that is returned is the one that was met, or arose since
-abbrev pub TellsFor : Seen → Seen → ReadFault → TablesFault → Type 0
-TellsFor old new fault opening.NotOurs = Unit {0}
-TellsFor old new fault opening.NewFormat = Unit {0}
-TellsFor old new fault opening.Damaged = Unit {0}
-TellsFor old new fault (opening.Device e) = (fault ≡ read.Store e) ⊎ HasReason old new e
-TellsFor old new fault opening.Memory = Unit {0}
+abbrev pub IsReturnedFor : Seen → Seen → ReadFault → TablesFault → Type 0
+IsReturnedFor old new fault opening.NotOurs = Unit {0}
+IsReturnedFor old new fault opening.NewFormat = Unit {0}
+IsReturnedFor old new fault opening.Damaged = Unit {0}
+IsReturnedFor old new fault (opening.Device e) = (fault ≡ read.Store e) ⊎ HasReason old new e
+IsReturnedFor old new fault opening.Memory = Unit {0}
 
 -- the error of the store that is returned arose between these two for a reason
 abbrev pub AdoptsFor : Seen → Seen → AdoptFault → Type 0

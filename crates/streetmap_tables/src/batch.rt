@@ -7,13 +7,13 @@ ghost use Rattle.sqlite.specs.View.{doubt};
 ghost use Rattle.streetmap_ledger.specs.State.{State};
 ghost use Rattle.streetmap_batch.specs.BatchText.{batch_text};
 ghost use Rattle.streetmap_batch.specs.BatchView.{batch_value};
-ghost use Rattle.streetmap_rows.specs.Failing.{HasReason};
-ghost use Rattle.streetmap_rows.specs.Settling.{StopsFor};
-ghost use Rattle.streetmap_rows.specs.Keeping.{Rests, MayBecome};
-ghost use Rattle.streetmap_tables.specs.Acting.{Awaits, Applied, Ended, LeavesOtherTables};
-ghost use Rattle.streetmap_tables.specs.Acting.{IsToldByStore};
+ghost use Rattle.streetmap_rows.specs.Failures.{HasReason};
+ghost use Rattle.streetmap_rows.specs.CallEnds.{StopsFor};
+ghost use Rattle.streetmap_rows.specs.KeptStates.{Rests, MayBecome};
+ghost use Rattle.streetmap_tables.specs.BatchEffects.{Awaits, Applied, Ended, LeavesOtherTables};
+ghost use Rattle.streetmap_tables.specs.BatchEffects.{IsByStoreError};
 
-use crate::acting::act_inside;
+use crate::actions::act_inside;
 use crate::kept::kept_reply;
 use sqlite::{Alter, Connection, Error};
 use std::alloc::Global;
@@ -128,7 +128,7 @@ pub fn apply_batch<S: Alter>(
     ensures reason { HasCleanDisk (state S.Store conn.new) →
         IfErr result (StopsFor (state S.Store conn.old) (state S.Store conn.new)) }
     ensures survives { Survives (state S.Store conn.old) (state S.Store conn.new) (λ _. Unit {0}) }
-    ensures told { HasCleanDisk (state S.Store conn.new) → IfErr result IsToldByStore }
+    ensures reported { HasCleanDisk (state S.Store conn.new) → IfErr result IsByStoreError }
     ensures acts { HasCleanDisk (state S.Store conn.new) → (s : State)
         → Rests (state S.Store conn.old) s → len s.keys ≡ count
         → Applied s (batch_value batch.now) (state S.Store conn.new) result }

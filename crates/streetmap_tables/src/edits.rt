@@ -6,14 +6,14 @@ ghost use Rattle.sqlite.specs.Held.{state};
 ghost use Rattle.sqlite.specs.State.{HasCleanDisk, Survives};
 ghost use Rattle.streetmap_batch.specs.BatchValue as edit;
 ghost use Rattle.streetmap_batch.specs.BatchView.{edit_value};
-ghost use Rattle.streetmap_rows.specs.Stands.{LooksIntoRows};
-ghost use Rattle.streetmap_tables.specs.Editing.{Edits, EditsAll};
-ghost use Rattle.streetmap_tables.specs.Inserting.{EditsWhere, IsKnown, KeepsKnown};
-ghost use Rattle.streetmap_rows.specs.Failing.{HasReason};
+ghost use Rattle.streetmap_rows.specs.Representations.{ReadsInState};
+ghost use Rattle.streetmap_tables.specs.EditEffects.{Edits, EditsAll};
+ghost use Rattle.streetmap_tables.specs.Insertions.{EditsWhere, IsKnown, KeepsKnown};
+ghost use Rattle.streetmap_rows.specs.Failures.{HasReason};
 
-use crate::inserting::{KnownCollection, insert_all};
-use crate::storing::put_feature;
-use crate::timing::time_property;
+use crate::insertions::{KnownCollection, insert_all};
+use crate::stored_features::put_feature;
+use crate::times::time_property;
 use sqlite::{Alter, Error, Transaction};
 use std::alloc::Global;
 use streetmap_feature_text::WrittenFeature;
@@ -23,8 +23,8 @@ use streetmap_rows::{ROWS, collection_rows, delete_feature, has_feature, insert_
 /// Whether a collection with this id exists.
 fn has_collection<S: Alter>(tx: &mut Transaction<'_, S>, collection: &str) -> Result<bool, Error>
     ensures same_reference { tx.new.conn.ghost_name ≡ tx.old.conn.ghost_name }
-    ensures looks { HasCleanDisk (state S.Store tx.new.conn.now)
-        → LooksIntoRows (λ s. is_some (get s.collections collection.now))
+    ensures reads_state { HasCleanDisk (state S.Store tx.new.conn.now)
+        → ReadsInState (λ s. is_some (get s.collections collection.now))
         (state S.Store tx.old.conn.now) (state S.Store tx.new.conn.now) result }
     ensures reason { HasCleanDisk (state S.Store tx.new.conn.now) →
         IfErr result (HasReason (state S.Store tx.old.conn.now) (state S.Store tx.new.conn.now)) }

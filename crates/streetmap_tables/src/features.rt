@@ -5,9 +5,9 @@ ghost use Rattle.std.specs.Option.{option_copied};
 ghost use Rattle.sqlite.specs.Held.{state};
 ghost use Rattle.sqlite.specs.State.{HasCleanDisk, KeepsCommit, Survives};
 ghost use Rattle.streetmap_geojson.specs.FeatureValue.{FeatureValue};
-ghost use Rattle.streetmap_rows.specs.Failing.{IsOfStore, HasReason};
+ghost use Rattle.streetmap_rows.specs.Failures.{IsOfStore, HasReason};
 ghost use Rattle.streetmap_rows.specs.Holds.{KeyPair};
-ghost use Rattle.streetmap_rows.specs.Calls.{LooksAll};
+ghost use Rattle.streetmap_rows.specs.Calls.{ReadsRows};
 ghost use Rattle.streetmap_rows.specs.Views as views;
 ghost use Rattle.streetmap_rows.specs.Stored.{IsStored, TextReadsAs};
 ghost use Rattle.streetmap_tables.specs.Old.{old_cells};
@@ -15,9 +15,9 @@ ghost use Rattle.sqlite.specs.declared.error.Error.{Error};
 ghost use Rattle.streetmap_tables.specs.Reasons.{IsOwn, HasReasonIn};
 ghost use Rattle.streetmap_tables.specs.Part.{TakesRows, FindsTime, PutsRow, PutsRows};
 ghost use Rattle.streetmap_tables.specs.Part.{PutsOne, PutsEach, pair_in, body_in, old_rows_text};
-ghost use Rattle.streetmap_tables.specs.Telling.{Sees};
+ghost use Rattle.streetmap_tables.specs.QueryResults.{Sees};
 
-use crate::storing::put_feature;
+use crate::stored_features::put_feature;
 use json::Scratch;
 use sqlite::types::ValueRef;
 use sqlite::{Alter, Error, Row, Transaction, params};
@@ -71,8 +71,8 @@ fn head_rows<S: Alter>(tx: &mut Transaction<'_, S>, collection: &str) -> Result<
     ensures reason { HasCleanDisk (state S.Store tx.new.conn.now) →
         IfErr result (HasReason (state S.Store tx.old.conn.now) (state S.Store tx.new.conn.now)) }
     ensures same_reference { tx.new.conn.ghost_name ≡ tx.old.conn.ghost_name }
-    ensures looks { HasCleanDisk (state S.Store tx.new.conn.now)
-        → LooksAll (views.collection_rows collection.now) (state S.Store tx.old.conn.now)
+    ensures reads_state { HasCleanDisk (state S.Store tx.new.conn.now)
+        → ReadsRows (views.collection_rows collection.now) (state S.Store tx.old.conn.now)
         (state S.Store tx.new.conn.now) result }
     ensures same { HasCleanDisk (state S.Store tx.new.conn.now) →
         OnOk result ((state S.Store tx.new.conn.now).now ≡ (state S.Store tx.old.conn.now).now) }

@@ -9,10 +9,10 @@ ghost use Rattle.sqlite.specs.Tree.{Trees};
 ghost use Rattle.sqlite.specs.Order.{column};
 ghost use Rattle.sqlite.specs.declared.types.Value.TheVariants.{Int};
 ghost use Rattle.streetmap_ledger.specs.State.{State, AcceptedBatch};
-ghost use Rattle.streetmap_rows.specs.Failing.{HasReason, SparesDisk};
-ghost use Rattle.streetmap_rows.specs.Keeping.{Rests};
+ghost use Rattle.streetmap_rows.specs.Failures.{HasReason, IsNotDiskError};
+ghost use Rattle.streetmap_rows.specs.KeptStates.{Rests};
 ghost use Rattle.streetmap_rows.specs.Views.{kept_view};
-ghost use Rattle.streetmap_tables.specs.Acting.{Rested, kept_answer};
+ghost use Rattle.streetmap_tables.specs.BatchEffects.{Rested, kept_answer};
 
 use sqlite::types::ValueRef;
 use sqlite::{Alter, Connection, Error, Row};
@@ -21,7 +21,7 @@ use streetmap_rows::kept_rows;
 
 /// The number in a column.
 fn number_at(row: &Row, at: usize) -> Result<u64, Error>
-    ensures spared { IfErr result SparesDisk }
+    ensures not_of_disk { IfErr result IsNotDiskError }
     ensures reads { (n : ℕ) → at < length row.now → column row.now at ≡ Int (pos n) →
         result ≡ Ok n }
 {
@@ -33,7 +33,7 @@ fn number_at(row: &Row, at: usize) -> Result<u64, Error>
 
 /// The counts in a row that is kept for a key.
 fn counts_in(row: &Row) -> Result<Counts, Error>
-    ensures spared { IfErr result SparesDisk }
+    ensures not_of_disk { IfErr result IsNotDiskError }
     ensures reads { (kept : AcceptedBatch) → row.now ≡ kept_view kept
         → result ≡ Ok kept.counts }
 {
@@ -48,7 +48,7 @@ fn counts_in(row: &Row) -> Result<Counts, Error>
 /// The answer to a batch with this text, by the row that is kept for its key: the earlier answer if
 /// the texts are equal, and otherwise that the key was used.
 fn reply_in(row: &Row, text: &str) -> Result<Reply, Error>
-    ensures spared { IfErr result SparesDisk }
+    ensures not_of_disk { IfErr result IsNotDiskError }
     ensures reads { (kept : AcceptedBatch) → row.now ≡ kept_view kept →
         result ≡ Ok (kept_answer text.now kept) }
 {
@@ -75,7 +75,7 @@ pub fn kept_reply<S: Alter>(
     ensures reason { HasCleanDisk (state S.Store conn.new) →
         IfErr result (HasReason (state S.Store conn.old) (state S.Store conn.new)) }
     ensures survives { Survives (state S.Store conn.old) (state S.Store conn.new) (λ _. Unit {0}) }
-    ensures looks { HasCleanDisk (state S.Store conn.new)
+    ensures reads_state { HasCleanDisk (state S.Store conn.new)
         → Rested (λ s. option_map (kept_answer text.now) (get s.keys key.now))
         (state S.Store conn.old) (state S.Store conn.new) result }
     ensures same { HasCleanDisk (state S.Store conn.new) → (s : State)

@@ -14,30 +14,30 @@
 //! or the state after the batch. If it gives up, memory ran out and nothing changed, or the store
 //! failed, and it returns the error that named the cause.
 //!
-//! In the order of reading: `kept` (what is kept for a key), `timing` and `storing` (what is
-//! written of a feature), `inserting` (several features by one statement), `edits`, `acting` (a
-//! batch inside its transaction), `batch`; `making`, `adopting`, `remaking` (the tables of format 2
-//! in the place of those of format 1), `features` (the rows of format 1, read and put back),
-//! `carrying`, `opening`.
+//! In the order of reading: `kept` (what is kept for a key), `times` and `stored_features` (what is
+//! written of a feature), `insertions` (several features by one statement), `edits`, `actions` (a
+//! batch inside its transaction), `batch`; `creation`, `adoption`, `recreation` (the tables of
+//! format 2 in the place of those of format 1), `features` (the rows of format 1, read and put
+//! back), `migration`, `openings`.
 #![tactic(auto)]
 
-mod acting;
-mod adopting;
+mod actions;
+mod adoption;
 mod batch;
-mod carrying;
+mod creation;
 mod edits;
 mod features;
-mod inserting;
+mod insertions;
 mod kept;
-mod making;
-mod opening;
-mod remaking;
-mod storing;
-mod timing;
+mod migration;
+mod openings;
+mod recreation;
+mod stored_features;
+mod times;
 
-pub use adopting::{AdoptFault, adopt_tables};
+pub use adoption::{AdoptFault, adopt_tables};
 pub use batch::apply_batch;
-pub use carrying::carry_tables;
-pub use making::{MakeFault, make_tables};
-pub use opening::{TablesFault, open_tables};
+pub use creation::{MakeFault, make_tables};
+pub use migration::carry_tables;
+pub use openings::{TablesFault, open_tables};
 pub use streetmap_rows::{Shut, Stop};

@@ -1,4 +1,4 @@
--- What the first line of an input is, and what stands behind it.
+-- The first line of an input, and what comes after it.
 use Rattle.std.proofs.Common.{◌≡◌, ℕ, suc, ◌+◌, ◌<◌, ◌≤◌, Bool, true, false, cond, not, List, []}
 use Rattle.std.proofs.Common.{◌∷◌, ◌++◌, length, take, drop, refl, sym, ap, subst, ◌∙◌, arith}
 use Rattle.std.proofs.Common.{append_assoc, append-nil, length-append, take-append-drop, take_all}
@@ -16,7 +16,7 @@ use Rattle.std.specs.Io.KnownBytes.{Keeps, Consumes, IsAtEnd, prepend_known}
 use Rattle.std.specs.Str.Lines.{lines_of_parts, strip_carriage_return}
 use Rattle.memchr.specs.Find.{IsFirstByte, is_byte}
 use Rattle.streetmap_text_lines.specs.Lines.{raw_lines, is_too_long, first_too_long}
-use Rattle.streetmap_text_lines.specs.Reading.{HasNoLineFeed, IsFirstLine, WhereKnown}
+use Rattle.streetmap_text_lines.specs.LineReads.{HasNoLineFeed, IsFirstLine, WhereKnown}
 
 -- ---- the first line feed
 
@@ -34,7 +34,7 @@ before-step false b n bs d h =
     subst (λ m. HasNoLineFeed (take m (b ∷ bs))) next
     (All-cons (λ c. (c == 10) ≡ false) b (take n bs) d h)
 
--- before the first line feed there is none
+-- no line feed comes before the first one
 pub before_line_feed : (bs : List ℕ) → HasNoLineFeed (take (line_length bs) bs)
 before_line_feed [] = All-nil (λ c. (c == 10) ≡ false)
 before_line_feed (b ∷ bs) = before-step (is_feed b) b (line_length bs) bs refl (before_line_feed bs)
@@ -128,7 +128,7 @@ module _ (most : ℕ) where
   is_long : (line : List ℕ) → most < length line → is_too_long most line ≡ true
   is_long line h = grind (arith, nat_tests)
 
-  -- a beginning of the first line is too long already, whatever follows
+  -- a prefix of the first line is too long already, whatever follows
   long-step : (v : Bool) (line rest : List ℕ) → nat_lt (line_length rest) (length rest) ≡ v →
       HasNoLineFeed line → most < length line
       → first_too_long most (line ++ rest) ≡ Some 0
@@ -222,7 +222,7 @@ module _ (most : ℕ) where
 
   -- ---- bytes that are known
 
-  -- what was read was put behind the line
+  -- what was read was appended to the line
   pub taken_over : (a c : Option (List ℕ)) (line more longer : List ℕ) → Consumes a c more →
       longer ≡ line ++ more → Keeps (prepend_known line a) (prepend_known longer c)
   taken_over None c line more longer h e = tt

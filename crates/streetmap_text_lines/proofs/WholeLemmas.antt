@@ -3,7 +3,7 @@ use Rattle.std.proofs.Common.{◌≡◌, ◌<◌, ℕ, List, [], ◌∷◌, ◌+
 use Rattle.std.proofs.Common.{sym, ap, subst, ◌∙◌, append-nil}
 use Rattle.std.specs.Io.KnownBytes.{Consumes, Keeps, IsAtEnd, prepend_known}
 use Rattle.std.proofs.KnownBytes.{Keeps-trans}
-use Rattle.streetmap_text_lines.specs.Reading.{HasNoLineFeed, WhereKnown}
+use Rattle.streetmap_text_lines.specs.LineReads.{HasNoLineFeed, WhereKnown}
 use Rattle.streetmap_text_lines.specs.Whole.{EndsWithin}
 use Rattle.streetmap_text_lines.proofs.LineLemmas.{IsPartRead}
 

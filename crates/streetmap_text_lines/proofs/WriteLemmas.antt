@@ -19,16 +19,16 @@ pub on_err : {T E : Type 0} (r : Result T E) (P : Type 0) → P → OnErr r P
 on_err (Ok x) P h = tt
 on_err (Err e) P h = h
 
--- ---- beginnings
+-- ---- prefixes
 
 pub starts-longer : (xs ys first : List ℕ) → StartsWith xs first → StartsWith (xs ++ ys) first
 starts-longer xs ys first h =
     let within : length first ≤ length xs = starts_with_length xs first h in
     take-append-le (length first) xs ys within ∙ h
 
-pub starts-behind : (xs ys first : List ℕ) → StartsWith ys first →
+pub starts-after : (xs ys first : List ℕ) → StartsWith ys first →
     StartsWith (xs ++ ys) (xs ++ first)
-starts-behind xs ys first h =
+starts-after xs ys first h =
     ap (λ n. take n (xs ++ ys)) (length-append xs first)
     ∙ take-append-add xs ys (length first)
     ∙ ap (λ l. xs ++ l) h
@@ -37,36 +37,36 @@ pub beginning_longer : (a b : Option (List ℕ)) (xs ys : List ℕ) → AppendsB
     AppendsBeginning a b (xs ++ ys)
 beginning_longer a b xs ys h = (h.0, starts-longer xs ys h.0 h.1, h.2)
 
-pub beginning_behind : (a b c : Option (List ℕ)) (xs ys : List ℕ) → Appends a b xs →
+pub beginning_after : (a b c : Option (List ℕ)) (xs ys : List ℕ) → Appends a b xs →
     AppendsBeginning b c ys → AppendsBeginning a c (xs ++ ys)
-beginning_behind a b c xs ys p h =
-    (xs ++ h.0, starts-behind xs ys h.0 h.1, Appends-trans a b c xs h.0 p h.2)
+beginning_after a b c xs ys p h =
+    (xs ++ h.0, starts-after xs ys h.0 h.1, Appends-trans a b c xs h.0 p h.2)
 
 pub beginning_all : (a b : Option (List ℕ)) (xs : List ℕ) → Appends a b xs →
     AppendsBeginning a b xs
 beginning_all a b xs h = (xs, take-length xs, h)
 
--- ---- beginnings that are not all
+-- ---- prefixes that are not all
 
 pub less_longer : (a b : Option (List ℕ)) (xs ys : List ℕ) → AppendsLess a b xs →
     AppendsLess a b (xs ++ ys)
 less_longer a b xs ys h =
     (h.0, starts-longer xs ys h.0 h.1, omega (arith, h.2, length-append xs ys), h.3)
 
-pub less_behind : (a b c : Option (List ℕ)) (xs ys : List ℕ) → Appends a b xs →
+pub less_after : (a b c : Option (List ℕ)) (xs ys : List ℕ) → Appends a b xs →
     AppendsLess b c ys → AppendsLess a c (xs ++ ys)
-less_behind a b c xs ys p h = (
+less_after a b c xs ys p h = (
   xs ++ h.0,
-  starts-behind xs ys h.0 h.1,
+  starts-after xs ys h.0 h.1,
   omega (arith, h.2, length-append xs ys, length-append xs h.0),
   Appends-trans a b c xs h.0 p h.3,
 )
 
--- nothing of some bytes is not all of them
+-- the empty prefix of some bytes is not all of them
 pub less_none : (a : Option (List ℕ)) (xs : List ℕ) → 0 < length xs → AppendsLess a a xs
 less_none a xs some = ([], refl, some, Appends-nil a)
 
--- ---- beginnings of so many bytes
+-- ---- prefixes of a given length
 
 pub first_is_beginning : (n : ℕ) (a b : Option (List ℕ)) (bytes : List ℕ) →
     AppendsFirst n a b bytes → AppendsBeginning a b bytes
@@ -98,7 +98,7 @@ part_more a b c bytes rest n p h = record {
   written = Appends-trans a b c p.front (take n rest) p.written h;
 }
 
--- the rest as a slice: what stands from n on, up to the end
+-- the rest as a slice: from n to the end
 pub part_sliced : (a b c : Option (List ℕ)) (bytes rest : List ℕ) (n : ℕ) →
     IsPartWritten a b bytes rest → Appends b c (take n rest)
     → IsPartWritten a c bytes (take (length rest - n) (drop n rest))

@@ -1,4 +1,4 @@
 pub mod Lines
-pub mod Reading
+pub mod LineReads
 pub mod Whole
 pub mod Written

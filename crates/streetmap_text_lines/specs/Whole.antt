@@ -1,7 +1,7 @@
 -- The effect of taking a whole line from a reader on the bytes that it has left.
 use Rattle.std.specs.Prelude.{◌≡◌, ◌≤◌, ◌<◌, length, ℕ, List, [], ◌∷◌, ◌++◌, Option}
 use Rattle.std.specs.Io.KnownBytes.{Consumes, Keeps, IsAtEnd}
-use Rattle.streetmap_text_lines.specs.Reading.{HasNoLineFeed, WhereKnown}
+use Rattle.streetmap_text_lines.specs.LineReads.{HasNoLineFeed, WhereKnown}
 use Rattle.streetmap_text_lines.specs.declared.whole.WholeLine.{WholeLine}
 use Rattle.streetmap_text_lines.specs.declared.whole.WholeLine.TheVariants.{Line, Cut, End}
 

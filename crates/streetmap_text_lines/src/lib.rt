@@ -11,9 +11,9 @@
 mod fault;
 mod line;
 mod whole;
-mod writing;
+mod writer;
 
 pub use fault::{LineFault, WriteFault};
 pub use line::{Found, Line, next_line, read_line};
 pub use whole::{WholeLine, next_whole_line};
-pub use writing::{NotWritten, write_bytes};
+pub use writer::{NotWritten, write_bytes};

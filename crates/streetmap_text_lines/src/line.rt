@@ -5,8 +5,8 @@ ghost use Rattle.std.specs.List.{position_or_len};
 ghost use Rattle.std.specs.Str.Lines.{strip_carriage_return};
 ghost use Rattle.std.specs.Io.KnownBytes.{Keeps};
 ghost use Rattle.streetmap_text_lines.specs.Lines.{first_too_long};
-ghost use Rattle.streetmap_text_lines.specs.Reading.{HasNoLineFeed, TakesShown, TakesLine};
-ghost use Rattle.streetmap_text_lines.specs.Reading.{LosesPart, ReadsLine};
+ghost use Rattle.streetmap_text_lines.specs.LineReads.{HasNoLineFeed, TakesShown, TakesLine};
+ghost use Rattle.streetmap_text_lines.specs.LineReads.{LosesPart, ReadsLine};
 
 use crate::fault::LineFault;
 use memchr::memchr;
@@ -31,14 +31,14 @@ pub enum Found {
     End,
 }
 
-/// How a line goes on in the bytes that a reader shows.
+/// How a line continues in the bytes that a reader shows.
 #[derive(Clone, Copy)]
 pub(crate) enum Shown {
     /// They are all of the line, and more may follow.
     More,
     /// The line ends in them, by a line feed.
     LineFeed,
-    /// There are none: the input ends.
+    /// The reader shows none: the input ends.
     End,
 }
 
@@ -91,7 +91,7 @@ pub(crate) fn take_shown<R: BufRead>(
     }
 }
 
-/// Drops the carriage return at the end of a line, if there is one.
+/// Drops the carriage return at the end of a line, if any.
 fn drop_carriage_return(line: &mut Vec<u8>)
     ensures { line.new.items ≡ strip_carriage_return line.old.items }
 {

@@ -1,7 +1,7 @@
 //! One whole line of bounded length, read from a reader: with its line feed.
 ghost use Rattle.std.specs.Prelude.{◌≡◌, ◌≤◌, Some, Err, IfOk, OnErr, IfSome, vec_len};
 ghost use Rattle.streetmap_text_lines.specs.Lines.{first_too_long};
-ghost use Rattle.streetmap_text_lines.specs.Reading.{LosesPart};
+ghost use Rattle.streetmap_text_lines.specs.LineReads.{LosesPart};
 ghost use Rattle.streetmap_text_lines.specs.Whole.{TakesWhole};
 
 use crate::fault::LineFault;

@@ -1,4 +1,4 @@
-//! The program `streetmap_try`: a first look. It serves a port of this host over a keeper in
+//! The program `streetmap_try`, for a first try. It serves a port of this host over a keeper in
 //! memory, without a file, so that what was sent to it is gone when it ends. `make try` runs it
 //! before any proof: without SQLite it is compiled in a third of the time. It is proved as the
 //! other crates are.

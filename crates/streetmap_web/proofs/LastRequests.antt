@@ -7,28 +7,28 @@ use Rattle.std.proofs.lemmas.List.{take-append-drop, length-drop}
 use Rattle.std.proofs.lemmas.List.Elements.{All-nil, All-cons}
 use Rattle.streetmap_batch.specs.Text.{Text}
 use Rattle.streetmap_connections.specs.History.{Exchange, LeavesOpen, requests_of, texts_of}
-use Rattle.streetmap_web.specs.Standing.{Standing}
+use Rattle.streetmap_web.specs.Conditions.{Condition}
 use Rattle.streetmap_web.specs.StreamEnds.{EndsSo}
 use Rattle.streetmap_web.specs.Turns.{end_of}
 use Rattle.streetmap_web.specs.Exchanges as web
 use Rattle.streetmap_ledger.specs.Model.{Model}
 use Rattle.streetmap_web.specs.Exchanges.{HttpExchange, IsExchange}
 use Rattle.streetmap_web.specs.ServedStream.{Around, TurnSays, last_of}
-use Rattle.streetmap_web.specs.ServingClients.{AnsweredInTurn, IsAnswerTo}
-use Rattle.streetmap_web.specs.declared.serving.End.{End}
-use Rattle.streetmap_web.specs.declared.serving.End.TheVariants as variants
-use Rattle.streetmap_web.specs.declared.serving.Turn.{Turn}
-use Rattle.streetmap_web.specs.declared.serving.Turn.TheVariants.{Open, Closed, Ended, Truncated, ReadFailed, WriteFailed}
+use Rattle.streetmap_web.specs.ServedClients.{AnsweredInTurn, IsAnswerTo}
+use Rattle.streetmap_web.specs.declared.turns.End.{End}
+use Rattle.streetmap_web.specs.declared.turns.End.TheVariants as variants
+use Rattle.streetmap_web.specs.declared.turns.Turn.{Turn}
+use Rattle.streetmap_web.specs.declared.turns.Turn.TheVariants.{Open, Closed, Ended, Truncated, ReadFailed, WriteFailed}
 
 -- a request of the web with its answer, as bytes
-abbrev pub exchange_at : Text → Standing → HttpExchange → Exchange
+abbrev pub exchange_at : Text → Condition → HttpExchange → Exchange
 exchange_at root x w = record { request = w.bytes; text = web.answer_bytes root x w; closes = web.closes root x w }
 
-abbrev pub exchanges_at : Text → Standing → List HttpExchange → List Exchange
+abbrev pub exchanges_at : Text → Condition → List HttpExchange → List Exchange
 exchanges_at root x [] = []
-exchanges_at root x (w ∷ ws) = exchange_at root x w ∷ exchanges_at root (web.standing_after x w) ws
+exchanges_at root x (w ∷ ws) = exchange_at root x w ∷ exchanges_at root (web.condition_after x w) ws
 
-pub is_answer : (root : Text) (x : Standing) (w : HttpExchange) → IsExchange x w → IsAnswerTo root x (exchange_at root x w) w
+pub is_answer : (root : Text) (x : Condition) (w : HttpExchange) → IsExchange x w → IsAnswerTo root x (exchange_at root x w) w
 is_answer root x w is = record { is = is; request = refl; text = refl; closes = refl }
 
 kept_appends : (a b : Option Text) → Keeps a b → Appends a b []
@@ -42,12 +42,12 @@ more_left n text less none =
     let zero : length (drop n text) ≡ 0 = ap length none in
     omega (arith, less, left, zero)
 
-abbrev pub closes_last : Text → Standing → List HttpExchange → Bool
+abbrev pub closes_last : Text → Condition → List HttpExchange → Bool
 closes_last root y [] = false
 closes_last root y (w ∷ ws) = web.closes root y w
 
 -- what the last turn did, with the request that it answered, if it did
-pub record IsLast (root : Text) (y : Standing) (a : Around) (end : End) (last : List HttpExchange) : Type 0 where
+pub record IsLast (root : Text) (y : Condition) (a : Around) (end : End) (last : List HttpExchange) : Type 0 where
   pub answered : AnsweredInTurn root y (exchanges_at root y last) last
   pub left : Option Text
   pub read : Consumes a.input_before left (requests_of (exchanges_at root y last))
@@ -61,7 +61,7 @@ pub record IsLast (root : Text) (y : Standing) (a : Around) (end : End) (last : 
       → (front : List Exchange) × (e : Exchange) × (before ++ exchanges_at root y last ≡ front ++ e ∷ []) × All LeavesOpen front
   pub ends : EndsSo end (closes_last root y last) unsent left a.input_after
 
-module _ (root : Text) (y : Standing) (a : Around) where
+module _ (root : Text) (y : Condition) (a : Around) where
   one : (end : End) (w : HttpExchange) → IsExchange y w → Consumes a.input_before a.input_after w.bytes → (part unsent : Text)
       → Appends a.output_before a.output_after part
       → web.answer_bytes root y w ≡ part ++ unsent → EndsSo end (web.closes root y w) unsent a.input_after a.input_after → IsLast root y a end (w ∷ [])

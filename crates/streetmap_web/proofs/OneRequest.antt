@@ -10,35 +10,35 @@ use Rattle.streetmap_http.proofs.Fronts.{front_unique}
 use Rattle.streetmap_batch.specs.Text.{Text}
 use Rattle.streetmap_web.specs.Response.{AnswerSent, request_of, broken_request, sent_so}
 use Rattle.streetmap_ledger.specs.Model.{Model}
-use Rattle.streetmap_web.specs.Standing.{Standing, StandsSo}
-use Rattle.streetmap_web.specs.Responds.{Answers, AnswersAsk, TellsBatch, RefusesBy}
-use Rattle.streetmap_web.specs.Answering.{AnswersOne}
+use Rattle.streetmap_web.specs.Conditions.{Condition, IsInCondition}
+use Rattle.streetmap_web.specs.Responds.{Answers, AnswersOperation, AnswersBatch, RefusesBy}
+use Rattle.streetmap_web.specs.AnsweredRequests.{AnswersOne}
 use Rattle.streetmap_web.specs.Exchanges.{whole, broken}
-use Rattle.streetmap_web.specs.Coming.{AnswersRequest}
+use Rattle.streetmap_web.specs.Transitions.{AnswersRequest}
 use Rattle.streetmap_web.proofs.CallsInARow.{no_calls}
-use Rattle.streetmap_web.proofs.Coming.{refused_comes}
+use Rattle.streetmap_web.proofs.Transitions.{refused_comes}
 
-module _ {K : Type 0} (model : Model K) (root : Text) (x : Standing) where
+module _ {K : Type 0} (model : Model K) (root : Text) (x : Condition) where
   -- a whole request
   whole_answered : (h : HeadValue) (bytes body : Text) (sent : AnswerSent) (old new : K) → IsRequest bytes h body
-      → AnswersAsk model root x (request_of h body) sent old new
+      → AnswersOperation model root x (request_of h body) sent old new
       → AnswersRequest model root x bytes sent old new
   whole_answered h bytes body sent old new is (outcome, one) = record {
     exchange = record { bytes = bytes; request = request_of h body; outcome = outcome };
     bytes_are = refl;
-    asks = whole h body is refl;
+    has_request = whole h body is refl;
     comes_out = one;
   }
 
   -- one that breaks a rule of framing
-  broken_answered : (bytes text : Text) (bare : Bool) (fault : FramingFault) (k : K) → Breaks bytes bare fault → RefusesBy text bare fault → StandsSo model k x
+  broken_answered : (bytes text : Text) (bare : Bool) (fault : FramingFault) (k : K) → Breaks bytes bare fault → RefusesBy text bare fault → IsInCondition model k x
       → AnswersRequest model root x bytes (sent_so text true) k k
   broken_answered bytes text bare fault k breaks refuses h =
       let (outcome, one) = refused_comes model root x text bare fault k refuses h in
       record {
         exchange = record { bytes = bytes; request = broken_request bare fault; outcome = outcome };
         bytes_are = refl;
-        asks = broken bare fault breaks refl;
+        has_request = broken bare fault breaks refl;
         comes_out = one;
       }
 
@@ -67,25 +67,25 @@ said_of bytes h k a b P one other says =
     let same = same_front bytes h k a b one other in
     subst (λ (r : Request). P r.head r.body) (sym same) says
 
--- ---- what is said of one request
+-- ---- what holds of one request
 
 module _ {K : Type 0} (model : Model K) (root : Text) where
   pub whole_answers : (h : HeadValue) (bytes body : Text) (sent : AnswerSent) (old new : K) → IsRequest bytes h body
       → Answers model root (request_of h body) sent old new → AnswersOne model root old bytes sent new
   whole_answers h bytes body sent old new is says = record {
     calls = says.calls;
-    answered = λ clean x stands. whole_answered model root x h bytes body sent old new is (says.answered clean x stands);
-    batch_answered = λ k a one. said_of bytes k h a body (λ k a. TellsBatch model (request_of k a) sent old new) one is says.batch_answered;
+    answered = λ clean x in_condition. whole_answered model root x h bytes body sent old new is (says.answered clean x in_condition);
+    batch_answered = λ k a one. said_of bytes k h a body (λ k a. AnswersBatch model (request_of k a) sent old new) one is says.batch_answered;
   }
 
   pub broken_answers : (bytes text : Text) (bare : Bool) (fault : FramingFault) (k : K) → Breaks bytes bare fault → RefusesBy text bare fault
       → AnswersOne model root k bytes (sent_so text true) k
   broken_answers bytes text bare fault k breaks refuses = record {
     calls = no_calls model k;
-    answered = λ clean x stands. broken_answered model root x bytes text bare fault k breaks refuses stands;
+    answered = λ clean x in_condition. broken_answered model root x bytes text bare fault k breaks refuses in_condition;
     batch_answered = λ h body is. absurd (not_broken bytes body h bare fault is breaks);
   }
 
--- what splitting says if it is known what the bytes say
+-- what splitting gives if it is known what the bytes say
 pub split_as : (f g : Framed) (body bytes : Text) → f ≡ g → SplitsAs (framing_value f) body bytes → SplitsAs (framing_value g) body bytes
 split_as f g body bytes is says = subst (λ k. SplitsAs (framing_value k) body bytes) is says

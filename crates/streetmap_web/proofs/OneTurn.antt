@@ -6,24 +6,24 @@ use Rattle.std.proofs.KnownBytes.{Keeps-refl}
 use Rattle.streetmap_http.specs.Head.{IsHead, IsBlank}
 use Rattle.streetmap_http.specs.Streams.{IsUnfinished, in_body}
 use Rattle.streetmap_http.specs.Framing.{HeadValue, Frames, sized, Breaks}
-use Rattle.streetmap_http.specs.Sending.{SentSays}
+use Rattle.streetmap_http.specs.SentAnswers.{SentSays}
 use Rattle.streetmap_http.specs.declared.fault.FramingFault.{FramingFault}
-use Rattle.streetmap_http.specs.declared.sending.Sent.{Sent}
-use Rattle.streetmap_http.specs.declared.sending.Sent.TheVariants.{Whole, Part}
+use Rattle.streetmap_http.specs.declared.sender.Sent.{Sent}
+use Rattle.streetmap_http.specs.declared.sender.Sent.TheVariants.{Whole, Part}
 use Rattle.streetmap_batch.specs.Text.{Text}
 use Rattle.streetmap_ledger.specs.Model.{Model}
 use Rattle.streetmap_ledger.specs.declared.reply.Fault.TheVariants.{Memory}
 use Rattle.streetmap_bodies.specs.declared.request_fault.RequestFault.TheVariants.{Keeper}
 use Rattle.streetmap_web.specs.Response.{RequestValue, AnswerSent, request_of, broken_request, fault_response, response_text, sent_so}
-use Rattle.streetmap_web.specs.Standing.{Standing, no_memory, StandsSo}
-use Rattle.streetmap_web.specs.Responds.{ComesOut, AnswersAsk}
+use Rattle.streetmap_web.specs.Conditions.{Condition, no_memory, IsInCondition}
+use Rattle.streetmap_web.specs.Responds.{ComesOut, AnswersOperation}
 use Rattle.streetmap_web.specs.Turns.{turn_after, RefuseSays}
-use Rattle.streetmap_web.specs.Exchanges.{HttpExchange, Asks, whole, broken, closes, answer_bytes, sent_for}
+use Rattle.streetmap_web.specs.Exchanges.{HttpExchange, HasRequest, whole, broken, closes, answer_bytes, sent_for}
 use Rattle.streetmap_web.specs.ServedStream.{Around, around, Acted, TurnComes}
-use Rattle.streetmap_web.specs.declared.serving.Turn.{Turn}
-use Rattle.streetmap_web.specs.declared.serving.Turn.TheVariants.{Open, Closed, Ended, Truncated, ReadFailed, WriteFailed}
+use Rattle.streetmap_web.specs.declared.turns.Turn.{Turn}
+use Rattle.streetmap_web.specs.declared.turns.Turn.TheVariants.{Open, Closed, Ended, Truncated, ReadFailed, WriteFailed}
 use Rattle.streetmap_web.proofs.Standings.{fault_sent}
-use Rattle.streetmap_web.proofs.Coming.{for_answer, starved_comes, refused_comes}
+use Rattle.streetmap_web.proofs.Transitions.{for_answer, starved_comes, refused_comes}
 
 -- a head and less than its body
 pub unfinished_body : (head came : Text) (h : HeadValue) → IsHead head → Frames head (sized h) → length came < h.len → IsUnfinished (head ++ came)
@@ -33,12 +33,12 @@ unfinished_body head came h cut framed short =
     in_body (h.len - length came) some (record { head = head; came = came; value = h; parts = refl; cut = cut; framed = framed; len = whole })
 
 -- a turn that is known by how its answer was sent
-pub turn_of : {K : Type 0} (model : Model K) (sent : Sent) (closing : Bool) (turn : Turn) (root : Text) (x : Standing) (a : Around) (old new : K)
+pub turn_of : {K : Type 0} (model : Model K) (sent : Sent) (closing : Bool) (turn : Turn) (root : Text) (x : Condition) (a : Around) (old new : K)
     → turn ≡ turn_after sent closing
     → TurnComes model (turn_after sent closing) root x a old new → TurnComes model turn root x a old new
 turn_of model sent closing turn root x a old new is comes = subst (λ t. TurnComes model t root x a old new) {x = turn_after sent closing} (sym is) comes
 
-module _ {K : Type 0} (model : Model K) (root : Text) (x : Standing) (left rest : Option Text) where
+module _ {K : Type 0} (model : Model K) (root : Text) (x : Condition) (left rest : Option Text) where
   -- an exchange that was acted on, and how its answer was sent
   written_turn : (e : HttpExchange) (closing : Bool) (text : Text) (sent : Sent) (held now : Option Text) (old new : K)
       → Acted model x e (around left rest held now) new → ComesOut model root x e.request e.outcome (sent_for root x e) old new
@@ -52,15 +52,15 @@ module _ {K : Type 0} (model : Model K) (root : Text) (x : Standing) (left rest 
       let w : SentSays (Part begun) (answer_bytes root x e) held now = subst (λ t. SentSays (Part begun) t held now) same written in
       ((e, acted, w.0, w.1, w.2, w.3), (new, one, refl))
 
-  -- an exchange that came out so
+  -- an exchange with this outcome
   sent_turn : (e : HttpExchange) (text : Text) (closing : Bool) (sent : Sent) (held now : Option Text) (old new : K)
-      → Asks e → Consumes left rest e.bytes → ComesOut model root x e.request e.outcome (sent_so text closing) old new → SentSays sent text held now
+      → HasRequest e → Consumes left rest e.bytes → ComesOut model root x e.request e.outcome (sent_so text closing) old new → SentSays sent text held now
       → TurnComes model (turn_after sent closing) root x (around left rest held now) old new
-  sent_turn e text closing sent held now old new asks read one written =
+  sent_turn e text closing sent held now old new has_request read one written =
       let acted : Acted model x e (around left rest held now) new = record {
-        is = record { asks = asks; can = one.can };
+        is = record { has_request = has_request; can = one.can };
         read = read;
-        stands = one.standing;
+        in_condition = one.condition;
       } in
       written_turn e closing text sent held now old new acted (for_answer model root x e.request e.outcome (sent_so text closing) old new one)
       (ap (λ (s : AnswerSent). s.closes) one.sent_is) (ap (λ (s : AnswerSent). s.text) one.sent_is) written
@@ -68,23 +68,23 @@ module _ {K : Type 0} (model : Model K) (root : Text) (x : Standing) (left rest 
   -- a whole request that was answered
   pub answered_turn : (h : HeadValue) (head body text : Text) (closing : Bool) (sent : Sent) (held now : Option Text) (old new : K)
       → IsHead head → Frames head (sized h) → length body ≡ h.len → Consumes left rest (head ++ body)
-      → AnswersAsk model root x (request_of h body) (sent_so text closing) old new → SentSays sent text held now
+      → AnswersOperation model root x (request_of h body) (sent_so text closing) old new → SentSays sent text held now
       → TurnComes model (turn_after sent closing) root x (around left rest held now) old new
   answered_turn h head body text closing sent held now old new cut framed len read (outcome, one) written =
       let e : HttpExchange = record { bytes = head ++ body; request = request_of h body; outcome = outcome } in
-      let asks : Asks e = whole h body (record { head = head; parts = refl; cut = cut; framed = framed; len = len }) refl in
-      sent_turn e text closing sent held now old new asks read one written
+      let has_request : HasRequest e = whole h body (record { head = head; parts = refl; cut = cut; framed = framed; len = len }) refl in
+      sent_turn e text closing sent held now old new has_request read one written
 
-  module _ (k : K) (stands : StandsSo model k x) where
+  module _ (k : K) (in_condition : IsInCondition model k x) where
     -- memory ran out before the request was acted on
     pub starved_turn : (bytes text : Text) (request : RequestValue) (sent : Sent) (held now : Option Text)
-        → Asks (record { bytes = bytes; request = request; outcome = no_memory }) → Consumes left rest bytes
+        → HasRequest (record { bytes = bytes; request = request; outcome = no_memory }) → Consumes left rest bytes
         → text ≡ response_text true request.bare (fault_response (Keeper Memory)) → SentSays sent text held now
         → TurnComes model (turn_after sent true) root x (around left rest held now) k k
-    starved_turn bytes text request sent held now asks read same written =
+    starved_turn bytes text request sent held now has_request read same written =
         let e : HttpExchange = record { bytes = bytes; request = request; outcome = no_memory } in
-        sent_turn e text true sent held now k k asks read
-        (starved_comes model root x request (sent_so text true) k (fault_sent request Memory text same) stands) written
+        sent_turn e text true sent held now k k has_request read
+        (starved_comes model root x request (sent_so text true) k (fault_sent request Memory text same) in_condition) written
 
     -- the answer to a broken rule, as it was sent
     pub refuse_says : (bytes : Text) (bare : Bool) (fault : FramingFault) (turn : Turn) (held now : Option Text) → Breaks bytes bare fault
@@ -92,7 +92,7 @@ module _ {K : Type 0} (model : Model K) (root : Text) (x : Standing) (left rest 
         → RefuseSays turn bare fault held now → TurnComes model turn root x (around left rest held now) k k
     refuse_says bytes bare fault turn held now breaks read (answer, why, sent, turned, written) =
         let text = response_text true bare (fault_response answer) in
-        let (outcome, one) = refused_comes model root x text bare fault k (answer, why, refl) stands in
+        let (outcome, one) = refused_comes model root x text bare fault k (answer, why, refl) in_condition in
         let e : HttpExchange = record { bytes = bytes; request = broken_request bare fault; outcome = outcome } in
         subst (λ t. TurnComes model t root x (around left rest held now) k k) (sym turned)
         (sent_turn e text true sent held now k k (broken bare fault breaks refl) read one written)
@@ -102,12 +102,12 @@ module _ {K : Type 0} (model : Model K) (root : Text) (x : Standing) (left rest 
     pub ended_turn : (bytes : Text) (held : Option Text) → IsBlank bytes → Consumes left rest bytes → IsAtEnd rest
         → TurnComes model Ended root x (around left rest held held) k k
     ended_turn bytes held blank read end =
-        ((record { written = Keeps-refl held; stands = stands }, bytes, blank, read, end), refl)
+        ((record { written = Keeps-refl held; in_condition = in_condition }, bytes, blank, read, end), refl)
 
     pub truncated_turn : (bytes : Text) (held : Option Text) → IsUnfinished bytes → Consumes left rest bytes → IsAtEnd rest
         → TurnComes model Truncated root x (around left rest held held) k k
     truncated_turn bytes held unfinished read end =
-        ((record { written = Keeps-refl held; stands = stands }, bytes, unfinished, read, end), refl)
+        ((record { written = Keeps-refl held; in_condition = in_condition }, bytes, unfinished, read, end), refl)
 
     pub unread_turn : (held : Option Text) → TurnComes model ReadFailed root x (around left rest held held) k k
-    unread_turn held = (record { written = Keeps-refl held; stands = stands }, refl)
+    unread_turn held = (record { written = Keeps-refl held; in_condition = in_condition }, refl)

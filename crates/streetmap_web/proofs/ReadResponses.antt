@@ -13,10 +13,10 @@ use Rattle.streetmap_ledger.specs.declared.reply.Fault.{Fault}
 use Rattle.streetmap_ledger.specs.declared.reply.Fault.TheVariants as faults
 use Rattle.streetmap_ledger.specs.declared.reply.Reply.{Reply}
 use Rattle.streetmap_query.specs.QueryValue.{QueryValue}
-use Rattle.streetmap_routes.specs.Ask.{AskValue, faulty, landing_page, api_text, conformance_classes, all_collections, one_collection, page, feature, batch}
+use Rattle.streetmap_routes.specs.Operations.{OperationValue, faulty, landing_page, api_text, conformance_classes, all_collections, one_collection, page, feature, batch}
 use Rattle.streetmap_bodies.specs.declared.request_fault.RequestFault.{RequestFault}
 use Rattle.streetmap_bodies.specs.declared.request_fault.RequestFault.TheVariants.{Keeper}
-use Rattle.streetmap_web.specs.Response.{ResponseValue, asks_state, response_in, response_shut, state_in, fault_response, replied}
+use Rattle.streetmap_web.specs.Response.{ResponseValue, needs_state, response_in, response_shut, state_in, fault_response, replied}
 use Rattle.streetmap_web.specs.Responds.{Responds, RespondsToBatch, FaultsIn, FaultsShut, FaultsAny, IsResponse, response_value}
 use Rattle.streetmap_web.specs.declared.response.Response.{Response}
 use Rattle.streetmap_web.proofs.CallsInARow.{no_calls, by_call}
@@ -30,9 +30,9 @@ is_shut : (cause : Option Cause) (why : Cause) → cause ≡ Some why → IsSome
 is_shut cause why e = subst (λ (o : Option Cause). IsSome o) (sym e) refl
 
 -- memory ran out before the keeper was called
-pub not_called : {K A : Type 0} (model : Model K) (root : Text) (ask : AskValue) (Is : A → ResponseValue → Type 0) (k : K)
-    → Responds model root ask Is k k (Err faults.Memory)
-not_called model root ask Is k = record {
+pub not_called : {K A : Type 0} (model : Model K) (root : Text) (operation : OperationValue) (Is : A → ResponseValue → Type 0) (k : K)
+    → Responds model root operation Is k k (Err faults.Memory)
+not_called model root operation Is k = record {
   calls = no_calls model k;
   in_state = λ clean s h. h;
   shut = λ why e. (tt, e, λ o. (λ left. left, λ left. left));
@@ -42,12 +42,12 @@ not_called model root ask Is k = record {
 
 -- ---- a request that needs no state
 
--- it is responded to as by a shut keeper, whatever the keeper's condition is
-pub record NeedsNothing (root : Text) (ask : AskValue) : Type 0 where
-  pub plain : asks_state ask ≡ false
-  pub same : (s : State) → response_shut root ask ≡ response_in root s ask
-  pub stays : (s : State) → state_in s ask ≡ s
-  pub no_batch : (b : BatchValue) → ask ≡ batch b → ⊥
+-- it is answered as a shut keeper answers it, whatever the keeper's condition is
+pub record NeedsNothing (root : Text) (operation : OperationValue) : Type 0 where
+  pub plain : needs_state operation ≡ false
+  pub same : (s : State) → response_shut root operation ≡ response_in root s operation
+  pub stays : (s : State) → state_in s operation ≡ s
+  pub no_batch : (b : BatchValue) → operation ≡ batch b → ⊥
 
 pub faulty_plain : (root : Text) (fault : RequestFault) → NeedsNothing root (faulty fault)
 faulty_plain root fault = record { plain = refl; same = λ s. refl; stays = λ s. refl; no_batch = λ b e. cc }
@@ -61,81 +61,81 @@ api_plain root = record { plain = refl; same = λ s. refl; stays = λ s. refl; n
 pub conformance_plain : (root : Text) → NeedsNothing root conformance_classes
 conformance_plain root = record { plain = refl; same = λ s. refl; stays = λ s. refl; no_batch = λ b e. cc }
 
-module _ {K : Type 0} (model : Model K) (root : Text) (asked ask : AskValue) (k : K) (is : asked ≡ ask) (needs : NeedsNothing root ask) where
+module _ {K : Type 0} (model : Model K) (root : Text) (requested operation : OperationValue) (k : K) (is : requested ≡ operation) (needs : NeedsNothing root operation) where
   -- memory may have run out for the response
-  pub plain_responds : (found : Result Response AllocError) (result : Result Response Fault) → IfOk found (λ b. response_value b ≡ response_shut root ask)
-      → IfOk found (λ b. result ≡ Ok b) → OnErr found (result ≡ Err faults.Memory) → Responds model root asked IsResponse k k result
+  pub plain_responds : (found : Result Response AllocError) (result : Result Response Fault) → IfOk found (λ b. response_value b ≡ response_shut root operation)
+      → IfOk found (λ b. result ≡ Ok b) → OnErr found (result ≡ Err faults.Memory) → Responds model root requested IsResponse k k result
   plain_responds (Ok b) result shown same none =
-      let at_ask : Responds model root ask IsResponse k k (Ok b) = record {
+      let at_operation : Responds model root operation IsResponse k k (Ok b) = record {
         calls = no_calls model k;
         in_state = λ clean s h. (shown ∙ needs.same s, subst (model.represents k) (sym (needs.stays s)) h);
         shut = λ why e. (shown, e, λ o. (λ left. left, λ left. left));
-        any = (response_shut root ask, (λ plain. refl, λ asks. absurd (let bad : false ≡ true = sym needs.plain ∙ asks in cc)), shown);
+        any = (response_shut root operation, (λ plain. refl, λ has_request. absurd (let bad : false ≡ true = sym needs.plain ∙ has_request in cc)), shown);
         to_batch = λ c e. absurd (needs.no_batch c e);
       } in
-      subst (λ r. Responds model root asked IsResponse k k r) (sym same) (subst (λ (a : AskValue). Responds model root a IsResponse k k (Ok b)) (sym is) at_ask)
+      subst (λ r. Responds model root requested IsResponse k k r) (sym same) (subst (λ (a : OperationValue). Responds model root a IsResponse k k (Ok b)) (sym is) at_operation)
   plain_responds (Err w) result shown same none =
-      subst (λ r. Responds model root asked IsResponse k k r) (sym none) (not_called model root asked IsResponse k)
+      subst (λ r. Responds model root requested IsResponse k k r) (sym none) (not_called model root requested IsResponse k)
 
 -- ---- a call that failed
 
-module _ {K T : Type 0} {model : Model K} {old new : K} (root : Text) (ask : AskValue) (asks : asks_state ask ≡ true) where
-  shut_by : (fault : Fault) (why : Cause) → response_shut root ask ≡ fault_response (Keeper faults.Reopen) → model.cause old ≡ Some why
+module _ {K T : Type 0} {model : Model K} {old new : K} (root : Text) (operation : OperationValue) (has_request : needs_state operation ≡ true) where
+  shut_by : (fault : Fault) (why : Cause) → response_shut root operation ≡ fault_response (Keeper faults.Reopen) → model.cause old ≡ Some why
       → IsCall {T = T} model old new (Err fault)
-      → FaultsShut root ask fault × (model.cause new ≡ Some why) × LeavesSame (model.may_leave old) (model.may_leave new)
+      → FaultsShut root operation fault × (model.cause new ≡ Some why) × LeavesSame (model.may_leave old) (model.may_leave new)
   shut_by faults.Memory why says e call = open_not_shut _ why call.faults.0 e
   shut_by faults.Device why says e call = open_not_shut _ why call.faults.0 e
   shut_by faults.Damaged why says e call = open_not_shut _ why call.faults.0 e
   shut_by faults.Reopen why says e call = (says, call.faults.1 ∙ e, call.reopen refl)
 
-  any_by : (fault : Fault) → IsCall {T = T} model old new (Err fault) → FaultsAny ask fault (model.cause new)
+  any_by : (fault : Fault) → IsCall {T = T} model old new (Err fault) → FaultsAny operation fault (model.cause new)
   any_by faults.Memory call = tt
-  any_by faults.Device call = (asks, is_shut _ causes.Device call.faults.1)
-  any_by faults.Damaged call = (asks, is_shut _ causes.Damaged call.faults.1)
-  any_by faults.Reopen call = (asks, subst (λ (o : Option Cause). IsSome o) (sym call.faults.1) call.faults.0)
+  any_by faults.Device call = (has_request, is_shut _ causes.Device call.faults.1)
+  any_by faults.Damaged call = (has_request, is_shut _ causes.Damaged call.faults.1)
+  any_by faults.Reopen call = (has_request, subst (λ (o : Option Cause). IsSome o) (sym call.faults.1) call.faults.0)
 
   read_in : (fault : Fault) (s : State) (Is : T → Type 0) → IsCall {T = T} model old new (Err fault) → Reads model old new s Is (Err fault)
-      → FaultsIn model s ask old new fault
+      → FaultsIn model s operation old new fault
   read_in faults.Memory s Is call reads = reads
-  read_in faults.Device s Is call reads = (asks, call.faults.1, reads.0, λ o left. inl (reads.1 o left))
+  read_in faults.Device s Is call reads = (has_request, call.faults.1, reads.0, λ o left. inl (reads.1 o left))
   read_in faults.Damaged s Is call reads = reads
   read_in faults.Reopen s Is call reads = reads
 
 -- ---- a request that takes one read
 
-pub record NeedsRead (root : Text) (ask : AskValue) : Type 0 where
-  pub asks : asks_state ask ≡ true
-  pub shut : response_shut root ask ≡ fault_response (Keeper faults.Reopen)
-  pub stays : (s : State) → state_in s ask ≡ s
-  pub no_batch : (b : BatchValue) → ask ≡ batch b → ⊥
+pub record NeedsRead (root : Text) (operation : OperationValue) : Type 0 where
+  pub has_request : needs_state operation ≡ true
+  pub shut : response_shut root operation ≡ fault_response (Keeper faults.Reopen)
+  pub stays : (s : State) → state_in s operation ≡ s
+  pub no_batch : (b : BatchValue) → operation ≡ batch b → ⊥
 
 pub page_reads : (root name : Text) (query : QueryValue) → NeedsRead root (page name query)
-page_reads root name query = record { asks = refl; shut = refl; stays = λ s. refl; no_batch = λ b e. cc }
+page_reads root name query = record { has_request = refl; shut = refl; stays = λ s. refl; no_batch = λ b e. cc }
 
 pub feature_reads : (root name id : Text) → NeedsRead root (feature name id)
-feature_reads root name id = record { asks = refl; shut = refl; stays = λ s. refl; no_batch = λ b e. cc }
+feature_reads root name id = record { has_request = refl; shut = refl; stays = λ s. refl; no_batch = λ b e. cc }
 
 pub collection_reads : (root name : Text) → NeedsRead root (one_collection name)
-collection_reads root name = record { asks = refl; shut = refl; stays = λ s. refl; no_batch = λ b e. cc }
+collection_reads root name = record { has_request = refl; shut = refl; stays = λ s. refl; no_batch = λ b e. cc }
 
 pub collections_read : (root : Text) → NeedsRead root all_collections
-collections_read root = record { asks = refl; shut = refl; stays = λ s. refl; no_batch = λ b e. cc }
+collections_read root = record { has_request = refl; shut = refl; stays = λ s. refl; no_batch = λ b e. cc }
 
-module _ {K : Type 0} {model : Model K} {old new : K} (root : Text) (ask : AskValue) (needs : NeedsRead root ask) where
+module _ {K : Type 0} {model : Model K} {old new : K} (root : Text) (operation : OperationValue) (needs : NeedsRead root operation) where
   -- it was answered, unless memory ran out for the response
   pub found_responds : {T : Type 0} {x : T} {Is : State → T → Type 0} (found : Result Response AllocError) (result : Result Response Fault) (p : ResponseValue)
       → IsRead model old new (Ok x) Is → IfOk found (λ b. response_value b ≡ p) → IfOk found (λ b. result ≡ Ok b) → OnErr found (result ≡ Err faults.Memory)
-      → ((s : State) → Is s x → p ≡ response_in root s ask) → (p.status ≡ 500 → ⊥) → Responds model root ask IsResponse old new result
-  found_responds (Ok b) result p read is same none so well = subst (λ r. Responds model root ask IsResponse old new r) (sym same) (record {
+      → ((s : State) → Is s x → p ≡ response_in root s operation) → (p.status ≡ 500 → ⊥) → Responds model root operation IsResponse old new result
+  found_responds (Ok b) result p read is same none so well = subst (λ r. Responds model root operation IsResponse old new r) (sym same) (record {
     calls = by_call read.call;
     in_state = λ clean s h.
         let found = read.reads clean s h in
         (is ∙ so s found.0, subst (model.represents new) (sym (needs.stays s)) found.1);
     shut = λ why e. open_not_shut _ why read.call.faults.0 e;
-    any = (p, (λ plain. absurd (let bad : true ≡ false = sym needs.asks ∙ plain in cc), λ asks e. well e), is);
+    any = (p, (λ plain. absurd (let bad : true ≡ false = sym needs.has_request ∙ plain in cc), λ has_request e. well e), is);
     to_batch = λ c e. absurd (needs.no_batch c e);
   })
-  found_responds (Err w) result p read is same none so well = subst (λ r. Responds model root ask IsResponse old new r) (sym none) (record {
+  found_responds (Err w) result p read is same none so well = subst (λ r. Responds model root operation IsResponse old new r) (sym none) (record {
     calls = by_call read.call;
     in_state = λ clean s h. (read.reads clean s h).1;
     shut = λ why e. open_not_shut _ why read.call.faults.0 e;
@@ -145,12 +145,12 @@ module _ {K : Type 0} {model : Model K} {old new : K} (root : Text) (ask : AskVa
 
   -- the read failed
   pub failed_responds : {T : Type 0} {Is : State → T → Type 0} (fault : Fault) → IsRead {T = T} model old new (Err fault) Is
-      → Responds model root ask IsResponse old new (Err fault)
+      → Responds model root operation IsResponse old new (Err fault)
   failed_responds {T} {Is} fault read = record {
     calls = by_call read.call;
-    in_state = λ clean s h. read_in root ask needs.asks fault s (Is s) read.call (read.reads clean s h);
-    shut = λ why e. shut_by root ask needs.asks fault why needs.shut e read.call;
-    any = any_by root ask needs.asks fault read.call;
+    in_state = λ clean s h. read_in root operation needs.has_request fault s (Is s) read.call (read.reads clean s h);
+    shut = λ why e. shut_by root operation needs.has_request fault why needs.shut e read.call;
+    any = any_by root operation needs.has_request fault read.call;
     to_batch = λ c e. absurd (needs.no_batch c e);
   }
 
@@ -171,7 +171,7 @@ module _ {K : Type 0} {model : Model K} {old new : K} (root : Text) (b : BatchVa
         let acted = write.writes clean s h in
         (is ∙ ap (replied b.key) acted.0, acted.1);
     shut = λ why e. open_not_shut _ why write.call.faults.0 e;
-    any = (replied b.key reply, (λ plain. absurd (let bad : true ≡ false = plain in cc), λ asks e. reply_well b.key reply e), is);
+    any = (replied b.key reply, (λ plain. absurd (let bad : true ≡ false = plain in cc), λ has_request e. reply_well b.key reply e), is);
     to_batch = λ c e. to_same b c IsResponse (Ok response) (λ d r. model.applies old d r new) (new ≡ old) e (reply, write.applied, is);
   }
 

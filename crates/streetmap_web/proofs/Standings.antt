@@ -9,12 +9,12 @@ use Rattle.streetmap_ledger.specs.declared.reply.Cause.{Cause}
 use Rattle.streetmap_ledger.specs.declared.reply.Cause.TheVariants as causes
 use Rattle.streetmap_ledger.specs.declared.reply.Fault.{Fault}
 use Rattle.streetmap_ledger.specs.declared.reply.Fault.TheVariants as faults
-use Rattle.streetmap_routes.specs.Ask.{AskValue}
-use Rattle.streetmap_web.specs.Response.{ResponseValue, RequestValue, asks_state, fault_response, closes_with, response_text, response_in, sent_so, sent_as}
-use Rattle.streetmap_web.specs.Standing.{Standing, of_state, shut, unknown, as_asked, no_memory, device_failed, of_keeper, StandsSo}
-use Rattle.streetmap_web.specs.Responds.{AnswersAsk, Answers, Responds, Sends, IsResponse, response_value, TellsBatch, by_reply, by_fault, by_none}
+use Rattle.streetmap_routes.specs.Operations.{OperationValue}
+use Rattle.streetmap_web.specs.Response.{ResponseValue, RequestValue, needs_state, fault_response, closes_with, response_text, response_in, sent_so, sent_as}
+use Rattle.streetmap_web.specs.Conditions.{Condition, of_state, shut, unknown, as_requested, no_memory, device_failed, of_keeper, IsInCondition}
+use Rattle.streetmap_web.specs.Responds.{AnswersOperation, Answers, Responds, Sends, IsResponse, response_value, AnswersBatch, by_reply, by_fault, by_none}
 use Rattle.streetmap_web.specs.declared.response.Response.{Response}
-use Rattle.streetmap_web.proofs.Statuses.{told_well, starved_well}
+use Rattle.streetmap_web.proofs.Statuses.{never_500, starved_well}
 use Rattle.streetmap_connections.specs.Answers.{answer_text}
 use Rattle.streetmap_connections.specs.declared.service.Answer.{Answer}
 use Rattle.streetmap_bodies.specs.declared.request_fault.RequestFault.TheVariants.{Keeper}
@@ -24,12 +24,12 @@ or_true true = refl
 or_true false = refl
 
 -- the connection closes after a keeper's fault
-pub fault_closes : (asked : Bool) (fault : Fault) → true ≡ closes_with asked (fault_response (Keeper fault))
+pub fault_closes : (requested : Bool) (fault : Fault) → true ≡ closes_with requested (fault_response (Keeper fault))
 unfolding fault_response
-fault_closes asked faults.Memory = or_true asked
-fault_closes asked faults.Device = or_true asked
-fault_closes asked faults.Damaged = or_true asked
-fault_closes asked faults.Reopen = or_true asked
+fault_closes requested faults.Memory = or_true requested
+fault_closes requested faults.Device = or_true requested
+fault_closes requested faults.Damaged = or_true requested
+fault_closes requested faults.Reopen = or_true requested
 
 -- an answer, with its bytes and whether the connection closes after it
 pub sent_of : (request : RequestValue) (p : ResponseValue) (text : Text) (closing : Bool) → closing ≡ closes_with request.closes p
@@ -42,8 +42,8 @@ pub fault_sent : (request : RequestValue) (fault : Fault) (text : Text) → text
     → sent_so text true ≡ sent_as request (fault_response (Keeper fault))
 fault_sent request fault text is = sent_of request (fault_response (Keeper fault)) text true (fault_closes request.closes fault) is
 
-pub as_asked_is_no_failure : as_asked ≡ device_failed → ⊥
-as_asked_is_no_failure e = cc
+pub as_requested_is_no_failure : as_requested ≡ device_failed → ⊥
+as_requested_is_no_failure e = cc
 
 pub no_memory_is_no_failure : no_memory ≡ device_failed → ⊥
 no_memory_is_no_failure e = cc
@@ -57,18 +57,18 @@ is_shut cause why e = subst (λ (o : Option Cause). IsSome o) (sym e) refl
 -- ---- the response with its head
 
 module _ {K : Type 0} (model : Model K) (root : Text) (request : RequestValue) (old new : K) where
-  -- what is asked for is that of the request
-  same_ask : {A : Type 0} (at : Text) (ask : AskValue) (Is : A → ResponseValue → Type 0) (result : Result A Fault) → at ≡ root → ask ≡ request.ask
-      → Responds model at ask Is old new result → Responds model root request.ask Is old new result
-  same_ask at ask Is result roots asks says =
-      subst (λ (a : AskValue). Responds model root a Is old new result) asks (subst (λ (r : Text). Responds model r ask Is old new result) roots says)
+  -- what is wanted is what the request wants
+  same_operation : {A : Type 0} (at : Text) (operation : OperationValue) (Is : A → ResponseValue → Type 0) (result : Result A Fault) → at ≡ root → operation ≡ request.operation
+      → Responds model at operation Is old new result → Responds model root request.operation Is old new result
+  same_operation at operation Is result roots has_request says =
+      subst (λ (a : OperationValue). Responds model root a Is old new result) has_request (subst (λ (r : Text). Responds model r operation Is old new result) roots says)
 
-  pub response_sent : (at : Text) (ask : AskValue) (response : Response) (r : Answer × Bool) → at ≡ root → ask ≡ request.ask
-      → Responds model at ask IsResponse old new (Ok response)
+  pub response_sent : (at : Text) (operation : OperationValue) (response : Response) (r : Answer × Bool) → at ≡ root → operation ≡ request.operation
+      → Responds model at operation IsResponse old new (Ok response)
       → r.1 ≡ closes_with request.closes (response_value response) → answer_text r.0 ≡ response_text r.1 request.bare (response_value response)
       → Sends model root request old new (Ok r)
-  response_sent at ask response r roots asks says closes text =
-      let it = same_ask at ask IsResponse (Ok response) roots asks says in
+  response_sent at operation response r roots has_request says closes text =
+      let it = same_operation at operation IsResponse (Ok response) roots has_request says in
       let sent : sent_so (answer_text r.0) r.1 ≡ sent_as request (response_value response) = sent_of request (response_value response) (answer_text r.0) r.1 closes text in
       record {
         calls = it.calls;
@@ -85,21 +85,21 @@ module _ {K : Type 0} (model : Model K) (root : Text) (request : RequestValue) (
       }
 
   -- a fault that is still to be answered
-  pub fault_unsent : (at : Text) (ask : AskValue) (fault : Fault) → at ≡ root → ask ≡ request.ask → Responds model at ask IsResponse old new (Err fault)
+  pub fault_unsent : (at : Text) (operation : OperationValue) (fault : Fault) → at ≡ root → operation ≡ request.operation → Responds model at operation IsResponse old new (Err fault)
       → Sends model root request old new (Err fault)
-  fault_unsent at ask fault roots asks says =
-      let it = same_ask at ask IsResponse (Err fault) roots asks says in
+  fault_unsent at operation fault roots has_request says =
+      let it = same_operation at operation IsResponse (Err fault) roots has_request says in
       record { calls = it.calls; in_state = it.in_state; shut = it.shut; any = it.any; to_batch = it.to_batch }
 
   -- ---- the answer by the keeper's condition
 
-  ok_batch : (r : Answer × Bool) → Sends model root request old new (Ok r) → TellsBatch model request (sent_so (answer_text r.0) r.1) old new
+  ok_batch : (r : Answer × Bool) → Sends model root request old new (Ok r) → AnswersBatch model request (sent_so (answer_text r.0) r.1) old new
   ok_batch r says b e =
       let (reply, applied, sent) = says.to_batch b e in
       by_reply reply applied sent
 
   module _ (fault : Fault) (text : Text) (is : text ≡ response_text true request.bare (fault_response (Keeper fault))) where
-    err_batch : Sends model root request old new (Err fault) → TellsBatch model request (sent_so text true) old new
+    err_batch : Sends model root request old new (Err fault) → AnswersBatch model request (sent_so text true) old new
     err_batch says b e =
         let sent = fault_sent request fault text is in
         elim (says.to_batch b e) [
@@ -108,90 +108,90 @@ module _ {K : Type 0} (model : Model K) (root : Text) (request : RequestValue) (
         ]
 
     -- a fault of a keeper of which nothing is known
-    fault_shown : (asks_state request.ask ≡ true) × IsSome (model.cause new) → Sends model root request old new (Err fault)
-        → AnswersAsk model root unknown request (sent_so text true) old new
+    fault_shown : (needs_state request.operation ≡ true) × IsSome (model.cause new) → Sends model root request old new (Err fault)
+        → AnswersOperation model root unknown request (sent_so text true) old new
     fault_shown any says = (
       of_keeper (fault_response (Keeper fault)),
       record {
         can = any.0;
         sent_is = fault_sent request fault text is;
-        standing = tt;
+        condition = tt;
         leaves = tt;
         batch_answered = err_batch says;
         device = λ e. absurd (of_keeper_is_no_failure (fault_response (Keeper fault)) e);
-        shuts = λ asks e. any.1;
+        shuts = λ has_request e. any.1;
       },
     )
 
-  ok_shown : (b : Bool) (r : Answer × Bool) → asks_state request.ask ≡ b → Sends model root request old new (Ok r)
-      → AnswersAsk model root unknown request (sent_so (answer_text r.0) r.1) old new
+  ok_shown : (b : Bool) (r : Answer × Bool) → needs_state request.operation ≡ b → Sends model root request old new (Ok r)
+      → AnswersOperation model root unknown request (sent_so (answer_text r.0) r.1) old new
   ok_shown false r plain says = (
-    as_asked,
+    as_requested,
     record {
       can = plain;
       sent_is = says.any.2 ∙ ap (sent_as request) (says.any.1.0 plain);
-      standing = tt;
+      condition = tt;
       leaves = tt;
       batch_answered = ok_batch r says;
-      device = λ e. absurd (as_asked_is_no_failure e);
-      shuts = λ asks e. absurd (let bad : false ≡ true = sym plain ∙ asks in cc);
+      device = λ e. absurd (as_requested_is_no_failure e);
+      shuts = λ has_request e. absurd (let bad : false ≡ true = sym plain ∙ has_request in cc);
     },
   )
-  ok_shown true r asking says = (
+  ok_shown true r requesting says = (
     of_keeper says.any.0,
     record {
-      can = asking;
+      can = requesting;
       sent_is = says.any.2;
-      standing = tt;
+      condition = tt;
       leaves = tt;
       batch_answered = ok_batch r says;
       device = λ e. absurd (of_keeper_is_no_failure says.any.0 e);
-      shuts = λ asks e. absurd (says.any.1.1 asks e);
+      shuts = λ has_request e. absurd (says.any.1.1 has_request e);
     },
   )
 
-  ok_answers : (x : Standing) (r : Answer × Bool) → Sends model root request old new (Ok r) → model.is_clean new → StandsSo model old x
-      → AnswersAsk model root x request (sent_so (answer_text r.0) r.1) old new
+  ok_answers : (x : Condition) (r : Answer × Bool) → Sends model root request old new (Ok r) → model.is_clean new → IsInCondition model old x
+      → AnswersOperation model root x request (sent_so (answer_text r.0) r.1) old new
   ok_answers (of_state s) r says clean h =
       let t = says.in_state clean s h in (
-        as_asked,
+        as_requested,
         record {
           can = tt;
           sent_is = t.0;
-          standing = t.1;
+          condition = t.1;
           leaves = tt;
           batch_answered = ok_batch r says;
-          device = λ e. absurd (as_asked_is_no_failure e);
-          shuts = λ asks e. absurd (told_well root s request.ask asks e);
+          device = λ e. absurd (as_requested_is_no_failure e);
+          shuts = λ has_request e. absurd (never_500 root s request.operation has_request e);
         },
       )
   ok_answers (shut why) r says clean h =
       let t = says.shut why h in (
-        as_asked,
+        as_requested,
         record {
           can = tt;
           sent_is = t.0;
-          standing = t.1;
+          condition = t.1;
           leaves = t.2;
           batch_answered = ok_batch r says;
-          device = λ e. absurd (as_asked_is_no_failure e);
-          shuts = λ asks e. is_shut (model.cause new) why t.1;
+          device = λ e. absurd (as_requested_is_no_failure e);
+          shuts = λ has_request e. is_shut (model.cause new) why t.1;
         },
       )
-  ok_answers unknown r says clean h = ok_shown (asks_state request.ask) r refl says
+  ok_answers unknown r says clean h = ok_shown (needs_state request.operation) r refl says
 
-  err_answers : (x : Standing) (fault : Fault) (text : Text) → Sends model root request old new (Err fault) → model.is_clean new → StandsSo model old x
-      → text ≡ response_text true request.bare (fault_response (Keeper fault)) → AnswersAsk model root x request (sent_so text true) old new
+  err_answers : (x : Condition) (fault : Fault) (text : Text) → Sends model root request old new (Err fault) → model.is_clean new → IsInCondition model old x
+      → text ≡ response_text true request.bare (fault_response (Keeper fault)) → AnswersOperation model root x request (sent_so text true) old new
   err_answers (of_state s) faults.Memory text says clean h is = (
     no_memory,
     record {
       can = tt;
       sent_is = fault_sent request faults.Memory text is;
-      standing = says.in_state clean s h;
+      condition = says.in_state clean s h;
       leaves = tt;
       batch_answered = err_batch faults.Memory text is says;
       device = λ e. absurd (no_memory_is_no_failure e);
-      shuts = λ asks e. absurd (starved_well e);
+      shuts = λ has_request e. absurd (starved_well e);
     },
   )
   err_answers (of_state s) faults.Device text says clean h is =
@@ -200,11 +200,11 @@ module _ {K : Type 0} (model : Model K) (root : Text) (request : RequestValue) (
         record {
           can = t.0;
           sent_is = fault_sent request faults.Device text is;
-          standing = t.1;
+          condition = t.1;
           leaves = t.3;
           batch_answered = err_batch faults.Device text is says;
           device = λ e. t.2;
-          shuts = λ asks e. is_shut (model.cause new) causes.Device t.1;
+          shuts = λ has_request e. is_shut (model.cause new) causes.Device t.1;
         },
       )
   err_answers (of_state s) faults.Damaged text says clean h is = absurd (says.in_state clean s h)
@@ -215,26 +215,26 @@ module _ {K : Type 0} (model : Model K) (root : Text) (request : RequestValue) (
         record {
           can = tt;
           sent_is = fault_sent request faults.Memory text is;
-          standing = t.1;
+          condition = t.1;
           leaves = t.2;
           batch_answered = err_batch faults.Memory text is says;
           device = λ e. absurd (no_memory_is_no_failure e);
-          shuts = λ asks e. absurd (starved_well e);
+          shuts = λ has_request e. absurd (starved_well e);
         },
       )
   err_answers (shut why) faults.Device text says clean h is = absurd (says.shut why h).0
   err_answers (shut why) faults.Damaged text says clean h is = absurd (says.shut why h).0
   err_answers (shut why) faults.Reopen text says clean h is =
       let t = says.shut why h in (
-        as_asked,
+        as_requested,
         record {
           can = tt;
           sent_is = fault_sent request faults.Reopen text is ∙ ap (sent_as request) (sym t.0);
-          standing = t.1;
+          condition = t.1;
           leaves = t.2;
           batch_answered = err_batch faults.Reopen text is says;
-          device = λ e. absurd (as_asked_is_no_failure e);
-          shuts = λ asks e. is_shut (model.cause new) why t.1;
+          device = λ e. absurd (as_requested_is_no_failure e);
+          shuts = λ has_request e. is_shut (model.cause new) why t.1;
         },
       )
   err_answers unknown faults.Memory text says clean h is = (
@@ -242,11 +242,11 @@ module _ {K : Type 0} (model : Model K) (root : Text) (request : RequestValue) (
     record {
       can = tt;
       sent_is = fault_sent request faults.Memory text is;
-      standing = tt;
+      condition = tt;
       leaves = tt;
       batch_answered = err_batch faults.Memory text is says;
       device = λ e. absurd (no_memory_is_no_failure e);
-      shuts = λ asks e. absurd (starved_well e);
+      shuts = λ has_request e. absurd (starved_well e);
     },
   )
   err_answers unknown faults.Device text says clean h is = fault_shown faults.Device text is says.any says

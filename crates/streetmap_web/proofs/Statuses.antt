@@ -10,9 +10,9 @@ use Rattle.streetmap_ledger.specs.Summaries.{SummaryValue, summary_in}
 use Rattle.streetmap_ledger.specs.declared.reply.Reply.{Reply}
 use Rattle.streetmap_ledger.specs.declared.reply.Reply.TheVariants.{Accepted, Repeated, Refused}
 use Rattle.streetmap_ledger.specs.declared.reply.Fault.TheVariants as faults
-use Rattle.streetmap_routes.specs.Ask.{AskValue, faulty, landing_page, api_text, conformance_classes, all_collections, one_collection, page, feature, batch}
+use Rattle.streetmap_routes.specs.Operations.{OperationValue, faulty, landing_page, api_text, conformance_classes, all_collections, one_collection, page, feature, batch}
 use Rattle.streetmap_bodies.specs.declared.request_fault.RequestFault.TheVariants.{Keeper}
-use Rattle.streetmap_web.specs.Response.{fault_response, found_page, found_feature, found_collection, replied, response_in, asks_state, not_found}
+use Rattle.streetmap_web.specs.Response.{fault_response, found_page, found_feature, found_collection, replied, response_in, needs_state, not_found}
 
 pub starved_well : (fault_response (Keeper faults.Memory)).status ≡ 500 → ⊥
 unfolding fault_response
@@ -39,14 +39,14 @@ reply_well key (Accepted counts serial) e = absurd (omega (arith, e))
 reply_well key (Repeated counts serial) e = absurd (omega (arith, e))
 reply_well key (Refused refusal place) e = absurd (omega (arith, e))
 
--- what a state answers to what asks it
-pub told_well : (root : Text) (s : State) (ask : AskValue) → asks_state ask ≡ true → (response_in root s ask).status ≡ 500 → ⊥
-told_well root s (faulty fault) asks e = absurd (let bad : false ≡ true = asks in cc)
-told_well root s landing_page asks e = absurd (let bad : false ≡ true = asks in cc)
-told_well root s api_text asks e = absurd (let bad : false ≡ true = asks in cc)
-told_well root s conformance_classes asks e = absurd (let bad : false ≡ true = asks in cc)
-told_well root s all_collections asks e = absurd (omega (arith, e))
-told_well root s (one_collection name) asks e = collection_well root (summary_in s name) e
-told_well root s (page name q) asks e = page_well root name q (page_in s name q) e
-told_well root s (feature name id) asks e = feature_well root name (feature_in s name id) e
-told_well root s (batch b) asks e = reply_well b.key (act s b).reply e
+-- what a state answers to a request that needs it
+pub never_500 : (root : Text) (s : State) (operation : OperationValue) → needs_state operation ≡ true → (response_in root s operation).status ≡ 500 → ⊥
+never_500 root s (faulty fault) has_request e = absurd (let bad : false ≡ true = has_request in cc)
+never_500 root s landing_page has_request e = absurd (let bad : false ≡ true = has_request in cc)
+never_500 root s api_text has_request e = absurd (let bad : false ≡ true = has_request in cc)
+never_500 root s conformance_classes has_request e = absurd (let bad : false ≡ true = has_request in cc)
+never_500 root s all_collections has_request e = absurd (omega (arith, e))
+never_500 root s (one_collection name) has_request e = collection_well root (summary_in s name) e
+never_500 root s (page name q) has_request e = page_well root name q (page_in s name q) e
+never_500 root s (feature name id) has_request e = feature_well root name (feature_in s name id) e
+never_500 root s (batch b) has_request e = reply_well b.key (act s b).reply e

@@ -12,12 +12,13 @@ use Rattle.streetmap_ledger.specs.declared.reply.Cause.TheVariants as causes
 use Rattle.streetmap_ledger.specs.declared.reply.Fault.{Fault}
 use Rattle.streetmap_ledger.specs.declared.reply.Fault.TheVariants as faults
 use Rattle.streetmap_ledger.specs.declared.reply.Reply.{Reply}
-use Rattle.streetmap_routes.specs.Ask.{AskValue, batch}
+use Rattle.streetmap_routes.specs.Operations.{OperationValue, batch}
 use Rattle.streetmap_web.specs.Response.{ResponseValue, response_in, response_shut, state_in}
-use Rattle.streetmap_web.specs.Response.{asks_state, fault_response, response_text}
+use Rattle.streetmap_web.specs.Response.{needs_state, fault_response, response_text}
 use Rattle.streetmap_web.specs.Response.{replied, RequestValue, AnswerSent, sent_as, sent_so}
-use Rattle.streetmap_web.specs.Standing.{Standing, RequestOutcome, device_failed, answer_by, after}
-use Rattle.streetmap_web.specs.Standing.{CanBe, Leaves, ByCalls, StandsSo}
+use Rattle.streetmap_web.specs.Conditions.{Condition, RequestOutcome, device_failed, answer_by}
+use Rattle.streetmap_web.specs.Conditions.{after}
+use Rattle.streetmap_web.specs.Conditions.{CanBe, Leaves, ByCalls, IsInCondition}
 use Rattle.streetmap_http.specs.declared.fault.FramingFault.{FramingFault}
 use Rattle.streetmap_bodies.specs.declared.request_fault.RequestFault.{RequestFault}
 use Rattle.streetmap_bodies.specs.declared.request_fault.RequestFault.TheVariants.{Keeper, Framing}
@@ -48,55 +49,57 @@ IsSentFor request r p = sent_so (answer_text r.0) r.1 ≡ sent_as request p
 
 -- a fault of a keeper that represented a state: memory ran out and it still does; or the store
 -- failed and shut it, and a crash leaves the state before the request or the one after it
-abbrev pub FaultsIn : {K : Type 0} → Model K → State → AskValue → (old new : K) → Fault → Type 0
-FaultsIn model s ask old new faults.Memory = model.represents new s
-FaultsIn model s ask old new faults.Device = (asks_state ask ≡ true)
+abbrev pub FaultsIn : {K : Type 0} → Model K → State → OperationValue → (old new : K) → Fault
+    → Type 0
+FaultsIn model s operation old new faults.Memory = model.represents new s
+FaultsIn model s operation old new faults.Device = (needs_state operation ≡ true)
     × (model.cause new ≡ Some causes.Device) × model.fails old new
-    × LeavesEither (model.may_leave new) (Some s) (Some (state_in s ask))
-FaultsIn model s ask old new faults.Damaged = ⊥
-FaultsIn model s ask old new faults.Reopen = ⊥
+    × LeavesEither (model.may_leave new) (Some s) (Some (state_in s operation))
+FaultsIn model s operation old new faults.Damaged = ⊥
+FaultsIn model s operation old new faults.Reopen = ⊥
 
 -- of a keeper that represented a state: the response of the state, or the fault that is to be
 -- answered
-abbrev pub RespondsIn : {K A : Type 0} → Model K → Text → State → AskValue
+abbrev pub RespondsIn : {K A : Type 0} → Model K → Text → State → OperationValue
     → (A → ResponseValue → Type 0) → (old new : K) → Result A Fault → Type 0
-RespondsIn model root s ask Is old new (Ok r) =
-    Is r (response_in root s ask) × model.represents new (state_in s ask)
-RespondsIn model root s ask Is old new (Err fault) = FaultsIn model s ask old new fault
+RespondsIn model root s operation Is old new (Ok r) =
+    Is r (response_in root s operation) × model.represents new (state_in s operation)
+RespondsIn model root s operation Is old new (Err fault) = FaultsIn model s operation old new fault
 
 -- a fault with a shut keeper: memory ran out, or it is the response
-abbrev pub FaultsShut : Text → AskValue → Fault → Type 0
-FaultsShut root ask faults.Memory = ⊤
-FaultsShut root ask faults.Device = ⊥
-FaultsShut root ask faults.Damaged = ⊥
-FaultsShut root ask faults.Reopen = response_shut root ask ≡ fault_response (Keeper faults.Reopen)
+abbrev pub FaultsShut : Text → OperationValue → Fault → Type 0
+FaultsShut root operation faults.Memory = ⊤
+FaultsShut root operation faults.Device = ⊥
+FaultsShut root operation faults.Damaged = ⊥
+FaultsShut root operation faults.Reopen = response_shut root operation
+    ≡ fault_response (Keeper faults.Reopen)
 
 -- the same with a shut keeper
-abbrev pub RespondsShut : {A : Type 0} → Text → AskValue → (A → ResponseValue → Type 0)
+abbrev pub RespondsShut : {A : Type 0} → Text → OperationValue → (A → ResponseValue → Type 0)
     → Result A Fault → Type 0
-RespondsShut root ask Is (Ok r) = Is r (response_shut root ask)
-RespondsShut root ask Is (Err fault) = FaultsShut root ask fault
+RespondsShut root operation Is (Ok r) = Is r (response_shut root operation)
+RespondsShut root operation Is (Err fault) = FaultsShut root operation fault
 
 -- a response if nothing is known of the keeper: a request that needs no state is answered as
 -- always, and one that needs it is not answered with status 500
-abbrev pub IsShown : Text → AskValue → ResponseValue → Type 0
-IsShown root ask shown =
-    (asks_state ask ≡ false → shown ≡ response_shut root ask)
-    × (asks_state ask ≡ true → shown.status ≢ 500)
+abbrev pub IsShown : Text → OperationValue → ResponseValue → Type 0
+IsShown root operation shown =
+    (needs_state operation ≡ false → shown ≡ response_shut root operation)
+    × (needs_state operation ≡ true → shown.status ≢ 500)
 
 -- a fault: memory ran out, or the request needs the state and the keeper is shut
-abbrev pub FaultsAny : AskValue → Fault → Option Cause → Type 0
-FaultsAny ask faults.Memory cause = ⊤
-FaultsAny ask faults.Device cause = (asks_state ask ≡ true) × IsSome cause
-FaultsAny ask faults.Damaged cause = (asks_state ask ≡ true) × IsSome cause
-FaultsAny ask faults.Reopen cause = (asks_state ask ≡ true) × IsSome cause
+abbrev pub FaultsAny : OperationValue → Fault → Option Cause → Type 0
+FaultsAny operation faults.Memory cause = ⊤
+FaultsAny operation faults.Device cause = (needs_state operation ≡ true) × IsSome cause
+FaultsAny operation faults.Damaged cause = (needs_state operation ≡ true) × IsSome cause
+FaultsAny operation faults.Reopen cause = (needs_state operation ≡ true) × IsSome cause
 
 -- the same with a keeper of which nothing is known
-abbrev pub RespondsAny : {A : Type 0} → Text → AskValue → (A → ResponseValue → Type 0)
+abbrev pub RespondsAny : {A : Type 0} → Text → OperationValue → (A → ResponseValue → Type 0)
     → Result A Fault → Option Cause → Type 0
-RespondsAny root ask Is (Ok r) cause =
-    (shown : ResponseValue) × IsShown root ask shown × Is r shown
-RespondsAny root ask Is (Err fault) cause = FaultsAny ask fault cause
+RespondsAny root operation Is (Ok r) cause =
+    (shown : ResponseValue) × IsShown root operation shown × Is r shown
+RespondsAny root operation Is (Err fault) cause = FaultsAny operation fault cause
 
 -- a batch by what the keeper returned: its reply is the response, and its fault is to be answered;
 -- `uncalled` says that the keeper was never called, and then memory ran out
@@ -110,22 +113,22 @@ RespondsToBatch key Is (Err fault) applies uncalled =
 -- A request was responded to between two keepers, or this fault is to be answered: by the condition
 -- of the first, by the result of `apply` if it is a batch, and over a shut keeper with what a crash
 -- could leave before. `Is` says which value the result has.
-pub record Responds {K A : Type 0} (model : Model K) (root : Text) (ask : AskValue)
+pub record Responds {K A : Type 0} (model : Model K) (root : Text) (operation : OperationValue)
     (Is : A → ResponseValue → Type 0) (old new : K) (result : Result A Fault) : Type 0 where
   pub calls : ByCalls model old new
   pub in_state : model.is_clean new → (s : State) → model.represents old s
-      → RespondsIn model root s ask Is old new result
-  pub shut : (why : Cause) → model.cause old ≡ Some why → RespondsShut root ask Is result
+      → RespondsIn model root s operation Is old new result
+  pub shut : (why : Cause) → model.cause old ≡ Some why → RespondsShut root operation Is result
       × (model.cause new ≡ Some why) × LeavesSame (model.may_leave old) (model.may_leave new)
-  pub any : RespondsAny root ask Is result (model.cause new)
-  pub to_batch : (b : BatchValue) → ask ≡ batch b
+  pub any : RespondsAny root operation Is result (model.cause new)
+  pub to_batch : (b : BatchValue) → operation ≡ batch b
       → RespondsToBatch b.key Is result (λ r. model.applies old b r new) (new ≡ old)
 
 -- the same of a request whose answer has its head
 abbrev pub Sends : {K : Type 0} → Model K → Text → RequestValue → (old new : K)
     → Result (Answer × Bool) Fault → Type 0
 Sends model root request old new result =
-    Responds model root request.ask (IsSentFor request) old new result
+    Responds model root request.operation (IsSentFor request) old new result
 
 -- ---- batches
 
@@ -143,11 +146,11 @@ pub data BatchAnswers (key : Text) (request : RequestValue) (sent : AnswerSent)
 
 -- if the request is a batch: it is answered as the first keeper answered it, and the second is the
 -- keeper after that; or the keeper was never called, is as it was, and memory ran out
-abbrev pub TellsBatch :
+abbrev pub AnswersBatch :
     {K : Type 0} (model : Model K) (request : RequestValue) (sent : AnswerSent) (old new : K)
     → Type 0
-TellsBatch model request sent old new =
-    (b : BatchValue) → request.ask ≡ batch b
+AnswersBatch model request sent old new =
+    (b : BatchValue) → request.operation ≡ batch b
     → BatchAnswers b.key request sent (λ r. model.applies old b r new) (new ≡ old)
 
 -- ---- a request
@@ -157,24 +160,25 @@ TellsBatch model request sent old new =
 -- `Leaves` allows. A batch was answered by the result of `apply` between them, or the keeper was
 -- never called and is as it was. If the answer is that the device failed, the store failed; and if
 -- a request that needs the state is answered with status 500, the second keeper is shut.
-pub record ComesOut {K : Type 0} (model : Model K) (root : Text) (x : Standing)
+pub record ComesOut {K : Type 0} (model : Model K) (root : Text) (x : Condition)
     (request : RequestValue) (outcome : RequestOutcome) (sent : AnswerSent) (old new : K)
     : Type 0 where
-  pub can : CanBe x request.ask outcome
-  pub sent_is : sent ≡ sent_as request (answer_by root x request.ask outcome)
-  pub standing : StandsSo model new (after x request.ask outcome)
-  pub leaves : Leaves x request.ask outcome (model.may_leave old) (model.may_leave new)
-  pub batch_answered : TellsBatch model request sent old new
+  pub can : CanBe x request.operation outcome
+  pub sent_is : sent ≡ sent_as request (answer_by root x request.operation outcome)
+  pub condition : IsInCondition model new (after x request.operation outcome)
+  pub leaves : Leaves x request.operation outcome (model.may_leave old) (model.may_leave new)
+  pub batch_answered : AnswersBatch model request sent old new
   pub device : outcome ≡ device_failed → model.fails old new
   pub shuts :
-      asks_state request.ask ≡ true → (answer_by root x request.ask outcome).status ≡ 500
+      needs_state request.operation ≡ true → (answer_by root x request.operation outcome).status ≡
+      500
       → IsSome (model.cause new)
 
 -- the request was answered, with some outcome
-abbrev pub AnswersAsk :
-    {K : Type 0} (model : Model K) (root : Text) (x : Standing) (request : RequestValue)
+abbrev pub AnswersOperation :
+    {K : Type 0} (model : Model K) (root : Text) (x : Condition) (request : RequestValue)
     (sent : AnswerSent) (old new : K) → Type 0
-AnswersAsk model root x request sent old new =
+AnswersOperation model root x request sent old new =
     (outcome : RequestOutcome) × ComesOut model root x request outcome sent old new
 
 -- a request was answered by the first keeper, this was sent for it, and the second is the keeper
@@ -182,9 +186,9 @@ AnswersAsk model root x request sent old new =
 pub record Answers {K : Type 0} (model : Model K) (root : Text) (request : RequestValue)
     (sent : AnswerSent) (old new : K) : Type 0 where
   pub calls : ByCalls model old new
-  pub answered : model.is_clean new → (x : Standing) → StandsSo model old x
-      → AnswersAsk model root x request sent old new
-  pub batch_answered : TellsBatch model request sent old new
+  pub answered : model.is_clean new → (x : Condition) → IsInCondition model old x
+      → AnswersOperation model root x request sent old new
+  pub batch_answered : AnswersBatch model request sent old new
 
 -- ---- broken rules
 

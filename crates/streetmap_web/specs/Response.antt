@@ -19,9 +19,10 @@ use Rattle.streetmap_ledger.specs.Summaries.{SummaryValue, summary_in, summaries
 use Rattle.streetmap_ledger.specs.declared.reply.Reply.{Reply}
 use Rattle.streetmap_ledger.specs.declared.reply.Reply.TheVariants.{Accepted, Repeated, Refused}
 use Rattle.streetmap_ledger.specs.declared.reply.Fault.TheVariants.{Reopen}
-use Rattle.streetmap_routes.specs.Ask.{AskValue, faulty, landing_page, api_text}
-use Rattle.streetmap_routes.specs.Ask.{conformance_classes, all_collections, one_collection, page}
-use Rattle.streetmap_routes.specs.Ask.{feature, batch, ask_of}
+use Rattle.streetmap_routes.specs.Operations.{OperationValue, faulty, landing_page, api_text}
+use Rattle.streetmap_routes.specs.Operations.{conformance_classes, all_collections, one_collection}
+use Rattle.streetmap_routes.specs.Operations.{page}
+use Rattle.streetmap_routes.specs.Operations.{feature, batch, operation_of}
 use Rattle.streetmap_bodies.specs.Bodies.{landing_data, api_document, conformance_data}
 use Rattle.streetmap_bodies.specs.Bodies.{collections_data, collection_data, page_data}
 use Rattle.streetmap_bodies.specs.Bodies.{linked_feature_data}
@@ -87,7 +88,7 @@ replied key reply = record {
 }
 
 -- the answer in a state; root is the base of links without its last slash
-abbrev pub response_in : Text → State → AskValue → ResponseValue
+abbrev pub response_in : Text → State → OperationValue → ResponseValue
 response_in root s (faulty fault) = fault_response fault
 response_in root s landing_page = found Json (compact_text (landing_data root))
 response_in root s api_text = found Html api_document
@@ -101,7 +102,7 @@ response_in root s (batch b) = replied b.key (act s b).reply
 
 -- the answer of a shut keeper: as always if the request needs no state, and else that the keeper
 -- must be opened again
-abbrev pub response_shut : Text → AskValue → ResponseValue
+abbrev pub response_shut : Text → OperationValue → ResponseValue
 response_shut root (faulty fault) = fault_response fault
 response_shut root landing_page = found Json (compact_text (landing_data root))
 response_shut root api_text = found Html api_document
@@ -113,25 +114,25 @@ response_shut root (feature name id) = fault_response (faults.Keeper Reopen)
 response_shut root (batch b) = fault_response (faults.Keeper Reopen)
 
 -- whether the request needs the state
-abbrev pub asks_state : AskValue → Bool
-asks_state (faulty fault) = false
-asks_state landing_page = false
-asks_state api_text = false
-asks_state conformance_classes = false
-asks_state all_collections = true
-asks_state (one_collection name) = true
-asks_state (page name q) = true
-asks_state (feature name id) = true
-asks_state (batch b) = true
+abbrev pub needs_state : OperationValue → Bool
+needs_state (faulty fault) = false
+needs_state landing_page = false
+needs_state api_text = false
+needs_state conformance_classes = false
+needs_state all_collections = true
+needs_state (one_collection name) = true
+needs_state (page name q) = true
+needs_state (feature name id) = true
+needs_state (batch b) = true
 
 -- the state afterwards: that after the batch, or else the same
-abbrev pub state_in : State → AskValue → State
+abbrev pub state_in : State → OperationValue → State
 state_in s (batch b) = (act s b).state
 state_in s _ = s
 
--- whether the connection closes after an answer; asked says whether the request closes it
+-- whether the connection closes after an answer; the flag says whether the request closes it
 abbrev pub closes_with : Bool → ResponseValue → Bool
-closes_with asked p = asked || (p.status == 500 || p.status == 503)
+closes_with requested p = requested || (p.status == 500 || p.status == 503)
 
 -- the head of an answer
 abbrev pub head_of : Bool → ResponseValue → AnswerHead
@@ -153,17 +154,17 @@ response_text closes bare p = head_text (head_of closes p) ++ body_of bare p.bod
 
 -- ---- what is sent for a request
 
--- a request: what it asks for, whether it asks to close the connection, and whether its answer has
+-- a request: what it wants, whether it wants the connection closed, and whether its answer has
 -- no body
 pub record RequestValue : Type 0 where
-  pub ask : AskValue
+  pub operation : OperationValue
   pub closes : Bool
   pub bare : Bool
 
 -- that of a head and a body
 abbrev pub request_of : HeadValue → Text → RequestValue
 request_of h body = record {
-  ask = ask_of h.method h.target body;
+  operation = operation_of h.method h.target body;
   closes = h.closes;
   bare = is_bare
       h.method;
@@ -172,7 +173,7 @@ request_of h body = record {
 -- one that breaks a rule of framing; the connection closes after its answer
 abbrev pub broken_request : Bool → FramingFault → RequestValue
 broken_request bare fault = record {
-  ask = faulty (faults.Framing fault);
+  operation = faulty (faults.Framing fault);
   closes = true;
   bare = bare;
 }

@@ -6,16 +6,16 @@ use Rattle.streetmap_http.specs.Head.{IsBlank}
 use Rattle.streetmap_http.specs.Streams.{IsUnfinished}
 use Rattle.streetmap_batch.specs.Text.{Text}
 use Rattle.streetmap_ledger.specs.Model.{Model}
-use Rattle.streetmap_web.specs.Standing.{Standing, StandsSo}
+use Rattle.streetmap_web.specs.Conditions.{Condition, IsInCondition}
 use Rattle.streetmap_web.specs.Exchanges.{HttpExchange, IsExchange, GoOn, closes, answer_bytes}
-use Rattle.streetmap_web.specs.Exchanges.{standing_after, standing_after_all, after_batches}
+use Rattle.streetmap_web.specs.Exchanges.{condition_after, condition_after_all, after_batches}
 use Rattle.streetmap_web.specs.Exchanges.{all_requests, all_answers, batches_of}
-use Rattle.streetmap_web.specs.Coming.{ComesAll}
+use Rattle.streetmap_web.specs.Transitions.{ComesAll}
 use Rattle.streetmap_web.specs.Turns.{begun_in, end_of}
-use Rattle.streetmap_web.specs.declared.serving.End.{End}
-use Rattle.streetmap_web.specs.declared.serving.Turn.{Turn}
-use Rattle.streetmap_web.specs.declared.serving.Turn.TheVariants.{Open, Closed, Ended, Truncated}
-use Rattle.streetmap_web.specs.declared.serving.Turn.TheVariants.{ReadFailed, WriteFailed}
+use Rattle.streetmap_web.specs.declared.turns.End.{End}
+use Rattle.streetmap_web.specs.declared.turns.Turn.{Turn}
+use Rattle.streetmap_web.specs.declared.turns.Turn.TheVariants.{Open, Closed, Ended, Truncated}
+use Rattle.streetmap_web.specs.declared.turns.Turn.TheVariants.{ReadFailed, WriteFailed}
 
 -- what a reader has left and what a writer holds, before and after
 pub record Around : Type 0 where
@@ -35,20 +35,20 @@ around input_before input_after output_before output_after = record {
 
 -- a request was read and acted on: its bytes are off the reader, and the keeper is in the condition
 -- after it
-pub record Acted {K : Type 0} (model : Model K) (x : Standing) (e : HttpExchange) (a : Around)
+pub record Acted {K : Type 0} (model : Model K) (x : Condition) (e : HttpExchange) (a : Around)
     (new : K) : Type 0 where
   pub is : IsExchange x e
   pub read : Consumes a.input_before a.input_after e.bytes
-  pub stands : StandsSo model new (standing_after x e)
+  pub in_condition : IsInCondition model new (condition_after x e)
 
 -- no request was acted on, and nothing was written
-pub record AnswersNothing {K : Type 0} (model : Model K) (x : Standing) (a : Around) (new : K)
+pub record AnswersNothing {K : Type 0} (model : Model K) (x : Condition) (a : Around) (new : K)
     : Type 0 where
   pub written : Keeps a.output_before a.output_after
-  pub stands : StandsSo model new x
+  pub in_condition : IsInCondition model new x
 
 -- what a turn did
-abbrev pub TurnSays : {K : Type 0} → Model K → Turn → Text → Standing → Around → K → Type 0
+abbrev pub TurnSays : {K : Type 0} → Model K → Turn → Text → Condition → Around → K → Type 0
 TurnSays model Open root x a new = (e : HttpExchange) × Acted model x e a new
     × Appends a.output_before a.output_after (answer_bytes root x e) × (closes root x e ≡ false)
 TurnSays model Closed root x a new = (e : HttpExchange) × Acted model x e a new
@@ -66,7 +66,8 @@ TurnSays model ReadFailed root x a new = AnswersNothing model x a new
 
 -- the request that was answered in a turn, if one was
 abbrev pub last_of :
-    {K : Type 0} (model : Model K) (turn : Turn) (root : Text) (x : Standing) (a : Around) (new : K)
+    {K : Type 0} (model : Model K) (turn : Turn) (root : Text) (x : Condition) (a : Around) (new :
+    K)
     → TurnSays model turn root x a new → List HttpExchange
 last_of model Open root x a new says = says.0 ∷ []
 last_of model Closed root x a new says = says.0 ∷ []
@@ -76,7 +77,7 @@ last_of model Truncated root x a new says = []
 last_of model ReadFailed root x a new says = []
 
 -- what a turn did, and that its request led from the first keeper to the second
-abbrev pub TurnComes : {K : Type 0} → Model K → Turn → Text → Standing → Around → (old new : K)
+abbrev pub TurnComes : {K : Type 0} → Model K → Turn → Text → Condition → Around → (old new : K)
     → Type 0
 TurnComes model turn root x a old new =
     (says : TurnSays model turn root x a new)
@@ -86,7 +87,7 @@ TurnComes model turn root x a old new =
 -- them together led from the first keeper to the second. So for each request it is said what a
 -- crash may leave after it.
 pub record ServesExchanges {K : Type 0} (model : Model K) (root : Text) (end : End) (count : ℕ)
-    (x : Standing) (a : Around) (old new : K) : Type 0 where
+    (x : Condition) (a : Around) (old new : K) : Type 0 where
   pub exchanges : List HttpExchange
   pub turn : Turn
   pub middle : Option Text
@@ -94,9 +95,9 @@ pub record ServesExchanges {K : Type 0} (model : Model K) (root : Text) (end : E
   pub go_on : GoOn root x exchanges
   pub read : Consumes a.input_before middle (all_requests exchanges)
   pub answered : Appends a.output_before written (all_answers root x exchanges)
-  pub batches : standing_after_all x exchanges ≡ after_batches x (batches_of exchanges)
+  pub batches : condition_after_all x exchanges ≡ after_batches x (batches_of exchanges)
   pub ends :
-      TurnSays model turn root (standing_after_all x exchanges)
+      TurnSays model turn root (condition_after_all x exchanges)
       (record a { input_before = middle; output_before = written }) new
   pub end_is : end ≡ end_of turn
   pub closed : turn ≢ Open

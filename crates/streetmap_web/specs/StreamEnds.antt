@@ -4,9 +4,9 @@ use Rattle.std.specs.Io.KnownBytes.{Consumes, IsAtEnd}
 use Rattle.streetmap_http.specs.Head.{IsBlank}
 use Rattle.streetmap_http.specs.Streams.{IsUnfinished}
 use Rattle.streetmap_batch.specs.Text.{Text}
-use Rattle.streetmap_web.specs.declared.serving.End.{End}
-use Rattle.streetmap_web.specs.declared.serving.End.TheVariants.{Ended, Truncated}
-use Rattle.streetmap_web.specs.declared.serving.End.TheVariants.{ReadFailed, WriteFailed}
+use Rattle.streetmap_web.specs.declared.turns.End.{End}
+use Rattle.streetmap_web.specs.declared.turns.End.TheVariants.{Ended, Truncated}
+use Rattle.streetmap_web.specs.declared.turns.End.TheVariants.{ReadFailed, WriteFailed}
 
 -- the reader gave such bytes, and has no more
 abbrev pub EndsWith : (Text → Type 0) → (left now : Option Text) → Type 0

@@ -3,19 +3,19 @@ use Rattle.std.specs.Prelude.{◌≡◌, ℕ, ◌<◌, List, length, Bool, true,
 use Rattle.std.specs.Io.KnownBytes.{Consumes, IsAtEnd}
 use Rattle.streetmap_http.specs.declared.body.BodyEnd.{BodyEnd}
 use Rattle.streetmap_http.specs.declared.body.BodyEnd.TheVariants as bodies
-use Rattle.streetmap_http.specs.declared.sending.Sent.{Sent}
-use Rattle.streetmap_http.specs.declared.sending.Sent.TheVariants.{Whole, Part}
-use Rattle.streetmap_http.specs.Sending.{SentSays}
+use Rattle.streetmap_http.specs.declared.sender.Sent.{Sent}
+use Rattle.streetmap_http.specs.declared.sender.Sent.TheVariants.{Whole, Part}
+use Rattle.streetmap_http.specs.SentAnswers.{SentSays}
 use Rattle.streetmap_http.specs.declared.fault.FramingFault.{FramingFault}
 use Rattle.streetmap_ledger.specs.declared.reply.Fault.TheVariants.{Memory}
 use Rattle.streetmap_web.specs.Response.{fault_response, response_text}
 use Rattle.streetmap_bodies.specs.declared.request_fault.RequestFault.{RequestFault}
 use Rattle.streetmap_bodies.specs.declared.request_fault.RequestFault.TheVariants.{Framing, Keeper}
-use Rattle.streetmap_web.specs.declared.serving.Turn.{Turn}
-use Rattle.streetmap_web.specs.declared.serving.Turn.TheVariants.{Open, Closed, Ended, Truncated}
-use Rattle.streetmap_web.specs.declared.serving.Turn.TheVariants.{ReadFailed, WriteFailed}
-use Rattle.streetmap_web.specs.declared.serving.End.{End}
-use Rattle.streetmap_web.specs.declared.serving.End.TheVariants as ends
+use Rattle.streetmap_web.specs.declared.turns.Turn.{Turn}
+use Rattle.streetmap_web.specs.declared.turns.Turn.TheVariants.{Open, Closed, Ended, Truncated}
+use Rattle.streetmap_web.specs.declared.turns.Turn.TheVariants.{ReadFailed, WriteFailed}
+use Rattle.streetmap_web.specs.declared.turns.End.{End}
+use Rattle.streetmap_web.specs.declared.turns.End.TheVariants as ends
 
 -- the turn of an answer that was sent so
 abbrev pub turn_after : Sent → Bool → Turn

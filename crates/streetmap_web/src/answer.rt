@@ -119,10 +119,10 @@ fn try_answer<K: Keeper>(
     let Ok(room) = String::with_capacity(alloc, HEAD_ROOM) else {
         return Err(Fault::Memory);
     };
-    let Ok(ask) = base.ask(alloc, request.method, request.target, body) else {
+    let Ok(operation) = base.operation(alloc, request.method, request.target, body) else {
         return Err(Fault::Memory);
     };
-    match respond_to(alloc, keeper, base.root(), &ask) {
+    match respond_to(alloc, keeper, base.root(), &operation) {
         Ok(response) => {
             let closes = request.closes || closes(response.status);
             Ok((

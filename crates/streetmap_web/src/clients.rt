@@ -1,10 +1,10 @@
 //! Many clients over a listener.
 ghost use Rattle.std.specs.Prelude.{◌≡◌, ◌≤◌, length, IsErrOf, IsOk};
 ghost use Rattle.streetmap_routes.specs.BaseView.{root_of};
-ghost use Rattle.streetmap_web.specs.Standing.{Standing, StandsSo, ByCalls};
+ghost use Rattle.streetmap_web.specs.Conditions.{Condition, IsInCondition, ByCalls};
 ghost use Rattle.streetmap_connections.specs.Served.{ended_of, slots_of, LetsInUpTo};
-ghost use Rattle.streetmap_web.specs.ServingClients.{ServesClients, ServesInRow};
-ghost use Rattle.streetmap_web.specs.Watching.{IsOver};
+ghost use Rattle.streetmap_web.specs.ServedClients.{ServesClients, ServesInRow};
+ghost use Rattle.streetmap_web.specs.StoreWatch.{IsOver};
 
 use crate::keeper_service::KeeperService;
 use mio::net::TcpStream;
@@ -22,8 +22,8 @@ use streetmap_ledger::Keeper;
 ///
 /// # Errors
 ///
-/// `Net` if no client can be accepted while there is none, or sockets cannot be waited for, and
-/// `Memory` if there is no room for what is waited for.
+/// `Net` if no client can be accepted while none is served, or sockets cannot be waited for, and
+/// `Memory` if memory runs out for what is waited for.
 pub fn serve_clients<R: Net + Clock, K: Keeper, W: Write>(
     rt: &R,
     listener: &TcpListener,
@@ -34,8 +34,8 @@ pub fn serve_clients<R: Net + Clock, K: Keeper, W: Write>(
     // If the store was clean: one list of requests, answered one after the other, which is an
     // interleaving of the clients' own lists. The clients of a place were answered in turn, each to
     // its end before the next was answered at all.
-    ensures serves { K.model.is_clean service.new.keeper → (x : Standing) →
-        StandsSo K.model service.old.keeper x →
+    ensures serves { K.model.is_clean service.new.keeper → (x : Condition) →
+        IsInCondition K.model service.old.keeper x →
         ServesClients K.model (root_of service.old.base) x service.old.keeper service.new.keeper
         (slots_of clients.old) (slots_of clients.new) }
     // All else that the store has is kept.
@@ -56,7 +56,7 @@ pub fn serve_clients<R: Net + Clock, K: Keeper, W: Write>(
 ///
 /// # Errors
 ///
-/// As `serve_clients`, and `Memory` if there is no room for a client.
+/// As `serve_clients`, and `Memory` if memory runs out for a client.
 pub fn serve_count<R: Net + Clock, K: Keeper, W: Write>(
     rt: &R,
     listener: &TcpListener,
@@ -64,8 +64,8 @@ pub fn serve_count<R: Net + Clock, K: Keeper, W: Write>(
     service: &mut KeeperService<K, W>,
 ) -> Result<(), ServeFault>
     // If the store was clean: the requests of the clients, one client after the other.
-    ensures serves { K.model.is_clean service.new.keeper → (x : Standing) →
-        StandsSo K.model service.old.keeper x →
+    ensures serves { K.model.is_clean service.new.keeper → (x : Condition) →
+        IsInCondition K.model service.old.keeper x →
         ServesInRow K.model (root_of service.old.base) x service.old.keeper service.new.keeper
         count (IsOk result) }
     // All else that the store has is kept.

@@ -4,12 +4,12 @@ ghost use Rattle.streetmap_connections.specs.Cuts.{IfWhole, IfWaits, HasNone, Ha
 ghost use Rattle.streetmap_http.specs.Arrivals.{IsAnswered};
 ghost use Rattle.streetmap_routes.specs.BaseView.{root_of};
 ghost use Rattle.streetmap_web.specs.Response.{sent_so};
-ghost use Rattle.streetmap_web.specs.Answering.{AnswersOne};
-ghost use Rattle.streetmap_web.specs.Refusing.{IsFrontBare, IsRefusal};
-ghost use Rattle.streetmap_web.specs.Watching.{IsOver};
+ghost use Rattle.streetmap_web.specs.AnsweredRequests.{AnswersOne};
+ghost use Rattle.streetmap_web.specs.Refusals.{IsFrontBare, IsRefusal};
+ghost use Rattle.streetmap_web.specs.StoreWatch.{IsOver};
 
 use crate::answer::fixed;
-use crate::log::tell;
+use crate::log::log_request;
 use crate::requests::answer_request;
 use crate::watch::Watch;
 use httparse::spans::EMPTY_HEADER_SPAN;
@@ -20,8 +20,8 @@ use streetmap_http::{Arrival, FIELD_LIMIT, Framed, HeadScan, arrival_of, frame_o
 use streetmap_ledger::{Fault, Keeper};
 use streetmap_routes::Base;
 
-/// A keeper, the base of the links in its answers, the writer of a line for each answer, if there
-/// is one, and what is done once the keeper's store has failed.
+/// A keeper, the base of the links in its answers, the writer of a line for each answer, if any,
+/// and what is done once the keeper's store has failed.
 #[derive(Drop)]
 pub struct KeeperService<K, W> {
     pub alloc: Global,
@@ -45,7 +45,7 @@ fn cut_of(input: &[u8]) -> Cut
     }
 }
 
-/// Whether the answer to a request of which these bytes came has no body.
+/// Whether the answer to a request has no body, given the bytes received of it.
 fn is_front_bare(input: &[u8]) -> bool
     ensures { IsFrontBare input.now result }
 {
@@ -76,7 +76,7 @@ impl<K: Keeper, W: Write> Service for KeeperService<K, W> {
 
     fn answer(&mut self, request: &[u8]) -> (Answer, bool) {
         let (answer, closes) = answer_request(self.alloc, &mut self.keeper, &self.base, request);
-        tell(self.alloc, &mut self.log, request, &answer);
+        log_request(self.alloc, &mut self.log, request, &answer);
         self.watch.note(&answer);
         (answer, closes)
     }

@@ -8,13 +8,13 @@
 //! what a crash may leave after it, and of each batch that it was answered as the keeper answered
 //! it (`specs/Responds`, `ComesOut`).
 //!
-//! For an edge with many connections there are the two halves of a turn: `streetmap_http` says what
+//! An edge with many connections uses the two halves of a turn: `streetmap_http` says what
 //! received bytes hold of a request, and `answer_request` answers the bytes of one. `serve_clients`
 //! serves the clients of a listener in this way: many at once, or one after the other, as
 //! `serve_count` does.
 //!
 //! Modules, in the order of reading: `response`, `respond` (the answer in a state), `answer` (with
-//! its head), `requests` (the bytes of one), `serving` (a stream); `log`, `watch`, `keeper_service`
+//! its head), `requests` (the bytes of one), `turns` (a stream); `log`, `watch`, `keeper_service`
 //! (a request of a client), `clients`.
 #![tactic(auto)]
 
@@ -25,11 +25,11 @@ mod log;
 mod requests;
 mod respond;
 mod response;
-mod serving;
+mod turns;
 mod watch;
 
 pub use clients::{serve_clients, serve_count};
 pub use keeper_service::KeeperService;
 pub use requests::answer_request;
-pub use serving::{End, Served, serve};
+pub use turns::{End, Served, serve};
 pub use watch::Watch;

@@ -2,7 +2,7 @@
 ghost use Rattle.std.specs.Prelude.{◌≡◌, codes, if◌then◌else◌};
 ghost use Rattle.std.specs.Str.Lines.{strip_carriage_return};
 ghost use Rattle.streetmap_http.specs.Lines.{is_full as is_full_text};
-ghost use Rattle.streetmap_web.specs.Log.{is_told_byte, is_plain_text, request_line_of};
+ghost use Rattle.streetmap_web.specs.Log.{is_logged_byte, is_plain_text, request_line_of};
 
 use std::alloc::Global;
 use std::io::Write;
@@ -10,11 +10,11 @@ use std::str;
 use streetmap_connections::Answer;
 
 /// The most bytes of a request line that is logged.
-const MOST_TOLD: usize = 2_048;
+const MOST_LOGGED: usize = 2_048;
 
 /// Whether a byte can be logged between double quotes.
-fn is_told(byte: &u8) -> bool
-    ensures { result ≡ is_told_byte byte.now }
+fn is_logged(byte: &u8) -> bool
+    ensures { result ≡ is_logged_byte byte.now }
 {
     (b' '..=b'~').contains(byte) && *byte != b'"'
 }
@@ -51,7 +51,7 @@ fn request_line(request: &[u8]) -> &[u8]
 fn is_plain(line: &[u8]) -> bool
     ensures { result ≡ is_plain_text line.now }
 {
-    (1..=MOST_TOLD).contains(&line.len()) && line.iter().all(|byte| is_told(byte))
+    (1..=MOST_LOGGED).contains(&line.len()) && line.iter().all(|byte| is_logged(byte))
 }
 
 /// A request line, or `-` if it is empty, too long, or has bytes that are not logged.
@@ -72,19 +72,24 @@ fn status(head: &[u8]) -> &str {
     }
 }
 
-/// Writes a request and its answer as one line, if there is a log: the request line, the status and
+/// Writes a request and its answer as one line, if a log is kept: the request line, the status and
 /// the bytes of the body, as in the common log format (`"GET /collections HTTP/1.1" 200 1234`). A
 /// line that cannot be written is left out.
-pub(crate) fn tell<W: Write>(alloc: Global, log: &mut Option<W>, request: &[u8], answer: &Answer) {
+pub(crate) fn log_request<W: Write>(
+    alloc: Global,
+    log: &mut Option<W>,
+    request: &[u8],
+    answer: &Answer,
+) {
     let Some(log) = log else {
         return;
     };
-    let (asked, status, len) = (
+    let (requested, status, len) = (
         shown(request_line(request)),
         status(answer.head()),
         answer.body().len(),
     );
-    if let Ok(line) = format!(in alloc; "\"{asked}\" {status} {len}\n") {
+    if let Ok(line) = format!(in alloc; "\"{requested}\" {status} {len}\n") {
         let _ = log.write_all(line.as_bytes());
     }
 }

@@ -2,7 +2,7 @@
 ghost use Rattle.streetmap_http.specs.Arrivals.{IsAnswered};
 ghost use Rattle.streetmap_routes.specs.BaseView.{root_of};
 ghost use Rattle.streetmap_connections.specs.Answers.{answer_text};
-ghost use Rattle.streetmap_web.specs.Answering.{AnswersOne};
+ghost use Rattle.streetmap_web.specs.AnsweredRequests.{AnswersOne};
 ghost use Rattle.streetmap_web.specs.Response.{sent_so};
 
 use crate::answer::{answer_to, refused};

@@ -8,11 +8,11 @@ ghost use Rattle.streetmap_batch.specs.Text.{Text};
 ghost use Rattle.streetmap_batch.specs.BatchView.{batch_value};
 ghost use Rattle.streetmap_ledger.specs.PageView.{page_value};
 ghost use Rattle.streetmap_ledger.specs.SummaryView.{summary_value, summary_values};
-ghost use Rattle.streetmap_routes.specs.Ask as spec;
+ghost use Rattle.streetmap_routes.specs.Operations as spec;
 ghost use Rattle.streetmap_web.specs.Response as spec_response;
 ghost use Rattle.streetmap_web.specs.Response.{fault_response, found};
 ghost use Rattle.streetmap_bodies.specs.Bodies as spec_bodies;
-ghost use Rattle.streetmap_routes.specs.AskView.{ask_value};
+ghost use Rattle.streetmap_routes.specs.OperationView.{operation_value};
 ghost use Rattle.streetmap_web.specs.Responds.{response_value, IsResponse, Responds};
 ghost use Rattle.streetmap_http.specs.declared.answer_head.MediaType.TheVariants.{Json, GeoJson};
 ghost use Rattle.streetmap_http.specs.declared.answer_head.MediaType.TheVariants.{Html};
@@ -29,7 +29,7 @@ use streetmap_geojson::Feature;
 use streetmap_http::MediaType;
 use streetmap_ledger::{Fault, Keeper, Page, Reply, Summary};
 use streetmap_query::Query;
-use streetmap_routes::Ask;
+use streetmap_routes::Operation;
 
 /// The room that is allocated for the body of the answer to a batch before the batch is applied.
 /// With that of the head, 256 bytes, it is 1,024.
@@ -95,7 +95,7 @@ fn reply_status(reply: Reply) -> StatusCode
 }
 
 /// The answer to a batch that the keeper answered without a fault, in room that was allocated
-/// before: there is one whatever the reply is, and no memory is allocated for it.
+/// before: every reply has an answer, and no memory is allocated for it.
 fn replied(body: String, batch: &Batch, reply: Reply) -> Response
     requires room { 320 ≤ string_capacity body }
     requires blank { string_bytes body ≡ [] }
@@ -146,7 +146,7 @@ fn found_page(
     }
 }
 
-/// Looks a page up.
+/// Reads a page.
 fn respond_page<K: Keeper>(
     alloc: Global,
     keeper: &mut K,
@@ -182,7 +182,7 @@ fn found_feature(
     }
 }
 
-/// Looks a feature up.
+/// Reads a feature.
 fn respond_feature<K: Keeper>(
     alloc: Global,
     keeper: &mut K,
@@ -214,7 +214,7 @@ fn found_collection(
     }
 }
 
-/// Looks a collection up.
+/// Reads a collection.
 fn respond_collection<K: Keeper>(
     alloc: Global,
     keeper: &mut K,
@@ -243,7 +243,7 @@ fn found_collections(
     Ok(found(MediaType::Json, body))
 }
 
-/// Looks all collections up.
+/// Reads all collections.
 fn respond_collections<K: Keeper>(
     alloc: Global,
     keeper: &mut K,
@@ -297,22 +297,22 @@ pub(crate) fn respond_to<K: Keeper>(
     alloc: Global,
     keeper: &mut K,
     root: &str,
-    ask: &Ask,
+    operation: &Operation,
 ) -> Result<Response, Fault>
-    ensures { Responds K.model root.now (ask_value ask.now) IsResponse
+    ensures { Responds K.model root.now (operation_value operation.now) IsResponse
         keeper.old keeper.new result }
 {
-    match ask {
-        Ask::Faulty(fault) => or_starved(faulty(alloc, *fault)),
-        Ask::LandingPage => or_starved(found_landing(alloc, root)),
-        Ask::ApiText => or_starved(found_api(alloc)),
-        Ask::ConformanceClasses => or_starved(found_conformance(alloc)),
-        Ask::AllCollections => respond_collections(alloc, keeper, root),
-        Ask::OneCollection(name) => respond_collection(alloc, keeper, root, name.as_str()),
-        Ask::Page(name, query) => respond_page(alloc, keeper, root, name.as_str(), query),
-        Ask::Feature(name, id) => {
+    match operation {
+        Operation::Faulty(fault) => or_starved(faulty(alloc, *fault)),
+        Operation::LandingPage => or_starved(found_landing(alloc, root)),
+        Operation::ApiText => or_starved(found_api(alloc)),
+        Operation::ConformanceClasses => or_starved(found_conformance(alloc)),
+        Operation::AllCollections => respond_collections(alloc, keeper, root),
+        Operation::OneCollection(name) => respond_collection(alloc, keeper, root, name.as_str()),
+        Operation::Page(name, query) => respond_page(alloc, keeper, root, name.as_str(), query),
+        Operation::Feature(name, id) => {
             respond_feature(alloc, keeper, root, name.as_str(), id.as_str())
         }
-        Ask::Batch(batch) => respond_batch(alloc, keeper, batch),
+        Operation::Batch(batch) => respond_batch(alloc, keeper, batch),
     }
 }

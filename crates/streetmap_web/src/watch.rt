@@ -2,7 +2,7 @@
 ghost use Rattle.std.specs.Prelude.{◌≡◌, ◌||◌, true, false, bytes_eq};
 ghost use Rattle.std.specs.Option.{is_some};
 ghost use Rattle.streetmap_connections.specs.Answers.{head_bytes};
-ghost use Rattle.streetmap_web.specs.Watching.{IsOver, fault_head, reports_failure};
+ghost use Rattle.streetmap_web.specs.StoreWatch.{IsOver, fault_head, reports_failure};
 
 use crate::answer::fixed_head;
 use std::io::Write;

@@ -20,7 +20,7 @@ returns-clause-leaves g c clean s is =
     let new = c.follow_lines.new.keeper in
     let known = c.in-Ok.ensures in
     let same = remaining_is g.R.Read.remaining c.in-Ok.reader c.args.input known.inner known.empty known.capacity in
-    rw c.of_followed.ensures (hold_one_of model g.met.K.Durable.images_hold_states old new s (Applied s (g.R.Read.remaining c.args.input) (end_of_followed c.follow_lines.result)) is says.calls.spared clean
+    rw c.of_followed.ensures (hold_one_of model g.met.K.Durable.images_hold_states old new s (Applied s (g.R.Read.remaining c.args.input) (end_of_followed c.follow_lines.result)) is says.calls.preserved clean
     (λ t left. subst (λ (text : Option (List ℕ)). Applied s text (end_of_followed c.follow_lines.result) t) same
     (applied model old new s t (reader_remaining g.R.Read.remaining c.in-Ok.reader) _ left c.follow_lines.result (says.follows clean s is))))
 

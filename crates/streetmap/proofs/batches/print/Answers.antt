@@ -9,14 +9,14 @@ pub returns-in-Ok-write_batches-clause-leaves : goal.returns-in-Ok-write_batches
 returns-in-Ok-write_batches-clause-leaves g c clean s is =
     let model = g.K.Keeper.model in
     let reads = c.write_batches.ensures.reads in
-    hold_one_of model g.met.K.Durable.images_hold_states c.args.keeper.now c.write_batches.new.keeper s _ is reads.calls.spared clean
+    hold_one_of model g.met.K.Durable.images_hold_states c.args.keeper.now c.write_batches.new.keeper s _ is reads.calls.preserved clean
     (λ t left. stays_so model c.args.keeper.now c.write_batches.new.keeper s t _ (reads.stays clean s is) left)
 
 pub returns-clause-leaves : goal.returns-clause-leaves
 returns-clause-leaves g c clean s is =
     let model = g.K.Keeper.model in
     let reads = c.write_batches.ensures.reads in
-    hold_one_of model g.met.K.Durable.images_hold_states c.args.keeper.now c.write_batches.new.keeper s _ is reads.calls.spared clean
+    hold_one_of model g.met.K.Durable.images_hold_states c.args.keeper.now c.write_batches.new.keeper s _ is reads.calls.preserved clean
     (λ t left. stays_so model c.args.keeper.now c.write_batches.new.keeper s t _ (reads.stays clean s is) left)
 
 pub returns-in-Ok-write_batches-clause-began_clean : goal.returns-in-Ok-write_batches-clause-began_clean

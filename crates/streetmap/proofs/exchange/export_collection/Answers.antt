@@ -7,7 +7,7 @@ returns-in-Ok-clause-leaves g c clean s is =
     let reads = c.export-done.ensures.reads in
     let old = c.args.keeper.now in
     let new = c.export-done.new.keeper in
-    hold_one_of model g.met.K.Durable.images_hold_states old new s _ is reads.calls.spared clean
+    hold_one_of model g.met.K.Durable.images_hold_states old new s _ is reads.calls.preserved clean
     (λ t left. stays_so model old new s t _ (reads.stays clean s is) left)
 
 pub returns-in-Err-clause-leaves : goal.returns-in-Err-clause-leaves
@@ -16,7 +16,7 @@ returns-in-Err-clause-leaves g c clean s is =
     let reads = c.export-done.ensures.reads in
     let old = c.args.keeper.now in
     let new = c.export-done.new.keeper in
-    hold_one_of model g.met.K.Durable.images_hold_states old new s _ is reads.calls.spared clean
+    hold_one_of model g.met.K.Durable.images_hold_states old new s _ is reads.calls.preserved clean
     (λ t left. stays_so model old new s t _ (reads.stays clean s is) left)
 
 pub returns-in-Ok-clause-began_clean : goal.returns-in-Ok-clause-began_clean

@@ -7,9 +7,9 @@ use Rattle.streetmap_guarantee.specs.Town.{GuaranteeOfTown}
 use Rattle.streetmap.proofs.served.serve_over.Goals as goal
 
 pub returns-clause-guarantee : goal.returns-clause-guarantee
-returns-clause-guarantee g c clean s stands =
+returns-clause-guarantee g c clean s represented =
     let made = c.service_of-service.ensures in
     let ended = c.serve-ended in
     subst (λ (root : Text). GuaranteeOfTown g.K.Durable.holds (g.K.Durable.leaves ended.new.service.keeper.keeper) root s (map client_history (clients_of ended.new.clients)))
     (ap root_of made.base)
-    (ended.ensures.guarantee clean s (subst (λ k. g.K.Keeper.model.represents k s) (sym made.keeper) stands))
+    (ended.ensures.guarantee clean s (subst (λ k. g.K.Keeper.model.represents k s) (sym made.keeper) represented))

@@ -3,7 +3,7 @@ use Rattle.std.specs.Io.Take.{take_inner, take_limit, take_remaining}
 use Rattle.std.specs.declared.io.Take.{Take}
 use Rattle.streetmap.proofs.texts.read_first.Goals as goal
 
--- what was put behind nothing is the first bytes of the reader within
+-- what was appended to an empty text is the first bytes of the inner reader
 first_bytes : (n : ℕ) (known : Option (List ℕ)) (old new : List ℕ) → old ≡ [] → IfSome (option_map (take n) known) (λ xs. new ≡ old ++ xs) → IfSome known (λ all. new ≡ take n all)
 first_bytes n None old new e h = tt
 first_bytes n (Some all) old new e h = h ∙ ap (λ l. l ++ take n all) e

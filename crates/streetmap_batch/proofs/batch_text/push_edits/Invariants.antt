@@ -4,7 +4,7 @@ use Rattle.streetmap_batch.specs.BatchText.{edits_data}
 use Rattle.streetmap_batch.specs.BatchView.{edit_values}
 use Rattle.streetmap_batch.proofs.batch_text.push_edits.Given as goal
 
--- what stands and what is left is the whole
+-- what is written and what is left make up the whole
 abbrev pub invariant-loop-edit : goal.invariant-loop-edit
 invariant-loop-edit l =
     string_bytes l.out ++ items_text l.later (edits_data (edit_values (drop l.edit-index l.edits)))

@@ -1,6 +1,6 @@
 use Rattle.std.proofs.Common.{sym, ◌∙◌}
 use Rattle.serde_json.specs.View.{view, members_view}
-use Rattle.streetmap_batch.specs.BatchReading.{may_have}
+use Rattle.streetmap_batch.specs.ParsedBatches.{may_have}
 use Rattle.streetmap_batch.proofs.MemberFacts.{names_pass-members_view, has_only-object, has_only-other}
 use Rattle.streetmap_batch.proofs.member.has_only.Goals as goal
 

@@ -6,7 +6,7 @@ use Rattle.streetmap_ledger.specs.SummaryView.{summary_values}
 use Rattle.streetmap_bodies.specs.Bodies.{collection_data}
 use Rattle.streetmap_bodies.proofs.collection_body.add_collections.Given as goal
 
--- what stands and what is left is the whole
+-- the text so far and the collections left make the whole
 abbrev pub invariant-loop-summary : goal.invariant-loop-summary
 invariant-loop-summary l =
     string_bytes l.out ++ items_text l.later (items_of (map (collection_data l.root) (summary_values (drop l.summary-index l.summaries))))

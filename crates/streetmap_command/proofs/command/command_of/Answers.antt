@@ -10,7 +10,7 @@ use Rattle.streetmap_command.specs.Program.{command_by}
 use Rattle.streetmap_command.proofs.Named.{named}
 use Rattle.streetmap_command.proofs.command.command_of.Goals as goal
 
--- what is read of a subcommand of this name is the command
+-- what is read from a subcommand of this name is the command
 is_named : (r : Result Command CommandFault) (found : Option (Text × List Row)) (name name' : Text) (rows : List Row) → found ≡ Some (name, rows) → name ≡ name'
     → IfOk r (λ v. Some (command_value v) ≡ command_by (Some (name', rows))) → IfOk r (λ v. Some (command_value v) ≡ command_by found)
 is_named r found name name' rows is same h =
@@ -18,7 +18,7 @@ is_named r found name name' rows is same h =
     let Q : Text → Type 0 = λ n. P (Some (n, rows)) in
     subst P (sym is) (subst Q (sym same) h)
 
--- and its refusal is the command's
+-- and its fault is the command's
 is_refused : (r : Result Command CommandFault) (found : Option (Text × List Row)) (name name' : Text)
     (rows : List Row) → found ≡ Some (name, rows) → name ≡ name'
     → IfErr r (λ e. IsSome (command_by (Some (name', rows))) → e ≡ Memory)

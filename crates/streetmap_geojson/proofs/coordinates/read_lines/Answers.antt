@@ -3,7 +3,7 @@ use Rattle.std.proofs.lemmas.List.{map_push}
 use Rattle.serde_json.specs.View.{view}
 use Rattle.streetmap_grid.specs.Views.{lines_value, line_value}
 use Rattle.streetmap_geojson.specs.declared.fault.Fault.TheVariants.{BadGeometry}
-use Rattle.streetmap_geojson.specs.Reading.{inside, line}
+use Rattle.streetmap_geojson.specs.ParsedGeometries.{inside, line}
 use Rattle.streetmap_geojson.proofs.Fronts.{goes_on, ends, is_done, starts}
 use Rattle.streetmap_geojson.proofs.coordinates.read_lines.Goals as goal
 

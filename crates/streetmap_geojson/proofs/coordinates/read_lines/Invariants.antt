@@ -2,7 +2,7 @@ use Rattle.std.proofs.Common.{◌≡◌, ◌≤◌, map, drop}
 use Rattle.serde_json.specs.View.{view}
 use Rattle.streetmap_grid.specs.Views.{lines_value}
 use Rattle.streetmap_geojson.specs.declared.fault.Fault.TheVariants.{BadGeometry}
-use Rattle.streetmap_geojson.specs.Reading.{each, inside, line, max_positions}
+use Rattle.streetmap_geojson.specs.ParsedGeometries.{each, inside, line, max_positions}
 use Rattle.streetmap_geojson.proofs.Fronts.{with_front}
 use Rattle.streetmap_geojson.proofs.coordinates.read_lines.Given as goal
 

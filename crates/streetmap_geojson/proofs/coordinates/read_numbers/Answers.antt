@@ -1,6 +1,6 @@
 use Rattle.std.proofs.Common.{◌≡◌, rules, Ok}
 use Rattle.serde_json.specs.View.{view}
-use Rattle.streetmap_geojson.specs.Reading.{coordinate}
+use Rattle.streetmap_geojson.specs.ParsedGeometries.{coordinate}
 use Rattle.streetmap_geojson.proofs.Lists.{list_of_three}
 use Rattle.streetmap_geojson.proofs.coordinates.read_numbers.Goals as goal
 

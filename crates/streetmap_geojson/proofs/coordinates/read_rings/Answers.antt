@@ -3,7 +3,7 @@ use Rattle.std.proofs.lemmas.List.{map_push}
 use Rattle.serde_json.specs.View.{view}
 use Rattle.streetmap_grid.specs.Views.{rings_value, ring_value}
 use Rattle.streetmap_geojson.specs.declared.fault.Fault.TheVariants.{BadGeometry}
-use Rattle.streetmap_geojson.specs.Reading.{inside, ring}
+use Rattle.streetmap_geojson.specs.ParsedGeometries.{inside, ring}
 use Rattle.streetmap_geojson.proofs.Fronts.{goes_on, ends, is_done, starts}
 use Rattle.streetmap_geojson.proofs.coordinates.read_rings.Goals as goal
 

@@ -3,7 +3,7 @@ use Rattle.std.proofs.lemmas.List.{length-map}
 use Rattle.serde_json.specs.View.{view}
 use Rattle.streetmap_grid.specs.Views.{polygons_value}
 use Rattle.streetmap_geojson.specs.declared.fault.Fault.TheVariants.{BadGeometry}
-use Rattle.streetmap_geojson.specs.Reading.{inside, polygon}
+use Rattle.streetmap_geojson.specs.ParsedGeometries.{inside, polygon}
 use Rattle.streetmap_geojson.proofs.Steps.{each_length}
 use Rattle.streetmap_geojson.proofs.coordinates.read_some_polygons.Goals as goal
 

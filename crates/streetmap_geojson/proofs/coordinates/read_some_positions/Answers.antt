@@ -3,7 +3,7 @@ use Rattle.std.proofs.lemmas.List.{length-map}
 use Rattle.serde_json.specs.View.{view}
 use Rattle.streetmap_grid.specs.Views.{positions_value}
 use Rattle.streetmap_geojson.specs.declared.fault.Fault.TheVariants.{BadPosition}
-use Rattle.streetmap_geojson.specs.Reading.{inside, position}
+use Rattle.streetmap_geojson.specs.ParsedGeometries.{inside, position}
 use Rattle.streetmap_geojson.proofs.Steps.{each_length}
 use Rattle.streetmap_geojson.proofs.coordinates.read_some_positions.Goals as goal
 

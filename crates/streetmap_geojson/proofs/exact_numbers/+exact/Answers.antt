@@ -13,10 +13,10 @@ are_exact_members-loop-name-preserved t c =
     let entry : Entry = (c.in-Some._name.now, c.in-Some.member.now) in
     let rest = c.next.new.self in
     let sorted = rw c.in-Some.ensures.steps at c.loop-name.invariant.sorted in
-    let told = rw c.in-Some.ensures.steps at c.loop-name.invariant.told in
+    let reported = rw c.in-Some.ensures.steps at c.loop-name.invariant.reported in
     let whole = rw c.in-Some.ensures.steps at c.loop-name.invariant.whole in
     record {
       sorted = rest_is_sorted entry rest sorted;
-      told = sym (rest_is_exact entry rest sorted (sym c.if-not-is_exact.ensures.told)) ∙ told;
+      reported = sym (rest_is_exact entry rest sorted (sym c.if-not-is_exact.ensures.reported)) ∙ reported;
       whole = sym (rest_is_whole entry rest (was_not (has_float (view entry.1)) c.if-not-is_exact.ensures.whole)) ∙ whole;
     }

@@ -2,7 +2,7 @@ use Rattle.std.proofs.Common.{◌≡◌, ◌++◌, ◌∷◌, [], option_map, re
 use Rattle.std.proofs.lemmas.Result.{err_from_is_err_and}
 use Rattle.serde_json.specs.View.{view}
 use Rattle.streetmap_grid.specs.Views.{simple_value, simples_value}
-use Rattle.streetmap_geojson.specs.Reading.{member_of_collection, somes}
+use Rattle.streetmap_geojson.specs.ParsedGeometries.{member_of_collection, somes}
 use Rattle.streetmap_geojson.proofs.Fronts.{goes_on, ends, is_done, push_some, push_none, Fails-under}
 use Rattle.streetmap_geojson.proofs.geometry.read_members.Goals as goal
 use Rattle.streetmap_geojson.proofs.geometry.read_members.Goals.{in-Some+in_ok-push, in_default}

@@ -2,7 +2,7 @@ use Rattle.std.proofs.Common.{◌≡◌, ◌≤◌, List, Option, map, drop}
 use Rattle.serde_json.specs.View.{view}
 use Rattle.streetmap_grid.specs.Values.{SimpleValue}
 use Rattle.streetmap_grid.specs.Views.{simples_value}
-use Rattle.streetmap_geojson.specs.Reading.{each, member_of_collection, somes, max_positions}
+use Rattle.streetmap_geojson.specs.ParsedGeometries.{each, member_of_collection, somes, max_positions}
 use Rattle.streetmap_geojson.proofs.Fronts.{with_front}
 use Rattle.streetmap_geojson.proofs.geometry.read_members.Given as goal
 

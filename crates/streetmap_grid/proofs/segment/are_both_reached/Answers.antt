@@ -29,7 +29,7 @@ returns-then-product c =
     let e2 = simp to_z-of_z at c.product-2.ensures in
     (λ t. cc, λ r. absurd (omega (arith, ints)))
 
--- the last test decides where no test before it did
+-- the last test decides if no test before it did
 by_last_test :
     (near far along near' far' along' p q r s : ℤ) →
     int_lt far (pos 0) ≡ false →

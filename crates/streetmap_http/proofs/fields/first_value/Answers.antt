@@ -7,7 +7,7 @@ use Rattle.httparse.specs.Spans.{header_bytes}
 use Rattle.streetmap_http.specs.Fields.{FieldValue, is_named, first_value, pairs}
 use Rattle.streetmap_http.proofs.fields.first_value.Goals as goal
 
--- the value of a field by its spans
+-- the value of a field, given its spans
 abbrev value_at : List ℕ → Option HeaderSpan → Option (List ℕ)
 value_at head o = option_map (λ (h : HeaderSpan). (header_bytes head h).1) o
 
@@ -19,7 +19,7 @@ one_more : (head : List ℕ) (h : HeaderSpan) (o : Option FieldValue) (p : Optio
 one_more head h o p e true = refl
 one_more head h o p e false = e
 
--- the first field of the name is that of the first spans of it
+-- the first field with the name is the field of the first spans with the name
 first_spans : (head name : List ℕ) (hs : List HeaderSpan) → first_value name (pairs head hs) ≡ value_at head (find (has_name head name) hs)
 first_spans head name [] = refl
 first_spans head name (h ∷ hs) = one_more head h _ _ (first_spans head name hs) (has_name head name h)

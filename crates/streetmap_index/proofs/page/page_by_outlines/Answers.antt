@@ -9,12 +9,12 @@ use Rattle.streetmap_ledger.proofs.Examining.{same_page}
 use Rattle.streetmap_ledger.proofs.Calls.{no_read, read_so, read_then, read_made, read_failed, read_lost, read_after}
 use Rattle.streetmap_outlines.specs.Outlines.{joined, LiesWithin, AreOutlines, IsBounded, AreBounded, IsListedChunk, AreListed}
 use Rattle.streetmap_outlines.proofs.Covering.{passed_over}
-use Rattle.streetmap_outlines.specs.Selecting.{is_marked_if}
+use Rattle.streetmap_outlines.specs.Selections.{is_marked_if}
 use Rattle.streetmap_cells.specs.declared.marks.Marks.{Marks}
 use Rattle.streetmap_outlines.proofs.Listed.{unmarked_over}
 use Rattle.streetmap_outlines.proofs.InChunks.{next_chunk}
 use Rattle.streetmap_outlines.proofs.Ordered.{chunk_in_order}
-use Rattle.streetmap_outlines.proofs.Pairing.{Going, paired, goes_on_behind, all_met}
+use Rattle.streetmap_outlines.proofs.Pairing.{Going, paired, goes_on_after, all_met}
 use Rattle.streetmap_index.proofs.page.page_by_outlines.Goals as goal
 
 pub loop-chunk-init : goal.loop-chunk-init
@@ -38,7 +38,7 @@ loop-chunk-preserved-then-is_passed_over g c =
     read_so inv (λ s _ e going d there known.
     let fold = c.loop-chunk.fold in
     let bounded = subst IsBounded (sym c.chunk-item.is) (subst AreBounded (sym c.as_slice-chunks.ensures.value) known.chunks.bounded i chunk (omega arith)) in
-    goes_on_behind q fold fold d.features (values d.features) chunk.outlines.items (joined (drop (i + 1) cs))
+    goes_on_after q fold fold d.features (values d.features) chunk.outlines.items (joined (drop (i + 1) cs))
     (subst (Going q fold d.features (values d.features)) (next_chunk cs i chunk chunk.outlines.items (omega arith) c.chunk-item.is refl) (going d there known))
     (passed_over (λ o. LiesWithin o.extent chunk.bounds) c.args.query.now fold d.features (c.is_passed_over.ensures c.if-is_passed_over.true) chunk.outlines.items bounded.within))
 
@@ -52,7 +52,7 @@ loop-chunk-preserved-then-count_chunk g c =
     read_so inv (λ s _ e going d there known.
     let bounded = subst IsBounded (sym c.chunk-item.is) (subst AreBounded (sym c.as_slice-chunks.ensures.value) known.chunks.bounded i chunk (omega arith)) in
     let order = chunk_in_order cs i chunk d.features (subst (λ xs. AreOutlines (joined xs) d.features) (sym c.as_slice-chunks.ensures.value) known.chunks.outlines) (omega arith) c.chunk-item.is in
-    goes_on_behind q c.loop-chunk.fold c.count_chunk.new.fold d.features (values d.features) chunk.outlines.items (joined (drop (i + 1) cs))
+    goes_on_after q c.loop-chunk.fold c.count_chunk.new.fold d.features (values d.features) chunk.outlines.items (joined (drop (i + 1) cs))
     (subst (Going q c.loop-chunk.fold d.features (values d.features)) (next_chunk cs i chunk chunk.outlines.items (omega arith) c.chunk-item.is refl) (going d there known))
     (c.count_chunk.ensures.counted c.if-count_chunk.true bounded order d.features))
 
@@ -69,7 +69,7 @@ loop-chunk-preserved-then-is_unmarked g c =
     read_so inv (λ s _ e going d there known.
     let fold = c.loop-chunk.fold in
     let listed = subst (IsListedChunk outlines.cells) (sym c.chunk-item.is) (subst (AreListed outlines.cells) (sym c.as_slice-chunks.ensures.value) known.listed i chunk (omega arith)) in
-    goes_on_behind q fold fold d.features (values d.features) chunk.outlines.items (joined (drop (i + 1) cs))
+    goes_on_after q fold fold d.features (values d.features) chunk.outlines.items (joined (drop (i + 1) cs))
     (subst (Going q fold d.features (values d.features)) (next_chunk cs i chunk chunk.outlines.items (omega arith) c.chunk-item.is refl) (going d there known))
     (unmarked_over outlines c.args.query.now c.marks-found.result c.marks-found.ensures fold d.features chunk off listed))
 
@@ -82,7 +82,7 @@ loop-chunk-preserved g c =
     let chunk = c.chunk-item.result in
     read_after inv c.in-Ok-true.ensures (λ s e going takes d there known.
     let bounded = subst IsBounded (sym c.chunk-item.is) (subst AreBounded (sym c.as_slice-chunks.ensures.value) known.chunks.bounded i chunk (omega arith)) in
-    goes_on_behind q c.loop-chunk.fold c.take_outlined.new.fold d.features (values d.features) chunk.outlines.items (joined (drop (i + 1) cs))
+    goes_on_after q c.loop-chunk.fold c.take_outlined.new.fold d.features (values d.features) chunk.outlines.items (joined (drop (i + 1) cs))
     (subst (Going q c.loop-chunk.fold d.features (values d.features)) (next_chunk cs i chunk chunk.outlines.items (omega arith) c.chunk-item.is refl) (going d there known))
     (λ met fs pairs held.
     takes c.in-Ok-true.field-0-test d met fs there bounded pairs

@@ -10,11 +10,11 @@ use Rattle.streetmap_outlines.specs.Outlines.{Pairs}
 use Rattle.streetmap_outlines.proofs.Pairing.{Going}
 use Rattle.streetmap_index.proofs.page.take_outlined.Given as goal
 
--- the fold holds the features met so far behind those that it held
+-- the fold holds the features met so far after those that it held
 abbrev pub invariant-loop-place : goal.invariant-loop-place
 invariant-loop-place g l = record {
   within : l.place ≤ length l.outlines;
-  look : IsRead {T = Unit {0}} g.K.Keeper.model l.fn.keeper l.keeper (Ok tt) (λ s _.
+  was_read : IsRead {T = Unit {0}} g.K.Keeper.model l.fn.keeper l.keeper (Ok tt) (λ s _.
       (c : Collection) (met fs : List FeatureValue) → get s.collections l.collection ≡ Some c → IsBounded l.chunk → Pairs c.features l.outlines fs → HoldsCandidates (query_value l.query) l.fn.fold met → Going (query_value l.query) l.fold c.features (met ++ fs) (drop l.place l.outlines));
 }
 

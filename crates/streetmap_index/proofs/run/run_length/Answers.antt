@@ -1,6 +1,6 @@
 use Rattle.std.proofs.Common.{◌≡◌, All, length, take, subst, arith}
 use Rattle.streetmap_query.specs.Views.{query_value}
-use Rattle.streetmap_index.specs.Taking.{IsExamined}
+use Rattle.streetmap_index.specs.OutlinePages.{IsExamined}
 use Rattle.streetmap_index.proofs.Runs.{examined_more}
 use Rattle.streetmap_index.proofs.run.run_length.Goals as goal
 

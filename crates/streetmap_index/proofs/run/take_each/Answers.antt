@@ -2,8 +2,8 @@ use Rattle.std.proofs.Common.{◌≡◌, ◌+◌, ◌∷◌, ◌++◌, [], true,
 use Rattle.std.proofs.lemmas.List.{take_more, take_all}
 use Rattle.streetmap_ledger.proofs.Calls.{read_then, read_made, read_failed, read_after}
 use Rattle.streetmap_outlines.specs.declared.kept.KeptOutline.{KeptOutline}
-use Rattle.streetmap_index.specs.Taking.{TakesRun}
-use Rattle.streetmap_index.proofs.Runs.{taken_behind}
+use Rattle.streetmap_index.specs.OutlinePages.{TakesRun}
+use Rattle.streetmap_index.proofs.Runs.{taken_after}
 use Rattle.streetmap_index.proofs.run.take_each.Goals as goal
 
 pub loop-outline-preserved : goal.loop-outline-preserved
@@ -16,7 +16,7 @@ loop-outline-preserved g c =
     let new = c.take_one.new.fold in
     let next : take (i + 1) os ≡ take i os ++ o ∷ [] = take_more os i o c.loop-outline-test.true ∙ ap (λ (x : KeptOutline). take i os ++ x ∷ []) (sym c.outline-item.is) in
     read_after c.loop-outline.invariant c.in-Ok-true.ensures
-    (λ s e so_far one. subst (λ xs. TakesRun name xs old new s true) (sym next) (taken_behind s name (take i os) (o ∷ []) old c.loop-outline.fold new so_far (λ _. one c.in-Ok-true.field-0-test)))
+    (λ s e so_far one. subst (λ xs. TakesRun name xs old new s true) (sym next) (taken_after s name (take i os) (o ∷ []) old c.loop-outline.fold new so_far (λ _. one c.in-Ok-true.field-0-test)))
 
 pub returns-in-Err : goal.returns-in-Err
 returns-in-Err g c =

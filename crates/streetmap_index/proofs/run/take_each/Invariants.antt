@@ -1,6 +1,6 @@
 use Rattle.std.proofs.Common.{true, take, Ok}
 use Rattle.streetmap_ledger.specs.Keep.{IsRead}
-use Rattle.streetmap_index.specs.Taking.{TakesRun}
+use Rattle.streetmap_index.specs.OutlinePages.{TakesRun}
 use Rattle.streetmap_index.proofs.run.take_each.Given as goal
 
 -- the features with the outlines so far were taken

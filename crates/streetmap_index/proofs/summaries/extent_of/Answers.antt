@@ -3,7 +3,7 @@ use Rattle.std.proofs.lemmas.List.{drop_all}
 use Rattle.streetmap_ledger.specs.Summaries.{all_vertices}
 use Rattle.streetmap_outlines.specs.Outlines.{joined, IsBounded}
 use Rattle.streetmap_outlines.proofs.InChunks.{next_chunk}
-use Rattle.streetmap_outlines.proofs.Extents.{Growing, grows_behind, all_bounds}
+use Rattle.streetmap_outlines.proofs.Extents.{Growing, grows_after, all_bounds}
 use Rattle.streetmap_index.proofs.summaries.extent_of.Goals as goal
 
 pub loop-chunk-init : goal.loop-chunk-init
@@ -16,7 +16,7 @@ loop-chunk-preserved c = λ bounded features fs pairs.
     let chunk = c.chunk-item.result in
     let os = chunk.outlines.items in
     let here = subst IsBounded (sym c.chunk-item.is) (bounded i chunk (omega arith)) in
-    grows_behind [] c.loop-chunk.bounds c.bounds_of_both-bounds.result features fs os (joined (drop (i + 1) cs))
+    grows_after [] c.loop-chunk.bounds c.bounds_of_both-bounds.result features fs os (joined (drop (i + 1) cs))
     (subst (Growing [] c.loop-chunk.bounds features fs) (next_chunk cs i chunk os (omega arith) c.chunk-item.is refl) (c.loop-chunk.invariant bounded features fs pairs))
     (λ vs gs there are. c.bounds_of_both-bounds.ensures.exact vs (all_vertices gs) are (here.exact features gs there))
 

@@ -1,5 +1,5 @@
 use Rattle.std.proofs.Common.{refl, sym, ◌∙◌}
-use Rattle.streetmap_json.proofs.NumberTextPlain.{may_change_more, found_more, look_ends}
+use Rattle.streetmap_json.proofs.NumberTextPlain.{may_change_more, found_more, read_ends}
 use Rattle.streetmap_json.proofs.number_text.may_change.Goals as goal
 
 pub loop-i-init : goal.loop-i-init
@@ -17,5 +17,5 @@ returns-then-found c = c.if-found.true ∙ (rw c.if-found.true at c.loop-i.invar
 
 pub returns-else-found : goal.returns-else-found
 returns-else-found c =
-    let ends = look_ends c.args.text.now c.loop-i.i c.loop-i.auto.i c.loop-i-test.false c.loop-i.auto.i-end in
+    let ends = read_ends c.args.text.now c.loop-i.i c.loop-i.auto.i c.loop-i-test.false c.loop-i.auto.i-end in
     c.may_change_at_end.ensures ∙ sym ends ∙ (rw c.if-found.false at c.loop-i.invariant)

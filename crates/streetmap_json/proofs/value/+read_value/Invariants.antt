@@ -18,7 +18,7 @@ decreases-read_token l = 3 * l.depth
 abbrev pub decreases-read_value : goal.decreases-read_value
 decreases-read_value l = 3 * l.depth + 1
 
--- behind the elements found, the rest is read as the rest of the array
+-- after the elements found, the rest is read as the rest of the array
 abbrev pub invariant-read_items-items : goal.invariant-read_items-items
 invariant-read_items-items l =
     (n : ℕ) × (length l.reader ≤ n)
@@ -28,7 +28,7 @@ invariant-read_items-items l =
 abbrev pub decreases-read_items-items : goal.decreases-read_items-items
 decreases-read_items-items l = length l.reader
 
--- behind the members found, the rest is read as the rest of the object
+-- after the members found, the rest is read as the rest of the object
 abbrev pub invariant-read_members-members : goal.invariant-read_members-members
 invariant-read_members-members l =
     (n : ℕ) × (length l.reader ≤ n)

@@ -20,7 +20,7 @@ loop-batch-preserved g c =
       count = search rules;
       room = search rules;
       running = inv.running;
-      spared = g.K.Keeper.model.spares_then _ _ _ inv.spared says.call.spared;
+      preserved = g.K.Keeper.model.preserves_then _ _ _ inv.preserved says.call.preserved;
       clean = λ h. inv.clean (says.call.began_clean h);
       cause = says.call.faults.1 ∙ (sym says.call.faults.0 ∙ inv.cause);
       represents = λ h s e. subst (g.K.Keeper.model.represents c.apply.new.self) (next s) (says.writes h _ (inv.represents (says.call.began_clean h) s e)).1;
@@ -44,6 +44,6 @@ returns-clause-ends g c h s e =
           let wrote = w.in-Err.ensures in
           let b = batch_value w.batch-item.result in
           let more : take (i + 1) all ≡ take i all ++ b ∷ [] = taken c.args.batches.now i w.batch-item.result (omega arith) w.batch-item.is in
-          let ended = ends_at model _ _ _ s all (length c.loop-batch.replies.items) i b w.in-Err.stopped inv.count more (model.fails_later _ _ _ inv.spared wrote.call.spared) (wrote.writes clean _ (inv.represents (wrote.call.began_clean clean) s e)) in
+          let ended = ends_at model _ _ _ s all (length c.loop-batch.replies.items) i b w.in-Err.stopped inv.count more (model.fails_later _ _ _ inv.preserved wrote.call.preserved) (wrote.writes clean _ (inv.represents (wrote.call.began_clean clean) s e)) in
           rw w.fault-is (subst (λ k. RunEnds model c.args.keeper.now k s all (length c.loop-batch.replies.items) (Some w.in-Err.stopped)) (sym w.keeper-is) ended)
     ]

@@ -4,7 +4,7 @@ use Rattle.streetmap_ledger.specs.Batches.{after_all, replies_of}
 use Rattle.streetmap_batch.specs.BatchView.{batch_value}
 use Rattle.streetmap_ledger.proofs.keeper.run.Given as goal
 
--- what is so as long as no batch ended the run
+-- what holds as long as no batch ended the run
 abbrev pub invariant-loop-batch : goal.invariant-loop-batch
 invariant-loop-batch g l =
     let k = g.K.Keeper.model in
@@ -12,7 +12,7 @@ invariant-loop-batch g l =
       count : length l.replies.items ≡ l.batch-index;
       room : vec_capacity l.replies ≡ length l.batches;
       running : l.fault ≡ None;
-      spared : k.spares l.fn.keeper l.keeper;
+      preserved : k.preserves l.fn.keeper l.keeper;
       clean : k.is_clean l.keeper → k.is_clean l.fn.keeper;
       cause : k.cause l.keeper ≡ k.cause l.fn.keeper;
       represents : k.is_clean l.keeper → (s : State) → k.represents l.fn.keeper s → k.represents l.keeper (after_all s (take l.batch-index (map batch_value l.batches)));

@@ -1,5 +1,5 @@
 use Rattle.std.proofs.Common.{refl}
-use Rattle.streetmap_batch.specs.BatchReading.{batch_of}
+use Rattle.streetmap_batch.specs.ParsedBatches.{batch_of}
 use Rattle.streetmap_memory.specs.Plain.{plain_model}
 use Rattle.streetmap_lines.specs.Answers.{batch_answer}
 use Rattle.streetmap_lines.proofs.AnswerLemmas.{says_before}

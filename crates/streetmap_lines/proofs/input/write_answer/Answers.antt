@@ -16,16 +16,16 @@ returns-in-Some g c =
     let line = c.args.line.now in
     let old = g.W.Write.contents c.args.writer.now in
     let new = g.W.Write.contents c.write_line.new.writer in
-    let answer : IsPlainState old_keeper s → IsLineAnswer s line _ t = λ stands. subst (λ o. IsLineAnswer s line o t) c.in-Some.is (line_answered s old_keeper t line c.in_ok-answer.field-0 stands (c.in_ok-answer.ensures.answered s stands) c.in_ok-answer.ensures.empty) in
+    let answer : IsPlainState old_keeper s → IsLineAnswer s line _ t = λ represented. subst (λ o. IsLineAnswer s line o t) c.in-Some.is (line_answered s old_keeper t line c.in_ok-answer.field-0 represented (c.in_ok-answer.ensures.answered s represented) c.in_ok-answer.ensures.empty) in
     let text : IsPlainState old_keeper s → c.as_str.result.now ++ 10 ∷ [] ≡ answer_text (line_answer s line) =
-    λ stands. ap (λ l. l ++ 10 ∷ []) c.as_str.ensures.value ∙ said_text (line_answer s line) (string_bytes c.in-Some.answer) (answer stands).said in
+    λ represented. ap (λ l. l ++ 10 ∷ []) c.as_str.ensures.value ∙ said_text (line_answer s line) (string_bytes c.in-Some.answer) (answer represented).said in
     record {
-      ok = λ stands. subst (λ l. OnOk c.write_line.result (Appends old new l)) (text stands) c.write_line.ensures.ok;
-      state = λ stands. on_ok c.write_line.result _ (answer stands).state;
-      err = λ stands. subst (λ l. OnErr c.write_line.result (AppendsBeginning old new l))
-          (text stands) c.write_line.ensures.err;
-      less = λ stands is. subst (AppendsLess old new) (text stands) (c.write_line.ensures.less is);
-      flush = λ stands is. subst (Appends old new) (text stands) (c.write_line.ensures.flush is);
+      ok = λ represented. subst (λ l. OnOk c.write_line.result (Appends old new l)) (text represented) c.write_line.ensures.ok;
+      state = λ represented. on_ok c.write_line.result _ (answer represented).state;
+      err = λ represented. subst (λ l. OnErr c.write_line.result (AppendsBeginning old new l))
+          (text represented) c.write_line.ensures.err;
+      less = λ represented is. subst (AppendsLess old new) (text represented) (c.write_line.ensures.less is);
+      flush = λ represented is. subst (Appends old new) (text represented) (c.write_line.ensures.flush is);
       fault = c.write_line.ensures.fault;
     }
 
@@ -36,12 +36,12 @@ returns-in-None g c =
     let old_keeper = c.args.keeper.now in
     let line = c.args.line.now in
     let old = g.W.Write.contents c.args.writer.now in
-    let answer : IsPlainState old_keeper s → IsLineAnswer s line _ t = λ stands. subst (λ o. IsLineAnswer s line o t) c.in-None.is (line_answered s old_keeper t line c.in_ok-answer.field-0 stands (c.in_ok-answer.ensures.answered s stands) c.in_ok-answer.ensures.empty) in
+    let answer : IsPlainState old_keeper s → IsLineAnswer s line _ t = λ represented. subst (λ o. IsLineAnswer s line o t) c.in-None.is (line_answered s old_keeper t line c.in_ok-answer.field-0 represented (c.in_ok-answer.ensures.answered s represented) c.in_ok-answer.ensures.empty) in
     record {
-      ok = λ stands. subst (Appends old old) (said_none (line_answer s line) (answer stands).said) (Appends-nil old);
-      state = λ stands. (answer stands).state;
-      err = λ stands. tt;
-      less = λ stands is. absurd cc;
-      flush = λ stands is. absurd cc;
+      ok = λ represented. subst (Appends old old) (said_none (line_answer s line) (answer represented).said) (Appends-nil old);
+      state = λ represented. (answer represented).state;
+      err = λ represented. tt;
+      less = λ represented is. absurd cc;
+      flush = λ represented is. absurd cc;
       fault = tt;
     }

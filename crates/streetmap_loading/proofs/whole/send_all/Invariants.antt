@@ -4,7 +4,7 @@ use Rattle.streetmap_loading.specs.Sources.{StaysKnown}
 use Rattle.streetmap_loading.proofs.Taking.{Reads}
 use Rattle.streetmap_loading.proofs.whole.send_all.Given as goal
 
--- so many edits were read, in at most two batches each
+-- one edit was read per turn, in at most two batches each
 abbrev pub invariant-loop-turn : goal.invariant-loop-turn
 invariant-loop-turn g l = record {
   number : (packing l.sending.packer).number ≤ 2 * l.turn + 1;

@@ -3,7 +3,7 @@ use Rattle.streetmap_ledger.specs.Kept.{has_serial}
 use Rattle.streetmap_memory.specs.Slots.{by_text}
 use Rattle.streetmap_memory.proofs.batches.batch_with.Given as goal
 
--- it is found among those that are left where it is found among all
+-- the search in the entries left finds what the search in all finds
 abbrev pub invariant-loop-key : goal.invariant-loop-key
 invariant-loop-key l =
     find (has_serial l.serial) (by_text l.key-iterator)

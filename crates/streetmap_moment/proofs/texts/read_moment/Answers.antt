@@ -1,7 +1,7 @@
 use Rattle.std.proofs.Common.{◌≡◌, rules}
 use Rattle.std.specs.Prelude.{ok_or}
 use Rattle.streetmap_moment.specs.declared.faults.TimeFault.TheVariants.{BadTime}
-use Rattle.streetmap_moment.specs.Reading.{moment_of}
+use Rattle.streetmap_moment.specs.DateTimeParts.{moment_of}
 use Rattle.streetmap_moment.specs.Views.{moment_result}
 use Rattle.streetmap_moment.proofs.ReadFacts.{moment_found, moment_only, moment_once}
 use Rattle.streetmap_moment.proofs.texts.read_moment.Goals as goal

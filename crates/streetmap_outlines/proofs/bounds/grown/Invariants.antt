@@ -8,7 +8,7 @@ use Rattle.streetmap_outlines.specs.Outlines.{Pairs}
 use Rattle.streetmap_outlines.proofs.Extents.{Growing}
 use Rattle.streetmap_outlines.proofs.bounds.grown.Given as goal
 
--- the bounds are those of the features met so far behind what they were of, and the extents of these features lie within them
+-- the bounds are of the earlier positions and of the features met so far, which lie within them
 abbrev pub invariant-loop-outline : goal.invariant-loop-outline
 invariant-loop-outline l = record {
   exact : (features : Features) (ps : List PositionValue) (fs : List FeatureValue) → Pairs features l.outlines fs → AreBounds ps l.fn.bounds → Growing ps l.bounds features fs (drop l.outline-index l.outlines);

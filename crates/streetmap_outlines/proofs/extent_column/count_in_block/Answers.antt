@@ -2,8 +2,8 @@ use Rattle.std.proofs.Common.{cond, get_or, ap, ◌∙◌, arith}
 use Rattle.std.proofs.lemmas.List.Sums.{sum_by_more}
 use Rattle.streetmap_cells.specs.Envelopes.{overlaps}
 use Rattle.streetmap_cells.specs.declared.envelope.Envelope.{Envelope}
-use Rattle.streetmap_outlines.specs.Within.{TellsWhetherMet}
-use Rattle.streetmap_outlines.proofs.Blocks.{as_byte, one_or_none, all_told_more, off_or_three}
+use Rattle.streetmap_outlines.specs.Within.{DecidesMeeting}
+use Rattle.streetmap_outlines.proofs.Blocks.{as_byte, one_or_none, all_reported_more, off_or_three}
 use Rattle.streetmap_outlines.proofs.extent_column.count_in_block.Goals as goal
 
 pub loop-extent-preserved : goal.loop-extent-preserved
@@ -18,6 +18,6 @@ loop-extent-preserved c =
     record {
       counted = omega (arith, inv.counted, more, one);
       few = omega (arith, inv.few, one, one_or_none (overlaps (get_or es i none) window));
-      told = all_told_more (λ e. TellsWhetherMet e window) es i none _ _ c.loop-extent-test.true inv.told
+      reported = all_reported_more (λ e. DecidesMeeting e window) es i none _ _ c.loop-extent-test.true inv.reported
           (off_or_three _ window _ _ c.overlaps-overlaps.ensures c.has_three_bounds_in.ensures);
     }

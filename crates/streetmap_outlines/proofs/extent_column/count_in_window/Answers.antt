@@ -3,7 +3,7 @@ use Rattle.std.proofs.lemmas.List.Elements.{All-append}
 use Rattle.std.proofs.lemmas.List.Sums.{sum_by-append, count_by-le-length}
 use Rattle.streetmap_cells.specs.Envelopes.{overlaps}
 use Rattle.streetmap_cells.specs.declared.envelope.Envelope.{Envelope}
-use Rattle.streetmap_outlines.specs.Within.{TellsWhetherMet}
+use Rattle.streetmap_outlines.specs.Within.{DecidesMeeting}
 use Rattle.streetmap_outlines.proofs.extent_column.count_in_window.Goals as goal
 
 pub loop-block-preserved : goal.loop-block-preserved
@@ -23,6 +23,6 @@ loop-block-preserved c =
         append_assoc done block _ ∙ ap (λ (es : List Envelope). done ++ es) (sym steps.1.0) ∙ so_far.1,
         omega (arith, both, so_far.2, here.count, c.from.ensures),
         omega (arith, so_far.3, here.count, c.from.ensures, length-append done block, count_by-le-length (λ e. overlaps e window) block),
-        All-append (λ e. TellsWhetherMet e window) done block so_far.4 (here.told.0 refl),
+        All-append (λ e. DecidesMeeting e window) done block so_far.4 (here.reported.0 refl),
       ),
     )

@@ -3,7 +3,7 @@ use Rattle.streetmap_cells.specs.Cells.{KeepsExtents}
 use Rattle.streetmap_outlines.specs.Outlines.{AreListedUnder}
 use Rattle.streetmap_outlines.proofs.in_cells.list_outlines.Given as goal
 
--- the extents of the outlines so far stand in the cells, and all that stood in them before
+-- the extents of the outlines so far are in the cells, and all that were in them before
 abbrev pub invariant-loop-outline : goal.invariant-loop-outline
 invariant-loop-outline l = record {
   kept : KeepsExtents l.fn.cells l.cells;

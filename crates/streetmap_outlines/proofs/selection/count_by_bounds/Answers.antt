@@ -1,6 +1,6 @@
 use Rattle.std.proofs.Common.{◌≡◌, length, subst, sym, ◌∙◌, rules}
 use Rattle.streetmap_query.specs.Views.{query_value}
-use Rattle.streetmap_outlines.specs.Selecting.{CountsWhole}
+use Rattle.streetmap_outlines.specs.Selections.{CountsWhole}
 use Rattle.streetmap_outlines.proofs.Counting.{counts_whole, counts_all, counts_extents}
 use Rattle.streetmap_outlines.proofs.selection.count_by_bounds.Goals as goal
 

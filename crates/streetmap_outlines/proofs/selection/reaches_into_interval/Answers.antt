@@ -61,6 +61,6 @@ returns-then-first-end c = λ less outline f within is.
     let start_fits : SFits w64 start = search rules in
     let end_fits : SFits w64 end = search rules in
     let before : first <ℤ end = (let test = c.if-first-end.true in grind (arith, ints, to_z-of_z)) in
-    let behind : start <ℤ last = grind (arith, ints, to_z-of_z) in
+    let following : start <ℤ last = grind (arith, ints, to_z-of_z) in
     ap (λ (o : Option Datetime). passes meets f.time (option_map (λ (v : DatetimeValue). v.interval) (option_map datetime_value o))) c.in-Some.is
-    ∙ timed outline.seconds f.time d first last start end (subst (IsTimedBy outline.seconds) c.in-Some-seconds.is within) (ap (λ (o : FeatureOutlineValue). o.seconds) is) (sym (ap (λ p. p.0) value)) (sym (ap (λ p. p.1) value)) before behind
+    ∙ timed outline.seconds f.time d first last start end (subst (IsTimedBy outline.seconds) c.in-Some-seconds.is within) (ap (λ (o : FeatureOutlineValue). o.seconds) is) (sym (ap (λ p. p.0) value)) (sym (ap (λ p. p.1) value)) before following

@@ -2,7 +2,7 @@ use Rattle.std.proofs.Common.{sym, option_map, pos, [], ◌∷◌, ◌∙◌, to
 use Rattle.sqlite.specs.Held.{state}
 use Rattle.sqlite.specs.declared.types.Value.TheVariants.{Int}
 use Rattle.streetmap_reading.proofs.PageStatements.{stays_by, popped, survives_any}
-use Rattle.streetmap_reading.proofs.QueryFails.{told}
+use Rattle.streetmap_reading.proofs.QueryFails.{reported}
 use Rattle.streetmap_reading.proofs.WholeQueries.{answered}
 use Rattle.streetmap_ledger.specs.Kept.{batch_in}
 use Rattle.streetmap_reading.specs.Serials.{row_of}
@@ -31,7 +31,7 @@ pub returns-in-Err-clause-finds : goal.returns-in-Err-clause-finds
 returns-in-Err-clause-finds g c n is clean = λ s limit keeps.
     let value = to_z-of_z c.ranges.serial ∙ is in
     let ran = rw (c.params-to_sql.ensures, value) at (c.in-Err.ensures.err clean) in
-    told select_serial (Int (pos n) ∷ []) (state g.S.Store c.args.conn.now)
+    reported select_serial (Int (pos n) ∷ []) (state g.S.Store c.args.conn.now)
     (state g.S.Store c.query_all.new.self) _ (serial_at _ s keeps n) limit c.in-Err.error ran
 
 pub returns-in-Err-clause-stays : goal.returns-in-Err-clause-stays

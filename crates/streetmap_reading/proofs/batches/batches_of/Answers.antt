@@ -1,15 +1,15 @@
 use Rattle.std.proofs.Common.{Vec, Global}
 use Rattle.sqlite.specs.Held.{state}
 use Rattle.sqlite.specs.State.{IsUnchanged}
-use Rattle.streetmap_reading.specs.Taking.{Stopped}
+use Rattle.streetmap_reading.specs.FoldStops.{Stopped}
 use Rattle.streetmap_reading.proofs.PageStatements.{stays_by, survives_any}
-use Rattle.streetmap_ledger.specs.Kept.{batches_behind}
+use Rattle.streetmap_ledger.specs.Kept.{batches_after}
 use Rattle.streetmap_ledger.specs.KeptView.{keyed_batches}
 use Rattle.streetmap_ledger.specs.declared.kept_batch.KeptBatch.{KeptBatch}
 use Rattle.streetmap_reading.specs.Serials.{most_serial}
-use Rattle.streetmap_reading.specs.BatchStatements.{select_behind}
-use Rattle.streetmap_reading.proofs.BehindSerial.{behind_at}
-use Rattle.streetmap_reading.proofs.NextBatches.{keys_behind, most_passed, next_of}
+use Rattle.streetmap_reading.specs.BatchStatements.{select_after}
+use Rattle.streetmap_reading.proofs.AfterSerial.{after_at}
+use Rattle.streetmap_reading.proofs.NextBatches.{keys_after, most_passed, next_of}
 use Rattle.streetmap_reading.proofs.batches.batches_of.Goals as goal
 
 pub returns-clause-shows : goal.returns-clause-shows
@@ -20,15 +20,15 @@ returns-clause-shows g c clean = λ s limit keeps.
     let m = most_serial after in
     let value = most_passed _ after c.most_of.ensures in
     let took = rw (c.params-to_sql.ensures, value) at (c.first_batches.ensures.takes clean) in
-    let first = took (batches_behind s m) limit (behind_at _ s keeps m)
-    (keys_behind s m keeps.well) in
+    let first = took (batches_after s m) limit (after_at _ s keeps m)
+    (keys_after s m keeps.well) in
     next_of {T = Vec KeptBatch Global} s after c.args.room (λ found. keyed_batches found.items)
     (λ found. IsUnchanged old new) (Stopped old new) c.first_batches.result keeps.well first
 
 pub returns-clause-stays : goal.returns-clause-stays
 returns-clause-stays g c =
-    stays_by select_behind _ _ _ c.first_batches.ensures.survives
-    (λ s keeps. (behind_at _ s keeps 1).plain)
+    stays_by select_after _ _ _ c.first_batches.ensures.survives
+    (λ s keeps. (after_at _ s keeps 1).plain)
 
 pub returns-clause-survives : goal.returns-clause-survives
 returns-clause-survives g c = survives_any _ _ _ c.first_batches.ensures.survives

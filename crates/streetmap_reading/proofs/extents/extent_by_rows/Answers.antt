@@ -11,7 +11,7 @@ use Rattle.streetmap_reading.proofs.Folded.{folded_such}
 use Rattle.streetmap_reading.proofs.PageStatements.{stays_by, survives_any}
 use Rattle.streetmap_reading.specs.Held.{HoldsBounds}
 use Rattle.streetmap_reading.specs.Statements.{select_extents_in_turn}
-use Rattle.streetmap_reading.specs.Telling.{features_in}
+use Rattle.streetmap_reading.specs.PassResults.{features_in}
 use Rattle.streetmap_reading.specs.Views.{extent_row, feature_extent, IsExtentRow}
 use Rattle.streetmap_reading.proofs.PositionBounds.{bounds_extent}
 use Rattle.streetmap_reading.proofs.RowsInTurn.{none_mapped}

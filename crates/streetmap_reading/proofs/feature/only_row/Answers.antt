@@ -2,7 +2,7 @@ use Rattle.std.proofs.Common.{sym}
 use Rattle.sqlite.specs.Held.{state}
 use Rattle.sqlite.specs.Values.{bound}
 use Rattle.streetmap_reading.proofs.PageStatements.{popped}
-use Rattle.streetmap_reading.proofs.QueryFails.{told}
+use Rattle.streetmap_reading.proofs.QueryFails.{reported}
 use Rattle.streetmap_reading.proofs.WholeQueries.{answered}
 use Rattle.streetmap_reading.proofs.feature.only_row.Goals as goal
 
@@ -13,4 +13,4 @@ returns-in-Ok-clause-finds g c clean = λ o limit shows.
 
 pub returns-in-Err-clause-finds : goal.returns-in-Err-clause-finds
 returns-in-Err-clause-finds g c clean = λ o limit shows.
-    told c.args.sql.now (bound c.args.params.now) (state g.S.Store c.args.conn.now) (state g.S.Store c.query_all.new.self) _ shows limit c.in-Err.error (c.in-Err.ensures.err clean)
+    reported c.args.sql.now (bound c.args.params.now) (state g.S.Store c.args.conn.now) (state g.S.Store c.query_all.new.self) _ shows limit c.in-Err.error (c.in-Err.ensures.err clean)

@@ -3,7 +3,7 @@ use Rattle.sqlite.specs.Held.{state}
 use Rattle.sqlite.specs.State.{HasCleanDisk}
 use Rattle.sqlite.specs.Values.{bound}
 use Rattle.streetmap_reading.proofs.BetweenRows.{clean_before}
-use Rattle.streetmap_reading.proofs.Seeing.{begun, simple_there}
+use Rattle.streetmap_reading.proofs.ShownQueries.{begun, simple_there}
 use Rattle.streetmap_reading.proofs.Stopping.{some_on, some_at, refused}
 use Rattle.streetmap_reading.proofs.fold.fold_first.Goals as goal
 

@@ -5,7 +5,7 @@ use Rattle.sqlite.specs.declared.error.ErrorCode.TheVariants.{TooBig}
 use Rattle.streetmap_rows.proofs.ErrorReasons.{other}
 use Rattle.streetmap_rows.proofs.ResultCases.{handed_on}
 use Rattle.sqlite.specs.Values.{bound}
-use Rattle.streetmap_reading.specs.Folding.{ShowsOrBegins}
+use Rattle.streetmap_reading.specs.FoldEffects.{ShowsOrBegins}
 use Rattle.streetmap_reading.proofs.fold.fold_rows.Goals as goal
 
 pub returns-clause-takes : goal.returns-clause-takes

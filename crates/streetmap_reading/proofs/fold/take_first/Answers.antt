@@ -2,9 +2,9 @@ use Rattle.std.proofs.Common.{◌≡◌, subst, ◌∙◌, refl, ◌∷◌, [], 
 use Rattle.sqlite.specs.Held.{state}
 use Rattle.sqlite.proofs.Callers.{given_begin, unchanged_then}
 use Rattle.streetmap_rows.proofs.ResultCases.{handed_on}
-use Rattle.streetmap_reading.specs.Folding.{TookNext}
+use Rattle.streetmap_reading.specs.FoldEffects.{TookNext}
 use Rattle.streetmap_reading.proofs.BetweenRows.{given_open, survives_still, survives_on, clean_before}
-use Rattle.streetmap_reading.proofs.Seeing.{simple_there, begins_there}
+use Rattle.streetmap_reading.proofs.ShownQueries.{simple_there, begins_there}
 use Rattle.streetmap_reading.proofs.Stopping.{stops_on, sees_on}
 use Rattle.streetmap_reading.proofs.fold.take_first.Goals as goal
 

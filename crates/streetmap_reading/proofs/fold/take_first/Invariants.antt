@@ -4,7 +4,7 @@ use Rattle.sqlite.specs.Held.{Held, state}
 use Rattle.sqlite.specs.Order.{Row}
 use Rattle.sqlite.specs.Store.{Ghosts}
 use Rattle.sqlite.specs.State.{HasCleanDisk, IsUnchanged, Survives}
-use Rattle.streetmap_reading.specs.Seeing.{IsSimpleIn}
+use Rattle.streetmap_reading.specs.ShownQueries.{IsSimpleIn}
 use Rattle.streetmap_reading.proofs.fold.take_first.Given as goal
 
 module _ {F : Type 0} (Holds : F → F → List Row → Type 0) where

@@ -9,7 +9,7 @@ use Rattle.streetmap_reading.proofs.OneRowMore.{outlines_begun}
 use Rattle.streetmap_reading.proofs.PageStatements.{stays_by, survives_any}
 use Rattle.streetmap_reading.specs.Held.{HoldsOutlines}
 use Rattle.streetmap_reading.specs.Statements.{select_outlines}
-use Rattle.streetmap_reading.specs.Telling.{features_in}
+use Rattle.streetmap_reading.specs.PassResults.{features_in}
 use Rattle.streetmap_reading.specs.Views.{placed_row, IsOutlineRow}
 use Rattle.streetmap_reading.proofs.RowsInTurn.{map_again}
 use Rattle.streetmap_reading.proofs.ShownOutlines.{placed, outlines_at, outlines_fine}
@@ -30,10 +30,10 @@ returns-clause-shows g c clean = λ s limit keeps.
     (λ rows is. subst (AllByRecursion IsOutlineRow) (sym is) (outline_rows _ s keeps name))
     (Ok c.in_ok-all.all) some (outlines_begun c.new-outlines.result c.new-outlines.ensures.items) in
     let all = took.0 (search rules) in
-    let told = all.2 (map (placed _ s keeps name) es)
+    let reported = all.2 (map (placed _ s keeps name) es)
     (all.1 ∙ sym (map_again placed_row (placed _ s keeps name) es)) (outlines_fine _ s keeps name)
     in
-    (told.0 ∙ outlines_are _ s keeps name, took.1)
+    (reported.0 ∙ outlines_are _ s keeps name, took.1)
 
 pub returns-then-not-all-clause-shows : goal.returns-then-not-all-clause-shows
 returns-then-not-all-clause-shows g c clean = λ s limit keeps.

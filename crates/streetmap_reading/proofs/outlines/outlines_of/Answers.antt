@@ -6,7 +6,7 @@ use Rattle.sqlite.proofs.Callers.{unchanged_then}
 use Rattle.streetmap_rows.proofs.ResultCases.{handed_on}
 use Rattle.streetmap_reading.proofs.BetweenRows.{stopped_on}
 use Rattle.streetmap_reading.proofs.PageStatements.{keeps_still, survives_both}
-use Rattle.streetmap_reading.proofs.OneRowMore.{outlines_told}
+use Rattle.streetmap_reading.proofs.OneRowMore.{outlines_reported}
 use Rattle.streetmap_reading.proofs.outlines.outlines_of.Goals as goal
 
 pub returns-clause-shows : goal.returns-clause-shows
@@ -17,7 +17,7 @@ returns-clause-shows g c clean = λ s limit keeps.
     let early : HasCleanDisk mid = omega (arith, clean, c.outlines_in.ensures.survives.clean) in
     let found = c.in_ok-_row.ensures.finds early s limit keeps in
     let under = c.in_ok-outlines.ensures.shows clean s (c.collection_row.ensures.survives.limit ∙ limit) (keeps_still s old mid found.1 keeps) in
-    (outlines_told (get s.collections c.args.collection.now) c.in-Some._row _ (sym c.in-Some.is ∙ found.0) under.0, unchanged_then old mid new found.1 under.1)
+    (outlines_reported (get s.collections c.args.collection.now) c.in-Some._row _ (sym c.in-Some.is ∙ found.0) under.0, unchanged_then old mid new found.1 under.1)
 
 pub returns-in_err-outlines-clause-shows : goal.returns-in_err-outlines-clause-shows
 returns-in_err-outlines-clause-shows g c clean = λ s limit keeps.

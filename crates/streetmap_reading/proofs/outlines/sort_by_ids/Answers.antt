@@ -3,7 +3,7 @@ use Rattle.std.proofs.Common.{string_bytes, rules}
 use Rattle.std.proofs.lemmas.List.Sorted.{answers_always}
 use Rattle.std.proofs.lemmas.List.MinMax.{ranks_by}
 use Rattle.streetmap_ledger.specs.declared.outline.FeatureOutline.{FeatureOutline}
-use Rattle.streetmap_reading.specs.Telling.{comes_before}
+use Rattle.streetmap_reading.specs.PassResults.{comes_before}
 use Rattle.streetmap_reading.proofs.outlines.sort_by_ids.Goals as goal
 
 pub returns-clause-sorted : goal.returns-clause-sorted

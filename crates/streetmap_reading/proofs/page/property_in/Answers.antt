@@ -1,5 +1,5 @@
 use Rattle.std.proofs.Common.{ap, if◌then◌else◌, ◌∙◌}
-use Rattle.streetmap_rows.specs.Failing.{is_memory}
+use Rattle.streetmap_rows.specs.Failures.{is_memory}
 use Rattle.streetmap_rows.specs.declared.fault.ReadFault.TheVariants.{Memory, Unread}
 use Rattle.streetmap_reading.proofs.page.property_in.Goals as goal
 

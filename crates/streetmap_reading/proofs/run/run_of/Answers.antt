@@ -4,7 +4,7 @@ use Rattle.sqlite.specs.Held.{state}
 use Rattle.sqlite.specs.State.{HasCleanDisk}
 use Rattle.sqlite.proofs.Callers.{unchanged_then}
 use Rattle.streetmap_ledger.specs.Pages.{run_of}
-use Rattle.streetmap_reading.specs.Taking.{Stopped}
+use Rattle.streetmap_reading.specs.FoldStops.{Stopped}
 use Rattle.streetmap_rows.proofs.ResultCases.{handed_on}
 use Rattle.streetmap_reading.proofs.BetweenRows.{stopped_on}
 use Rattle.streetmap_reading.proofs.PageStatements.{there_is, keeps_still, survives_both}

@@ -22,7 +22,7 @@ pub returns-clause-shows : goal.returns-clause-shows
 returns-clause-shows g c clean = λ s limit keeps.
     let old = state g.S.Store c.args.conn.now in
     let new = state g.S.Store c.fold_rows.new.conn in
-    let told_of : Text × Collection → SummaryValue = λ e. head_of e.0 e.1 in
+    let reported_of : Text × Collection → SummaryValue = λ e. head_of e.0 e.1 in
     let cells : Text × Collection → Row = λ e. collection_cells e.0 e.1 in
     let none : summary_values c.new-heads.result.items ≡ [] =
     ap summary_values c.new-heads.ensures.items in
@@ -30,23 +30,23 @@ returns-clause-shows g c clean = λ s limit keeps.
     new c.new-heads.result c.fold_rows.new.fold _ (collections_at _ s keeps) limit
     (head_rows _ s keeps) (Ok tt)
     (c.in_ok-fold_rows.ensures.takes clean)
-    (λ es is fine. none ∙ sym (ap (map told_of) (none_mapped cells es is))) in
+    (λ es is fine. none ∙ sym (ap (map reported_of) (none_mapped cells es is))) in
     (took.0 (entries s.collections) refl (names_each _ s keeps), took.1)
 
 pub returns-in_err-fold_rows-clause-shows : goal.returns-in_err-fold_rows-clause-shows
 returns-in_err-fold_rows-clause-shows g c clean = λ s limit keeps.
     let old = state g.S.Store c.args.conn.now in
     let new = state g.S.Store c.fold_rows.new.conn in
-    let told_of : Text × Collection → SummaryValue = λ e. head_of e.0 e.1 in
+    let reported_of : Text × Collection → SummaryValue = λ e. head_of e.0 e.1 in
     let cells : Text × Collection → Row = λ e. collection_cells e.0 e.1 in
     let none : summary_values c.new-heads.result.items ≡ [] =
     ap summary_values c.new-heads.ensures.items in
-    let told = folded (λ _. HoldsHeads) (λ _. AllByRecursion IsHeadRow) select_collections [] old
+    let reported = folded (λ _. HoldsHeads) (λ _. AllByRecursion IsHeadRow) select_collections [] old
     new c.new-heads.result c.fold_rows.new.fold _ (collections_at _ s keeps) limit
     (head_rows _ s keeps) (Err c.in_err-fold_rows.field-0.0)
     (c.in_err-fold_rows.ensures.takes clean)
-    (λ es is fine. none ∙ sym (ap (map told_of) (none_mapped cells es is))) in
-    handed_on _ _ _ _ c.from_residual.ensures.1 told
+    (λ es is fine. none ∙ sym (ap (map reported_of) (none_mapped cells es is))) in
+    handed_on _ _ _ _ c.from_residual.ensures.1 reported
 
 pub returns-clause-stays : goal.returns-clause-stays
 returns-clause-stays g c = stays_by select_collections _ _ _ c.fold_rows.ensures.survives (λ s keeps. (collections_at _ s keeps).plain)

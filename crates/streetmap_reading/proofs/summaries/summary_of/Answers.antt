@@ -4,7 +4,7 @@ use Rattle.sqlite.specs.Held.{state}
 use Rattle.sqlite.specs.State.{HasCleanDisk}
 use Rattle.sqlite.proofs.Callers.{unchanged_then}
 use Rattle.streetmap_ledger.specs.Summaries.{summary_of}
-use Rattle.streetmap_reading.specs.Taking.{Stopped}
+use Rattle.streetmap_reading.specs.FoldStops.{Stopped}
 use Rattle.streetmap_rows.proofs.ResultCases.{handed_on}
 use Rattle.streetmap_reading.proofs.BetweenRows.{stopped_on}
 use Rattle.streetmap_reading.proofs.PageStatements.{there_is, keeps_still, survives_both}
@@ -26,8 +26,8 @@ returns-clause-shows g c clean = λ s limit keeps.
     let found = c.in_ok-row.ensures.finds early s limit keeps in
     let it = there_is (get s.collections c.args.id.now) c.in-Some.row (sym c.in-Some.is ∙ found.0) in
     let head = c.in_ok-head.ensures it.0 it.2 (keeps.rows.readable.collections c.args.id.now it.0 it.1) in
-    let told = c.in_ok-summary.ensures.shows clean s (c.collection_row.ensures.survives.limit ∙ limit) (keeps_still s old mid found.1 keeps) in
-    (ap Some (told.0 c.args.id.now it.0 it.1 head) ∙ sym (ap (option_map (summary_of c.args.id.now)) it.1), unchanged_then old mid new found.1 told.1)
+    let reported = c.in_ok-summary.ensures.shows clean s (c.collection_row.ensures.survives.limit ∙ limit) (keeps_still s old mid found.1 keeps) in
+    (ap Some (reported.0 c.args.id.now it.0 it.1 head) ∙ sym (ap (option_map (summary_of c.args.id.now)) it.1), unchanged_then old mid new found.1 reported.1)
 
 pub returns-in_err-summary-clause-shows : goal.returns-in_err-summary-clause-shows
 returns-in_err-summary-clause-shows g c clean = λ s limit keeps.

@@ -4,8 +4,8 @@ use Rattle.streetmap_reading.proofs.summaries.with_extent.Goals as goal
 
 pub returns-clause-shows : goal.returns-clause-shows
 returns-clause-shows g c clean = λ s limit keeps.
-    let told = c.in_ok-extent.ensures.shows clean s limit keeps in
-    (extended s c.args.head c.as_str.result.now c.in_ok-extent.extent c.as_str.ensures.value told.0, told.1)
+    let reported = c.in_ok-extent.ensures.shows clean s limit keeps in
+    (extended s c.args.head c.as_str.result.now c.in_ok-extent.extent c.as_str.ensures.value reported.0, reported.1)
 
 pub returns-in_err-extent-clause-shows : goal.returns-in_err-extent-clause-shows
 returns-in_err-extent-clause-shows g c clean = λ s limit keeps.

@@ -6,7 +6,7 @@ use Rattle.sqlite.proofs.Callers.{unchanged_then}
 use Rattle.streetmap_rows.proofs.ResultCases.{handed_on}
 use Rattle.streetmap_reading.proofs.BetweenRows.{stopped_on}
 use Rattle.streetmap_reading.proofs.PageStatements.{survives_both}
-use Rattle.streetmap_reading.proofs.CollectionsInTurn.{SoFar, begins, goes_on, told_all, none_left, early, limited, kept}
+use Rattle.streetmap_reading.proofs.CollectionsInTurn.{SoFar, begins, goes_on, reported_all, none_left, early, limited, kept}
 use Rattle.streetmap_reading.proofs.summaries.with_extents.Goals as goal
 
 pub loop-head-init : goal.loop-head-init
@@ -78,7 +78,7 @@ pub returns-clause-shows : goal.returns-clause-shows
 returns-clause-shows g c clean = λ live s limit keeps.
     let so = c.loop-head.invariant.4 in
     let none = none_left (into_iter_items c.loop-head.head-iterator) (c.loop-head.invariant.2 ∙ c.in-None.ensures.steps.0) in
-    (λ are. told_all s (into_iter_items c.loop-head.head-iterator) c.loop-head.summaries.items none (so.tells clean s limit keeps are), so.unchanged clean s limit keeps live)
+    (λ are. reported_all s (into_iter_items c.loop-head.head-iterator) c.loop-head.summaries.items none (so.reports clean s limit keeps are), so.unchanged clean s limit keeps live)
 
 pub returns-clause-mode : goal.returns-clause-mode
 returns-clause-mode g c = λ h. c.loop-head.invariant.3 h

@@ -7,7 +7,7 @@ use Rattle.streetmap_replay.specs.Calls.{AreCalls}
 use Rattle.streetmap_replay.specs.Given.{GivesFirst}
 use Rattle.streetmap_replay.proofs.batches.give_each.Given as goal
 
--- so many batches of the part were given again
+-- that number of batches of the part were reproduced
 abbrev pub invariant-loop-batch : goal.invariant-loop-batch
 invariant-loop-batch g l =
     let fresh = g.L.Keeper.model in

@@ -4,7 +4,7 @@ use Rattle.streetmap_replay.specs.Calls.{AreCalls, AreReads}
 use Rattle.streetmap_replay.specs.Given.{GivesFirst}
 use Rattle.streetmap_replay.proofs.batches.replay.Given as goal
 
--- so many batches were given again, and the first keeper's state stays
+-- that number of batches were reproduced, and the first keeper's state stays
 abbrev pub invariant-loop-turn : goal.invariant-loop-turn
 invariant-loop-turn g l =
     let kept = g.K.Keeper.model in

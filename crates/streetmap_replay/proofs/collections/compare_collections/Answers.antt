@@ -35,8 +35,8 @@ returns-in-Some-clause-compares g c = λ h j s t e o.
     let each = c.in-Ok-compare_each.ensures in
     let a = c.in-Ok.ensures.reads (each.kept.calls.began_clean h) s e in
     let b = c.in-Ok-collections.ensures.reads (each.fresh.calls.began_clean j) t o in
-    let told = ap summary_values c.as_slice.ensures.value ∙ a.0 in
-    let it = each.compares h j s t a.1 b.1 told in
+    let reported = ap summary_values c.as_slice.ensures.value ∙ a.0 in
+    let it = each.compares h j s t a.1 b.1 reported in
     unlike_compares s t (s.collections ≡ t.collections) c.as_str.result.now c.unlike.result c.unlike.ensures
     (λ text is. alone_differs s t c.in-Ok.ours.items c.in-Ok-collections.theirs.items _ _
     c.in-Some.place c.index.result.now text a.0 b.0
@@ -54,8 +54,8 @@ returns-in-Ok-compare_each-clause-compares g c = λ h j s t e o.
     let each = c.in-Ok-compare_each.ensures in
     let a = c.in-Ok.ensures.reads (each.kept.calls.began_clean h) s e in
     let b = c.in-Ok-collections.ensures.reads (each.fresh.calls.began_clean j) t o in
-    let told = ap summary_values c.as_slice.ensures.value ∙ a.0 in
-    let it = each.compares h j s t a.1 b.1 told in
+    let reported = ap summary_values c.as_slice.ensures.value ∙ a.0 in
+    let it = each.compares h j s t a.1 b.1 reported in
     let named = c.in-None.ensures.none refl in
     let ours = ap summary_values c.as_slice-in-Ok-compare_each-2.ensures.value ∙ a.0 in
     let theirs = ap summary_values c.as_slice-in-Ok-compare_each.ensures.value ∙ b.0 in
@@ -72,6 +72,6 @@ returns-clause-compares g c = λ h j s t e o.
     let each = c.in-Err-compare_each.ensures in
     let a = c.in-Ok.ensures.reads (each.kept.calls.began_clean h) s e in
     let b = c.in-Ok-collections.ensures.reads (each.fresh.calls.began_clean j) t o in
-    let told = ap summary_values c.as_slice.ensures.value ∙ a.0 in
+    let reported = ap summary_values c.as_slice.ensures.value ∙ a.0 in
     compares_as s t (AreSame s t (entries s.collections)) (s.collections ≡ t.collections)
-    c.in-Err-compare_each.fault (each.compares h j s t a.1 b.1 told)
+    c.in-Err-compare_each.fault (each.compares h j s t a.1 b.1 reported)

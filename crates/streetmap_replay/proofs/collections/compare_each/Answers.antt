@@ -18,7 +18,7 @@ returns-in-Ok-false-clause-fresh g c =
     (reads_then c.loop-summary.invariant.fresh_reads c.in-Ok-false.ensures.fresh)
 
 pub returns-in-Ok-false-clause-compares : goal.returns-in-Ok-false-clause-compares
-returns-in-Ok-false-clause-compares g c = λ h j s t e o told.
+returns-in-Ok-false-clause-compares g c = λ h j s t e o reported.
     let inv = c.loop-summary.invariant in
     let says = c.in-Ok-false.ensures in
     let began = says.kept.calls.began_clean h in
@@ -26,10 +26,10 @@ returns-in-Ok-false-clause-compares g c = λ h j s t e o told.
     let i = c.loop-summary.summary-index in
     let a = c.summary-item.result in
     let low : i < length c.args.ours.now = omega arith in
-    let place = place_of s c.args.ours.now i a told low c.summary-item.is in
-    let it = says.compares h j s t (inv.kept_reads.stays began s e) (inv.fresh_reads.stays other t o) place.told in
+    let place = place_of s c.args.ours.now i a reported low c.summary-item.is in
+    let it = says.compares h j s t (inv.kept_reads.stays began s e) (inv.fresh_reads.stays other t o) place.reported in
     unlike_compares s t (AreSame s t (entries s.collections)) c.as_str.result.now c.unlike.result c.unlike.ensures
-    (λ text is. differs_at s t i a text place (inv.same began other s t e o told)
+    (λ text is. differs_at s t i a text place (inv.same began other s t e o reported)
     (is ∙ c.as_str.ensures.value)
     (λ same. (let wrong : false ≡ true = sym c.in-Ok-false.field-0-test ∙ it.1 same in
     absurd cc)))
@@ -50,16 +50,16 @@ loop-summary-preserved g c =
     record {
       kept_reads = reads_then inv.kept_reads says.kept;
       fresh_reads = reads_then inv.fresh_reads says.fresh;
-      same = λ h j s t e o told.
+      same = λ h j s t e o reported.
           let began = says.kept.calls.began_clean h in
           let other = says.fresh.calls.began_clean j in
-          let place = place_of s c.args.ours.now i a told low c.summary-item.is in
-          let it = says.compares h j s t (inv.kept_reads.stays began s e) (inv.fresh_reads.stays other t o) place.told in
-          one_more s t i a place (inv.same began other s t e o told) (it.0 c.in-Ok-true.field-0-test);
+          let place = place_of s c.args.ours.now i a reported low c.summary-item.is in
+          let it = says.compares h j s t (inv.kept_reads.stays began s e) (inv.fresh_reads.stays other t o) place.reported in
+          one_more s t i a place (inv.same began other s t e o reported) (it.0 c.in-Ok-true.field-0-test);
     }
 
 pub returns-clause-compares : goal.returns-clause-compares
-returns-clause-compares g c = λ h j s t e o told.
+returns-clause-compares g c = λ h j s t e o reported.
     let inv = c.loop-summary.invariant in
     let all : c.loop-summary.summary-index ≡ length c.args.ours.now = omega arith in
-    all_places s t c.args.ours.now told (subst (λ (k : ℕ). AreSame s t (take k (entries s.collections))) all (inv.same h j s t e o told))
+    all_places s t c.args.ours.now reported (subst (λ (k : ℕ). AreSame s t (take k (entries s.collections))) all (inv.same h j s t e o reported))

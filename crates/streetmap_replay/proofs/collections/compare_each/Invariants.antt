@@ -7,7 +7,7 @@ use Rattle.streetmap_replay.specs.Alike.{AreSame}
 use Rattle.streetmap_replay.specs.Calls.{AreReads}
 use Rattle.streetmap_replay.proofs.collections.compare_each.Given as goal
 
--- so many collections are the same, and both states stay
+-- that number of collections are the same, and both states stay
 abbrev pub invariant-loop-summary : goal.invariant-loop-summary
 invariant-loop-summary g l =
     let kept = g.K.Keeper.model in

@@ -5,20 +5,20 @@ use Rattle.std.specs.FinMap.{get, values}
 use Rattle.streetmap_ledger.specs.Summaries.{summary_in}
 use Rattle.streetmap_ledger.specs.SummaryView.{summary_value}
 use Rattle.streetmap_replay.specs.Alike.{IsSame}
-use Rattle.streetmap_replay.proofs.SameCollections.{told_of, same_by_features, decided_as}
+use Rattle.streetmap_replay.proofs.SameCollections.{reported_of, same_by_features, decided_as}
 use Rattle.streetmap_replay.proofs.CallsInTurn.{no_reads, read_of, failed_read, reads_then}
 use Rattle.streetmap_replay.proofs.collections.is_alike.Goals as goal
 
 pub returns-then-is_declared_alike-clause-compares : goal.returns-then-is_declared_alike-clause-compares
-returns-then-is_declared_alike-clause-compares g c = λ h j s t e o told.
+returns-then-is_declared_alike-clause-compares g c = λ h j s t e o reported.
     let has = c.has_same_features.ensures in
     let seen = c.in-Ok-Some.ensures.reads (has.fresh.calls.began_clean j) t o in
     let name = string_bytes c.args.ours.now.id in
     let its : summary_in t name ≡ Some (summary_value c.in-Ok-Some.theirs) =
     ap (summary_in t) (sym c.as_str.ensures.value)
     ∙ (sym seen.0 ∙ ap (option_map summary_value) c.in-Ok-Some.field-0-is) in
-    let mine = told_of s name (summary_value c.args.ours.now) told in
-    let their = told_of t name (summary_value c.in-Ok-Some.theirs) its in
+    let mine = reported_of s name (summary_value c.args.ours.now) reported in
+    let their = reported_of t name (summary_value c.in-Ok-Some.theirs) its in
     let alike = c.is_declared_alike.ensures.0 c.if-is_declared_alike.true in
     let title : mine.collection.title ≡ their.collection.title =
     sym mine.title ∙ (alike.0 ∙ their.title) in

@@ -65,9 +65,9 @@ returns-in-Ok-Last-clause-compares g c = λ h j s t x y e o there here one.
     let so = inv.so_far began other s t x y e o there here one in
     let name = c.args.name.now in
     let p = ap (option_map page_value) (sym c.in-Ok-Some.field-0-is)
-    ∙ (shown.0 ∙ ap (page_in s name) c.query_behind-query.ensures) in
+    ∙ (shown.0 ∙ ap (page_in s name) c.query_after-query.ensures) in
     let q = ap (option_map page_value) (sym c.in-Ok-Some-page.field-0-is)
-    ∙ (seen.0 ∙ ap (page_in t name) c.query_behind-query.ensures) in
+    ∙ (seen.0 ∙ ap (page_in t name) c.query_after-query.ensures) in
     let same = last_same s t name x y sound after there here one c.loop-turn.after so
     (page_value c.in-Ok-Some.page) (page_value c.in-Ok-Some-page.page) p q
     (rw c.in-Ok-Last.field-0-is at c.in-Ok-Last.ensures) in
@@ -91,9 +91,9 @@ loop-turn-preserved g c =
           let so = inv.so_far began other s t x y e o there here one in
           let name = c.args.name.now in
           let p = ap (option_map page_value) (sym c.in-Ok-Some.field-0-is)
-          ∙ (shown.0 ∙ ap (page_in s name) c.query_behind-query.ensures) in
+          ∙ (shown.0 ∙ ap (page_in s name) c.query_after-query.ensures) in
           let q = ap (option_map page_value) (sym c.in-Ok-Some-page.field-0-is)
-          ∙ (seen.0 ∙ ap (page_in t name) c.query_behind-query.ensures) in
+          ∙ (seen.0 ∙ ap (page_in t name) c.query_after-query.ensures) in
           next_same s t name x y sound after there here one c.loop-turn.after so c.in-Ok-Next.id
           (page_value c.in-Ok-Some.page) (page_value c.in-Ok-Some-page.page) p q
           (rw c.in-Ok-Next.field-0-is at c.in-Ok-Next.ensures);

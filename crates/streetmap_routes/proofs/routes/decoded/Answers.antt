@@ -1,6 +1,6 @@
 use Rattle.std.proofs.Common.{ap, ◌∙◌}
 use Rattle.percent_encoding.specs.Percent.{percent_decode}
-use Rattle.streetmap_routes.specs.Ask.{decoded, if_text, segment}
+use Rattle.streetmap_routes.specs.Operations.{decoded, if_text, segment}
 use Rattle.streetmap_routes.proofs.Decoding.{decoded_text}
 use Rattle.streetmap_routes.proofs.routes.decoded.Goals as goal
 

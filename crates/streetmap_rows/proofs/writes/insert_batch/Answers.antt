@@ -3,17 +3,17 @@ use Rattle.sqlite.specs.Held.{state}
 use Rattle.sqlite_value.specs.Value.{owned}
 use Rattle.sqlite.specs.State.{ExecutesInside}
 use Rattle.sqlite.specs.declared.types.Value.TheVariants.{Int}
-use Rattle.streetmap_rows.specs.Stands.{StandsFor}
+use Rattle.streetmap_rows.specs.Representations.{StandsFor}
 use Rattle.streetmap_rows.specs.Elsewhere.{IsSameElsewhere}
 use Rattle.streetmap_rows.specs.Statements.{insert_batch}
 use Rattle.streetmap_rows.proofs.ResultCases.{handed_on, err_handed_on}
 use Rattle.streetmap_rows.proofs.ErrorReasons.{run_inside}
-use Rattle.streetmap_rows.proofs.StateWrites.{keep_stands, keep_told}
+use Rattle.streetmap_rows.proofs.StateWrites.{keep_represented, keep_reported}
 use Rattle.streetmap_rows.proofs.BoundParameters.{seven}
 use Rattle.streetmap_rows.proofs.writes.insert_batch.Goals as goal
 
 pub returns-clause-writes : goal.returns-clause-writes
-returns-clause-writes g c clean inside limit s t stands leads =
+returns-clause-writes g c clean inside limit s t represented leads =
     let old = state g.S.Store c.args.tx.now.conn.now in
     let new = state g.S.Store c.execute.new.self.conn.now in
     let e3 : owned c.params-to_sql-3.result ≡ Int (pos c.args.counts.opened) = search rules in
@@ -22,10 +22,10 @@ returns-clause-writes g c clean inside limit s t stands leads =
     let e6 : owned c.params-to_sql-6.result ≡ Int (pos c.args.counts.deleted) = search rules in
     let e7 : owned c.params-to_sql-7.result ≡ Int (pos c.args.serial) = search rules in
     let ran = subst (λ row. ExecutesInside 0 insert_batch row old new (Ok c.in_ok-execute.field-0)) (seven c.params-to_sql.ensures c.params-to_sql-2.ensures e3 e4 e5 e6 e7) (c.in_ok-execute.ensures.runs clean inside) in
-    subst (λ x. StandsFor x new.now × IsSameElsewhere old.now new.now) (sym leads.is) (keep_stands old new s stands limit c.args.key.now (record { text = c.args.text.now; counts = c.args.counts; serial = c.args.serial }) leads.absent leads.next leads.counted _ ran.0)
+    subst (λ x. StandsFor x new.now × IsSameElsewhere old.now new.now) (sym leads.is) (keep_represented old new s represented limit c.args.key.now (record { text = c.args.text.now; counts = c.args.counts; serial = c.args.serial }) leads.absent leads.next leads.counted _ ran.0)
 
 pub returns-in_err-execute-clause-writes : goal.returns-in_err-execute-clause-writes
-returns-in_err-execute-clause-writes g c clean inside limit s t stands leads =
+returns-in_err-execute-clause-writes g c clean inside limit s t represented leads =
     let old = state g.S.Store c.args.tx.now.conn.now in
     let new = state g.S.Store c.execute.new.self.conn.now in
     let e3 : owned c.params-to_sql-3.result ≡ Int (pos c.args.counts.opened) = search rules in
@@ -34,7 +34,7 @@ returns-in_err-execute-clause-writes g c clean inside limit s t stands leads =
     let e6 : owned c.params-to_sql-6.result ≡ Int (pos c.args.counts.deleted) = search rules in
     let e7 : owned c.params-to_sql-7.result ≡ Int (pos c.args.serial) = search rules in
     let ran = subst (λ row. ExecutesInside 0 insert_batch row old new (Err c.in_err-execute.field-0.0)) (seven c.params-to_sql.ensures c.params-to_sql-2.ensures e3 e4 e5 e6 e7) (c.in_err-execute.ensures.runs clean inside) in
-    handed_on c.from_residual.result c.in_err-execute.field-0.0 _ _ c.from_residual.ensures.1 (keep_told old new s stands limit c.args.key.now (record { text = c.args.text.now; counts = c.args.counts; serial = c.args.serial }) leads.absent leads.next leads.counted _ ran)
+    handed_on c.from_residual.result c.in_err-execute.field-0.0 _ _ c.from_residual.ensures.1 (keep_reported old new s represented limit c.args.key.now (record { text = c.args.text.now; counts = c.args.counts; serial = c.args.serial }) leads.absent leads.next leads.counted _ ran)
 
 pub returns-in_err-execute-clause-reason : goal.returns-in_err-execute-clause-reason
 returns-in_err-execute-clause-reason g c clean =

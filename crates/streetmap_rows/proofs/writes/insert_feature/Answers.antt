@@ -5,17 +5,17 @@ use Rattle.sqlite.specs.Values.{or_null}
 use Rattle.sqlite.specs.declared.types.Value.TheVariants.{Int}
 use Rattle.streetmap_grid.specs.Values.{BoxValue}
 use Rattle.streetmap_grid.specs.Views.{box_value}
-use Rattle.streetmap_rows.specs.Stands.{StandsFor}
+use Rattle.streetmap_rows.specs.Representations.{StandsFor}
 use Rattle.streetmap_rows.specs.Elsewhere.{IsSameElsewhere}
 use Rattle.streetmap_rows.specs.Statements.{insert_feature}
 use Rattle.streetmap_rows.proofs.ResultCases.{handed_on, err_handed_on}
 use Rattle.streetmap_rows.proofs.ErrorReasons.{run_inside}
-use Rattle.streetmap_rows.proofs.StateWrites.{insert_stands, insert_told}
+use Rattle.streetmap_rows.proofs.StateWrites.{insert_represented, insert_reported}
 use Rattle.streetmap_rows.proofs.BoundParameters.{nine, feature_bound}
 use Rattle.streetmap_rows.proofs.writes.insert_feature.Goals as goal
 
 pub returns-clause-writes : goal.returns-clause-writes
-returns-clause-writes g c clean inside f is limit s t stands leads =
+returns-clause-writes g c clean inside f is limit s t represented leads =
     let old = state g.S.Store c.args.tx.now.conn.now in
     let new = state g.S.Store c.execute.new.self.conn.now in
     let e4 : c.map.result ≡ option_map (λ (b : BoxValue). b.x0) (option_map box_value c.args.extent) = search rules in
@@ -25,10 +25,10 @@ returns-clause-writes g c clean inside f is limit s t stands leads =
     let e8 : c.map-5.result ≡ option_map (λ (s : ℤ × ℤ). s.0) c.args.seconds = search rules in
     let e9 : c.map-6.result ≡ option_map (λ (s : ℤ × ℤ). s.1) c.args.seconds = search rules in
     let ran = subst (λ row. ExecutesInside 0 insert_feature row old new (Ok c.in_ok-execute.field-0)) (nine c.params-to_sql.ensures c.params-to_sql-2.ensures c.params-to_sql-3.ensures (c.params-to_sql-4.ensures ∙ ap (or_null Int) e4) (c.params-to_sql-5.ensures ∙ ap (or_null Int) e5) (c.params-to_sql-6.ensures ∙ ap (or_null Int) e6) (c.params-to_sql-7.ensures ∙ ap (or_null Int) e7) (c.params-to_sql-8.ensures ∙ ap (or_null Int) e8) (c.params-to_sql-9.ensures ∙ ap (or_null Int) e9) ∙ feature_bound (c.args.collection.now, c.args.id.now) f _ _ _ is) (c.in_ok-execute.ensures.runs clean inside) in
-    subst (λ x. StandsFor x new.now × IsSameElsewhere old.now new.now) (sym leads.is) (insert_stands old new s stands limit (c.args.collection.now, c.args.id.now) leads.collection leads.there f leads.absent leads.fine _ ran.0)
+    subst (λ x. StandsFor x new.now × IsSameElsewhere old.now new.now) (sym leads.is) (insert_represented old new s represented limit (c.args.collection.now, c.args.id.now) leads.collection leads.there f leads.absent leads.fine _ ran.0)
 
 pub returns-in_err-execute-clause-writes : goal.returns-in_err-execute-clause-writes
-returns-in_err-execute-clause-writes g c clean inside f is limit s t stands leads =
+returns-in_err-execute-clause-writes g c clean inside f is limit s t represented leads =
     let old = state g.S.Store c.args.tx.now.conn.now in
     let new = state g.S.Store c.execute.new.self.conn.now in
     let e4 : c.map.result ≡ option_map (λ (b : BoxValue). b.x0) (option_map box_value c.args.extent) = search rules in
@@ -38,7 +38,7 @@ returns-in_err-execute-clause-writes g c clean inside f is limit s t stands lead
     let e8 : c.map-5.result ≡ option_map (λ (s : ℤ × ℤ). s.0) c.args.seconds = search rules in
     let e9 : c.map-6.result ≡ option_map (λ (s : ℤ × ℤ). s.1) c.args.seconds = search rules in
     let ran = subst (λ row. ExecutesInside 0 insert_feature row old new (Err c.in_err-execute.field-0.0)) (nine c.params-to_sql.ensures c.params-to_sql-2.ensures c.params-to_sql-3.ensures (c.params-to_sql-4.ensures ∙ ap (or_null Int) e4) (c.params-to_sql-5.ensures ∙ ap (or_null Int) e5) (c.params-to_sql-6.ensures ∙ ap (or_null Int) e6) (c.params-to_sql-7.ensures ∙ ap (or_null Int) e7) (c.params-to_sql-8.ensures ∙ ap (or_null Int) e8) (c.params-to_sql-9.ensures ∙ ap (or_null Int) e9) ∙ feature_bound (c.args.collection.now, c.args.id.now) f _ _ _ is) (c.in_err-execute.ensures.runs clean inside) in
-    handed_on c.from_residual.result c.in_err-execute.field-0.0 _ _ c.from_residual.ensures.1 (insert_told old new s stands limit (c.args.collection.now, c.args.id.now) leads.collection leads.there f leads.absent _ ran)
+    handed_on c.from_residual.result c.in_err-execute.field-0.0 _ _ c.from_residual.ensures.1 (insert_reported old new s represented limit (c.args.collection.now, c.args.id.now) leads.collection leads.there f leads.absent _ ran)
 
 pub returns-in_err-execute-clause-reason : goal.returns-in_err-execute-clause-reason
 returns-in_err-execute-clause-reason g c clean =

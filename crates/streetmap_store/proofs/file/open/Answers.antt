@@ -1,7 +1,7 @@
 use Rattle.sqlite.specs.State.{HasCleanDisk}
 use Rattle.sqlite.specs.Files.{file_state}
 use Rattle.streetmap_store.proofs.JustOpened.{rests, rests_old}
-use Rattle.streetmap_store.proofs.Refusals.{unopened_to_open, not_connected, not_adopted_for, ours_spared, old_spared}
+use Rattle.streetmap_store.proofs.Refusals.{unopened_to_open, not_connected, not_adopted_for, ours_blame_no_file, old_blame_no_file}
 use Rattle.streetmap_store.proofs.file.open.Goals as goal
 
 pub returns-in-Ok-adopt-clause-opened : goal.returns-in-Ok-adopt-clause-opened
@@ -20,17 +20,17 @@ returns-in-Err-clause-refused g c clean = rw c.of_files.ensures (not_connected _
 pub returns-in-Err-adopt-clause-refused : goal.returns-in-Err-adopt-clause-refused
 returns-in-Err-adopt-clause-refused g c clean =
     let connected : HasCleanDisk (file_state c.in-Ok.conn) = c.in-Err-adopt.ensures.clean clean in
-    rw c.of_tables.ensures (not_adopted_for _ _ (file_state c.in-Ok.conn) (λ P p. record { first = c.in-Ok.conn; on = c.in-Ok.ensures.opened; clean = connected; showed = p }) _ (c.in-Err-adopt.ensures.tells clean))
+    rw c.of_tables.ensures (not_adopted_for _ _ (file_state c.in-Ok.conn) (λ P p. record { first = c.in-Ok.conn; on = c.in-Ok.ensures.opened; clean = connected; showed = p }) _ (c.in-Err-adopt.ensures.reports clean))
 
 pub returns-in-Err-adopt-clause-ours : goal.returns-in-Err-adopt-clause-ours
 returns-in-Err-adopt-clause-ours g c clean s held =
     let connected : HasCleanDisk (file_state c.in-Ok.conn) = c.in-Err-adopt.ensures.clean clean in
-    rw c.of_tables.ensures (ours_spared s (file_state c.in-Ok.conn) (file_state c.in-Err-adopt.conn) _ (c.in-Err-adopt.ensures.refused clean s (rests _ c.in-Ok.conn c.in-Ok.ensures.opened connected s held)))
+    rw c.of_tables.ensures (ours_blame_no_file s (file_state c.in-Ok.conn) (file_state c.in-Err-adopt.conn) _ (c.in-Err-adopt.ensures.refused clean s (rests _ c.in-Ok.conn c.in-Ok.ensures.opened connected s held)))
 
 pub returns-in-Err-adopt-clause-ours_old : goal.returns-in-Err-adopt-clause-ours_old
 returns-in-Err-adopt-clause-ours_old g c clean s held =
     let connected : HasCleanDisk (file_state c.in-Ok.conn) = c.in-Err-adopt.ensures.clean clean in
-    rw c.of_tables.ensures (old_spared s (file_state c.in-Ok.conn) (file_state c.in-Err-adopt.conn) _ (c.in-Err-adopt.ensures.refused_old clean s (rests_old _ c.in-Ok.conn c.in-Ok.ensures.opened connected s held)))
+    rw c.of_tables.ensures (old_blame_no_file s (file_state c.in-Ok.conn) (file_state c.in-Err-adopt.conn) _ (c.in-Err-adopt.ensures.refused_old clean s (rests_old _ c.in-Ok.conn c.in-Ok.ensures.opened connected s held)))
 
 pub returns-in-Err-adopt-clause-stays : goal.returns-in-Err-adopt-clause-stays
 returns-in-Err-adopt-clause-stays g c clean =

@@ -5,9 +5,9 @@ use Rattle.sqlite.specs.State.{HasCleanDisk}
 use Rattle.sqlite.proofs.StateLemmas.{survives_then}
 use Rattle.streetmap_batch.specs.BatchView.{edit_value}
 use Rattle.streetmap_ledger.specs.Batches.{edited}
-use Rattle.streetmap_tables.specs.Editing.{AnsweredAll}
+use Rattle.streetmap_tables.specs.EditEffects.{AnsweredAll}
 use Rattle.streetmap_rows.proofs.ResultCases.{handed_on}
-use Rattle.streetmap_tables.proofs.Editing.{edited_parts, edited_refused, none_left}
+use Rattle.streetmap_tables.proofs.EditEffects.{edited_parts, edited_refused, none_left}
 use Rattle.streetmap_tables.proofs.CallsInTransaction.{same_all, keeps_then, rest_then}
 use Rattle.streetmap_tables.proofs.KnownCollections.{still_known}
 use Rattle.streetmap_tables.proofs.edits.edit_each.Goals as goal
@@ -17,14 +17,14 @@ runs-init g c = (
   refl,
   record { clean = omega arith; shield = λ x. x; counts = omega arith; limit = refl; closes = λ _ o. inl o; crash = λ _ db m. inl m },
   omega arith,
-  λ clean limit inside s stands. (s, refl, stands, inside, (record { was_open = λ o. o; committed = λ _. refl }, same_all (state g.S.Store c.args.tx.now.conn.now).now _ refl), tt),
+  λ clean limit inside s represented. (s, refl, represented, inside, (record { was_open = λ o. o; committed = λ _. refl }, same_all (state g.S.Store c.args.tx.now.conn.now).now _ refl), tt),
 )
 
 pub returns-in_err-place-clause-edits : goal.returns-in_err-place-clause-edits
-returns-in_err-place-clause-edits g c clean limit inside s stands =
+returns-in_err-place-clause-edits g c clean limit inside s represented =
     let inv = c.runs.invariant in
     let early : HasCleanDisk (state g.S.Store c.runs.tx.conn.now) = omega (arith, clean, c.edit_run.ensures.survives.clean) in
-    let r = inv.3 early limit inside s stands in
+    let r = inv.3 early limit inside s represented in
     let e = c.in_err-place.ensures.edits clean (inv.1.limit ∙ limit) r.3 r.0 r.2 r.5 in
     handed_on _ _ _ _ c.from_residual.ensures.1 (e.0, keeps_then (state g.S.Store c.args.tx.now.conn.now) (state g.S.Store c.runs.tx.conn.now) (state g.S.Store c.edit_run.new.tx.conn.now) r.4.0 e.1)
 
@@ -34,14 +34,14 @@ overflow_add-result g c =
     omega (arith, placed, c.runs.invariant.2, c.split_at.ensures.back_len, c.split_at.ensures.front_len, c.runs.auto.done-fits)
 
 pub returns-in-Some-clause-edits : goal.returns-in-Some-clause-edits
-returns-in-Some-clause-edits g c clean limit inside s stands =
+returns-in-Some-clause-edits g c clean limit inside s represented =
     let inv = c.runs.invariant in
     let run = c.split_at.result.0.now in
     let more = c.split_at.result.1.now in
     let mid = state g.S.Store c.runs.tx.conn.now in
     let new = state g.S.Store c.edit_run.new.tx.conn.now in
     let early : HasCleanDisk mid = omega (arith, clean, c.edit_run.ensures.survives.clean) in
-    let r = inv.3 early limit inside s stands in
+    let r = inv.3 early limit inside s represented in
     let e = c.in_ok-place.ensures.edits clean (inv.1.limit ∙ limit) r.3 r.0 r.2 r.5 in
     let stopped = subst (AnsweredAll r.0 (map edit_value run) new) c.in-Some.is e.0 in (
       r.1 ∙ ap (λ es. edited (c.runs.done + 1) r.0 es) (ap (map edit_value) c.split_at.ensures.by_index.0 ∙ map-append edit_value run more)
@@ -60,9 +60,9 @@ runs-preserved g c =
       c.edit_run.ensures.same_reference ∙ inv.0,
       survives_then old mid new (λ _. ⊥) (λ _. ⊥) (λ _. ⊥) (λ _ _ h. h) (λ _ _ h. h) inv.1 c.edit_run.ensures.survives,
       omega (arith, inv.2, c.split_at.ensures.front_len, c.split_at.ensures.back_len),
-      λ clean limit inside s stands.
+      λ clean limit inside s represented.
           let early : HasCleanDisk mid = omega (arith, clean, c.edit_run.ensures.survives.clean) in
-          let r = inv.3 early limit inside s stands in
+          let r = inv.3 early limit inside s represented in
           let e = c.in_ok-place.ensures.edits clean (inv.1.limit ∙ limit) r.3 r.0 r.2 r.5 in
           let did = subst (AnsweredAll r.0 (map edit_value run) new) c.in_default.is e.0 in
           let count : length (map edit_value run) ≡ length run = length-map run edit_value in (
@@ -77,7 +77,7 @@ runs-preserved g c =
     )
 
 pub returns-clause-edits : goal.returns-clause-edits
-returns-clause-edits g c clean limit inside s stands =
-    let r = c.runs.invariant.3 clean limit inside s stands in
+returns-clause-edits g c clean limit inside s represented =
+    let r = c.runs.invariant.3 clean limit inside s represented in
     let none = none_left c.runs.rest.now c.is_empty.result c.is_empty.ensures c.runs-test.false in
     ((r.0, r.1 ∙ ap (λ es. edited (c.runs.done + 1) r.0 (map edit_value es)) none, r.2, r.3), r.4)

@@ -4,9 +4,9 @@ use Rattle.sqlite.specs.State.{HasCleanDisk, Survives}
 use Rattle.streetmap_batch.specs.BatchView.{edit_value}
 use Rattle.streetmap_ledger.specs.State.{State}
 use Rattle.streetmap_ledger.specs.Batches.{edited}
-use Rattle.streetmap_rows.specs.Stands.{StandsFor}
-use Rattle.streetmap_tables.specs.Editing.{KeepsRest}
-use Rattle.streetmap_tables.specs.Inserting.{IsKnown}
+use Rattle.streetmap_rows.specs.Representations.{StandsFor}
+use Rattle.streetmap_tables.specs.EditEffects.{KeepsRest}
+use Rattle.streetmap_tables.specs.Insertions.{IsKnown}
 use Rattle.streetmap_tables.proofs.edits.edit_each.Given as goal
 
 abbrev pub invariant-runs : goal.invariant-runs

@@ -4,8 +4,8 @@ use Rattle.sqlite.specs.State.{HasCleanDisk, Survives}
 use Rattle.streetmap_batch.specs.BatchView.{edit_value}
 use Rattle.streetmap_ledger.specs.State.{State}
 use Rattle.streetmap_ledger.specs.Batches.{edited}
-use Rattle.streetmap_rows.specs.Stands.{StandsFor}
-use Rattle.streetmap_tables.specs.Editing.{KeepsRest}
+use Rattle.streetmap_rows.specs.Representations.{StandsFor}
+use Rattle.streetmap_tables.specs.EditEffects.{KeepsRest}
 use Rattle.std.proofs.Common.{None}
 use Rattle.streetmap_tables.proofs.edits.edit_in_turn.Given as goal
 

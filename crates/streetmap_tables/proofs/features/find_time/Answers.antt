@@ -1,28 +1,28 @@
 use Rattle.std.proofs.Common.{rules, ◌≡◌, Some, ap, sym, subst, ◌∙◌, if◌then◌else◌}
 use Rattle.std.specs.FinMap.{get}
 use Rattle.streetmap_ledger.specs.State.{Collection}
-use Rattle.streetmap_rows.specs.Failing.{is_memory}
+use Rattle.streetmap_rows.specs.Failures.{is_memory}
 use Rattle.streetmap_rows.specs.Views.{collection_view}
 use Rattle.streetmap_rows.specs.declared.fault.ReadFault.TheVariants.{Memory, Unread}
-use Rattle.streetmap_tables.proofs.RestsAfterLook.{the_row}
-use Rattle.streetmap_tables.specs.Part.{IsSpared}
+use Rattle.streetmap_tables.proofs.RestsAfterRead.{the_row}
+use Rattle.streetmap_tables.specs.Part.{IsMemoryOrStore}
 use Rattle.streetmap_tables.proofs.features.find_time.Goals as goal
 
 pub returns-in-Err-clause-finds : goal.returns-in-Err-clause-finds
-returns-in-Err-clause-finds g c clean limit t k stands there = let r = c.in-Err.ensures.looks clean limit t stands in subst IsSpared (sym (c.fault_of.ensures.store r.0)) r.0
+returns-in-Err-clause-finds g c clean limit t k represented there = let r = c.in-Err.ensures.reads_state clean limit t represented in subst IsMemoryOrStore (sym (c.fault_of.ensures.store r.0)) r.0
 
 pub returns-in-Ok-time_in-clause-finds : goal.returns-in-Ok-time_in-clause-finds
-returns-in-Ok-time_in-clause-finds g c clean limit t k stands there =
-    let r = c.in-Ok.ensures.looks clean limit t stands in
+returns-in-Ok-time_in-clause-finds g c clean limit t k represented there =
+    let r = c.in-Ok.ensures.reads_state clean limit t represented in
     let found = the_row collection_view (get t.collections c.args.collection.now) c.deref.result.now c.in-Some.row.now (search rules) c.in-Some.ensures.value in
-    let told = c.in-Ok-time_in.ensures.reads c.args.collection.now found.0 found.2 (stands.readable.collections c.args.collection.now found.0 found.1) in
+    let reported = c.in-Ok-time_in.ensures.reads c.args.collection.now found.0 found.2 (represented.readable.collections c.args.collection.now found.0 found.1) in
     let both : Some found.0 ≡ Some k = sym found.1 ∙ there in
     let same : found.0 ≡ k = cc in
-    (told ∙ ap (λ (x : Collection). x.time) same, r.1)
+    (reported ∙ ap (λ (x : Collection). x.time) same, r.1)
 
 pub returns-clause-finds : goal.returns-clause-finds
-returns-clause-finds g c clean limit t k stands there =
-    let r = c.in-Ok.ensures.looks clean limit t stands in
+returns-clause-finds g c clean limit t k represented there =
+    let r = c.in-Ok.ensures.reads_state clean limit t represented in
     let found = the_row collection_view (get t.collections c.args.collection.now) c.deref.result.now c.in-Some.row.now (search rules) c.in-Some.ensures.value in
-    let told = c.in-Err-time_in.ensures.reads c.args.collection.now found.0 found.2 (stands.readable.collections c.args.collection.now found.0 found.1) in
-    subst IsSpared (sym (c.unread.ensures ∙ ap (λ e. if is_memory e then Memory else Unread) told)) tt
+    let reported = c.in-Err-time_in.ensures.reads c.args.collection.now found.0 found.2 (represented.readable.collections c.args.collection.now found.0 found.1) in
+    subst IsMemoryOrStore (sym (c.unread.ensures ∙ ap (λ e. if is_memory e then Memory else Unread) reported)) tt

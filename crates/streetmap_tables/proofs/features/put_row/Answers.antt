@@ -4,52 +4,52 @@ use Rattle.sqlite.specs.Held.{state}
 use Rattle.sqlite.specs.State.{HasCleanDisk}
 use Rattle.streetmap_geojson.specs.FeatureValue.{FeatureValue}
 use Rattle.streetmap_ledger.specs.State.{timed, with_feature, with_features}
-use Rattle.streetmap_rows.specs.Stands.{StandsFor}
+use Rattle.streetmap_rows.specs.Representations.{StandsFor}
 use Rattle.streetmap_rows.specs.Elsewhere.{IsSameElsewhere}
 use Rattle.streetmap_rows.proofs.ResultCases.{handed_on}
 use Rattle.streetmap_rows.specs.Stored.{IsStored}
-use Rattle.streetmap_tables.proofs.CallsInTransaction.{stands_still}
+use Rattle.streetmap_tables.proofs.CallsInTransaction.{still_represented}
 use Rattle.streetmap_rows.specs.Calls.{RanInsert}
 use Rattle.streetmap_rows.specs.Rows.{feature_text}
-use Rattle.streetmap_tables.specs.Part.{IsSpared}
+use Rattle.streetmap_tables.specs.Part.{IsMemoryOrStore}
 use Rattle.streetmap_tables.proofs.PartOfState.{to_put, after, lacks_after, put_is, never_untimed}
 use Rattle.streetmap_tables.proofs.Reasons.{reason_in, reason_in_later}
 use Rattle.streetmap_tables.proofs.features.put_row.Goals as goal
 
 pub returns-in_err-collection-clause-puts : goal.returns-in_err-collection-clause-puts
-returns-in_err-collection-clause-puts g c clean limit inside s t more well stands lacks =
+returns-in_err-collection-clause-puts g c clean limit inside s t more well represented lacks =
     let it = to_put s t c.args.row.now more lacks well in
-    let told = c.in_err-collection.ensures.reads it.p it.f it.row_is (stands.readable.collections it.p.0 it.c it.there).id in
-    handed_on _ _ _ _ c.from_residual.ensures.1 (subst IsSpared (sym told) tt)
+    let reported = c.in_err-collection.ensures.reads it.p it.f it.row_is (represented.readable.collections it.p.0 it.c it.there).id in
+    handed_on _ _ _ _ c.from_residual.ensures.1 (subst IsMemoryOrStore (sym reported) tt)
 
 pub returns-in_err-time-clause-puts : goal.returns-in_err-time-clause-puts
-returns-in_err-time-clause-puts g c clean limit inside s t more well stands lacks =
+returns-in_err-time-clause-puts g c clean limit inside s t more well represented lacks =
     let it = to_put s t c.args.row.now more lacks well in
-    let named = c.as_str.ensures.value ∙ c.in_ok-collection.ensures.reads it.p it.f it.row_is (stands.readable.collections it.p.0 it.c it.there).id in
-    handed_on _ _ _ _ c.from_residual-in_err-time.ensures.1 (c.in_err-time.ensures.finds clean limit t it.c stands (ap (get t.collections) named ∙ it.there))
+    let named = c.as_str.ensures.value ∙ c.in_ok-collection.ensures.reads it.p it.f it.row_is (represented.readable.collections it.p.0 it.c it.there).id in
+    handed_on _ _ _ _ c.from_residual-in_err-time.ensures.1 (c.in_err-time.ensures.finds clean limit t it.c represented (ap (get t.collections) named ∙ it.there))
 
 pub returns-in_err-feature-clause-puts : goal.returns-in_err-feature-clause-puts
-returns-in_err-feature-clause-puts g c clean limit inside s t more well stands lacks =
+returns-in_err-feature-clause-puts g c clean limit inside s t more well represented lacks =
     let it = to_put s t c.args.row.now more lacks well in
-    let named = c.as_str.ensures.value ∙ c.in_ok-collection.ensures.reads it.p it.f it.row_is (stands.readable.collections it.p.0 it.c it.there).id in
-    let found = c.in_ok-time.ensures.finds clean limit t it.c stands (ap (get t.collections) named ∙ it.there) in
+    let named = c.as_str.ensures.value ∙ c.in_ok-collection.ensures.reads it.p it.f it.row_is (represented.readable.collections it.p.0 it.c it.there).id in
+    let found = c.in_ok-time.ensures.finds clean limit t it.c represented (ap (get t.collections) named ∙ it.there) in
     let stored = subst (λ p. IsStored p it.f) (sym (c.as_deref.ensures.value ∙ found.0)) (record { kept = it.placed.is; timed = it.placed.timed }) in
-    handed_on _ _ _ _ c.from_residual-in_err-feature.ensures.1 (subst IsSpared (sym (c.in_err-feature.ensures.reads it.p it.f it.row_is it.placed.named stored)) tt)
+    handed_on _ _ _ _ c.from_residual-in_err-feature.ensures.1 (subst IsMemoryOrStore (sym (c.in_err-feature.ensures.reads it.p it.f it.row_is it.placed.named stored)) tt)
 
 pub returns-in-Ok-None-clause-puts : goal.returns-in-Ok-None-clause-puts
-returns-in-Ok-None-clause-puts g c clean limit inside s t more well stands lacks =
+returns-in-Ok-None-clause-puts g c clean limit inside s t more well represented lacks =
     let a = state g.S.Store c.args.tx.now.conn.now in
     let b = state g.S.Store c.find_time.new.tx.conn.now in
     let new = state g.S.Store c.put_feature.new.tx.conn.now in
     let early : HasCleanDisk b = omega (arith, clean, c.put_feature.ensures.survives.clean) in
     let it = to_put s t c.args.row.now more lacks well in
-    let name = c.in_ok-collection.ensures.reads it.p it.f it.row_is (stands.readable.collections it.p.0 it.c it.there).id in
-    let found = c.in_ok-time.ensures.finds early limit t it.c stands (ap (get t.collections) (c.as_str.ensures.value ∙ name) ∙ it.there) in
+    let name = c.in_ok-collection.ensures.reads it.p it.f it.row_is (represented.readable.collections it.p.0 it.c it.there).id in
+    let found = c.in_ok-time.ensures.finds early limit t it.c represented (ap (get t.collections) (c.as_str.ensures.value ∙ name) ∙ it.there) in
     let stored = subst (λ p. IsStored p it.f) (sym (c.as_deref.ensures.value ∙ found.0)) (record { kept = it.placed.is; timed = it.placed.timed }) in
     let same = c.in_ok-feature.ensures.reads it.p it.f it.row_is it.placed.named stored in
     let named = c.as_str-2.ensures.value ∙ name in
     let absent = ap (λ (x : FeatureValue). get it.c.features x.id) same ∙ ap (get it.c.features) it.placed.named ∙ it.absent in
-    let put = c.in-Ok-None.ensures.puts clean (c.find_time.ensures.survives.limit ∙ limit) (found.1.0.mode ∙ inside) t it.c (stands_still a b t found.1 stands) (ap (get t.collections) named ∙ it.there) (sym found.0 ∙ sym c.as_deref-2.ensures.value) absent in
+    let put = c.in-Ok-None.ensures.puts clean (c.find_time.ensures.survives.limit ∙ limit) (found.1.0.mode ∙ inside) t it.c (still_represented a b t found.1 represented) (ap (get t.collections) named ∙ it.there) (sym found.0 ∙ sym c.as_deref-2.ensures.value) absent in
     let was = rw c.in-Ok-None.field-0-is at put.0 in
     let feature : was.0 ≡ it.f = put_is it.c.time it.p.1 it.f was.0 it.placed (ap (λ (x : FeatureValue). timed it.c.time x) (sym same) ∙ was.1) in
     let id : was.0.id ≡ it.p.1 = ap (λ (x : FeatureValue). x.id) feature ∙ it.placed.named in
@@ -59,36 +59,36 @@ returns-in-Ok-None-clause-puts g c clean limit inside s t more well stands lacks
     )
 
 pub returns-in-Ok-Some-clause-puts : goal.returns-in-Ok-Some-clause-puts
-returns-in-Ok-Some-clause-puts g c clean limit inside s t more well stands lacks =
+returns-in-Ok-Some-clause-puts g c clean limit inside s t more well represented lacks =
     let a = state g.S.Store c.args.tx.now.conn.now in
     let b = state g.S.Store c.find_time.new.tx.conn.now in
     let new = state g.S.Store c.put_feature.new.tx.conn.now in
     let early : HasCleanDisk b = omega (arith, clean, c.put_feature.ensures.survives.clean) in
     let it = to_put s t c.args.row.now more lacks well in
-    let name = c.in_ok-collection.ensures.reads it.p it.f it.row_is (stands.readable.collections it.p.0 it.c it.there).id in
-    let found = c.in_ok-time.ensures.finds early limit t it.c stands (ap (get t.collections) (c.as_str.ensures.value ∙ name) ∙ it.there) in
+    let name = c.in_ok-collection.ensures.reads it.p it.f it.row_is (represented.readable.collections it.p.0 it.c it.there).id in
+    let found = c.in_ok-time.ensures.finds early limit t it.c represented (ap (get t.collections) (c.as_str.ensures.value ∙ name) ∙ it.there) in
     let stored = subst (λ p. IsStored p it.f) (sym (c.as_deref.ensures.value ∙ found.0)) (record { kept = it.placed.is; timed = it.placed.timed }) in
     let same = c.in_ok-feature.ensures.reads it.p it.f it.row_is it.placed.named stored in
     let named = c.as_str-2.ensures.value ∙ name in
     let absent = ap (λ (x : FeatureValue). get it.c.features x.id) same ∙ ap (get it.c.features) it.placed.named ∙ it.absent in
-    let put = c.in-Ok-Some.ensures.puts clean (c.find_time.ensures.survives.limit ∙ limit) (found.1.0.mode ∙ inside) t it.c (stands_still a b t found.1 stands) (ap (get t.collections) named ∙ it.there) (sym found.0 ∙ sym c.as_deref-2.ensures.value) absent in
+    let put = c.in-Ok-Some.ensures.puts clean (c.find_time.ensures.survives.limit ∙ limit) (found.1.0.mode ∙ inside) t it.c (still_represented a b t found.1 represented) (ap (get t.collections) named ∙ it.there) (sym found.0 ∙ sym c.as_deref-2.ensures.value) absent in
     let was = rw c.in-Ok-Some.field-0-is at put.0 in
     absurd (never_untimed it.c.time it.p.1 it.f _ it.placed (ap (λ (x : FeatureValue). timed it.c.time x) (sym same) ∙ was))
 
 pub returns-clause-puts : goal.returns-clause-puts
-returns-clause-puts g c clean limit inside s t more well stands lacks =
+returns-clause-puts g c clean limit inside s t more well represented lacks =
     let a = state g.S.Store c.args.tx.now.conn.now in
     let b = state g.S.Store c.find_time.new.tx.conn.now in
     let early : HasCleanDisk b = omega (arith, clean, c.put_feature.ensures.survives.clean) in
     let it = to_put s t c.args.row.now more lacks well in
-    let name = c.in_ok-collection.ensures.reads it.p it.f it.row_is (stands.readable.collections it.p.0 it.c it.there).id in
-    let found = c.in_ok-time.ensures.finds early limit t it.c stands (ap (get t.collections) (c.as_str.ensures.value ∙ name) ∙ it.there) in
+    let name = c.in_ok-collection.ensures.reads it.p it.f it.row_is (represented.readable.collections it.p.0 it.c it.there).id in
+    let found = c.in_ok-time.ensures.finds early limit t it.c represented (ap (get t.collections) (c.as_str.ensures.value ∙ name) ∙ it.there) in
     let stored = subst (λ p. IsStored p it.f) (sym (c.as_deref.ensures.value ∙ found.0)) (record { kept = it.placed.is; timed = it.placed.timed }) in
     let same = c.in_ok-feature.ensures.reads it.p it.f it.row_is it.placed.named stored in
     let named = c.as_str-2.ensures.value ∙ name in
     let absent = ap (λ (x : FeatureValue). get it.c.features x.id) same ∙ ap (get it.c.features) it.placed.named ∙ it.absent in
-    let put = c.in-Err.ensures.puts clean (c.find_time.ensures.survives.limit ∙ limit) (found.1.0.mode ∙ inside) t it.c (stands_still a b t found.1 stands) (ap (get t.collections) named ∙ it.there) (sym found.0 ∙ sym c.as_deref-2.ensures.value) absent in
-    subst IsSpared (sym (c.fault_of.ensures.store put.0)) put.0
+    let put = c.in-Err.ensures.puts clean (c.find_time.ensures.survives.limit ∙ limit) (found.1.0.mode ∙ inside) t it.c (still_represented a b t found.1 represented) (ap (get t.collections) named ∙ it.there) (sym found.0 ∙ sym c.as_deref-2.ensures.value) absent in
+    subst IsMemoryOrStore (sym (c.fault_of.ensures.store put.0)) put.0
 
 pub returns-clause-reason : goal.returns-clause-reason
 returns-clause-reason g c clean =

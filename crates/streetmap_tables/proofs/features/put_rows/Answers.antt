@@ -3,7 +3,7 @@ use Rattle.std.proofs.lemmas.List.{drop_more}
 use Rattle.sqlite.specs.Held.{state}
 use Rattle.sqlite.specs.State.{HasCleanDisk}
 use Rattle.sqlite.proofs.StateLemmas.{survives_then}
-use Rattle.streetmap_rows.specs.Stands.{StandsFor}
+use Rattle.streetmap_rows.specs.Representations.{StandsFor}
 use Rattle.streetmap_rows.proofs.ResultCases.{handed_on}
 use Rattle.streetmap_tables.proofs.CallsInTransaction.{same_all, keeps_then}
 use Rattle.streetmap_tables.specs.Part.{Lacks, PutsEach}
@@ -17,17 +17,17 @@ rows-init g c = (
   refl,
   record { clean = omega arith; shield = λ x. x; counts = omega arith; limit = refl; closes = λ _ o. inl o; crash = λ _ db m. inl m },
   λ clean inside. (inside, record { was_open = λ o. o; committed = λ _. refl }),
-  (λ clean limit inside s t well stands lacks. (t, stands, lacks, same_all (state g.S.Store c.args.tx.now.conn.now).now _ refl)),
+  (λ clean limit inside s t well represented lacks. (t, represented, lacks, same_all (state g.S.Store c.args.tx.now.conn.now).now _ refl)),
   λ clean inside last each. each,
 )
 
 pub returns-in_err-put_row-clause-puts : goal.returns-in_err-put_row-clause-puts
-returns-in_err-put_row-clause-puts g c clean limit inside s t well stands lacks =
+returns-in_err-put_row-clause-puts g c clean limit inside s t well represented lacks =
     let inv = c.rows.invariant in
     let i = c.rows.row-index in
     let row = c.row-item.result in
     let early : HasCleanDisk (state g.S.Store c.rows.tx.conn.now) = omega (arith, clean, c.put_row.ensures.survives.clean) in
-    let r = inv.3 early limit inside s t well stands lacks in
+    let r = inv.3 early limit inside s t well represented lacks in
     let rest = drop_more c.args.rows.now i row (omega arith) ∙ ap (λ x. x ∷ drop (i + 1) c.args.rows.now) (sym c.row-item.is) in
     handed_on _ _ _ _ c.from_residual.ensures.1 (c.in_err-put_row.ensures.puts clean (inv.1.limit ∙ limit) (inv.2 early inside).0 s r.0 (drop (i + 1) c.args.rows.now) well r.1 (subst (λ l. Lacks l s r.0) rest r.2))
 
@@ -45,9 +45,9 @@ rows-preserved g c =
           let early : HasCleanDisk mid = omega (arith, clean, c.put_row.ensures.survives.clean) in
           let r = inv.2 early inside in
           (c.in_ok-put_row.ensures.inside clean r.0, keeps_then old mid new r.1 (c.in_ok-put_row.ensures.kept clean r.0)),
-      (λ clean limit inside s t well stands lacks.
+      (λ clean limit inside s t well represented lacks.
           let early : HasCleanDisk mid = omega (arith, clean, c.put_row.ensures.survives.clean) in
-          let r = inv.3 early limit inside s t well stands lacks in
+          let r = inv.3 early limit inside s t well represented lacks in
           let rest = drop_more c.args.rows.now i row (omega arith) ∙ ap (λ x. x ∷ drop (i + 1) c.args.rows.now) (sym c.row-item.is) in
           let e = c.in_ok-put_row.ensures.puts clean (inv.1.limit ∙ limit) (inv.2 early inside).0 s r.0 (drop (i + 1) c.args.rows.now) well r.1 (subst (λ l. Lacks l s r.0) rest r.2) in
           (e.0.0, e.0.1, e.0.2, elsewhere_then old.now mid.now new.now r.3 e.1)),
@@ -58,9 +58,9 @@ rows-preserved g c =
     )
 
 pub returns-clause-puts : goal.returns-clause-puts
-returns-clause-puts g c clean limit inside s t well stands lacks =
+returns-clause-puts g c clean limit inside s t well represented lacks =
     let new = state g.S.Store c.rows.tx.conn.now in
-    let r = c.rows.invariant.3 clean limit inside s t well stands lacks in
+    let r = c.rows.invariant.3 clean limit inside s t well represented lacks in
     (subst (λ u. StandsFor u new.now) (lacks_none s r.0 (subst (λ l. Lacks l s r.0) (drop_of_length-le c.args.rows.now (omega arith)) r.2)) r.1, r.3)
 
 pub returns-in_err-put_row-clause-reason : goal.returns-in_err-put_row-clause-reason

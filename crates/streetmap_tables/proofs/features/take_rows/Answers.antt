@@ -1,12 +1,12 @@
 use Rattle.std.proofs.Common.{[], sym, subst}
 use Rattle.sqlite.specs.Held.{state}
 use Rattle.streetmap_tables.proofs.FormatAndSerials.{keeps_shown, keeps_failed, inside_shown}
-use Rattle.streetmap_tables.specs.Part.{IsSpared}
+use Rattle.streetmap_tables.specs.Part.{IsMemoryOrStore}
 use Rattle.streetmap_tables.proofs.SelectOld.{rows_text}
-use Rattle.streetmap_tables.proofs.OldRowsLook.{rows_shown, rows_told}
+use Rattle.streetmap_tables.proofs.OldRowsRead.{rows_shown, rows_reported}
 use Rattle.streetmap_rows.proofs.ErrorReasons.{queried_inside}
 use Rattle.streetmap_tables.proofs.Reasons.{reason_in}
-use Rattle.streetmap_tables.proofs.LooksTell.{seen, rows_bare}
+use Rattle.streetmap_tables.proofs.ShownByReads.{seen, rows_bare}
 use Rattle.streetmap_tables.proofs.features.take_rows.Goals as goal
 
 pub returns-in-Ok-clause-takes : goal.returns-in-Ok-clause-takes
@@ -14,8 +14,8 @@ returns-in-Ok-clause-takes g c clean s limit keeps = rows_shown (state g.S.Store
 
 pub returns-in-Err-clause-takes : goal.returns-in-Err-clause-takes
 returns-in-Err-clause-takes g c clean s limit keeps =
-    let of = rows_told (state g.S.Store c.args.tx.now.conn.now) (state g.S.Store c.query_all.new.self.conn.now) s keeps limit c.in-Err.error (c.in-Err.ensures.err clean) in
-    subst IsSpared (sym (c.fault_of.ensures.store of)) of
+    let of = rows_reported (state g.S.Store c.args.tx.now.conn.now) (state g.S.Store c.query_all.new.self.conn.now) s keeps limit c.in-Err.error (c.in-Err.ensures.err clean) in
+    subst IsMemoryOrStore (sym (c.fault_of.ensures.store of)) of
 
 pub returns-in-Ok-clause-kept : goal.returns-in-Ok-clause-kept
 returns-in-Ok-clause-kept g c clean inside = keeps_shown rows_text [] (state g.S.Store c.args.tx.now.conn.now) (state g.S.Store c.query_all.new.self.conn.now) inside c.in-Ok.rows.items (c.in-Ok.ensures.ok clean)

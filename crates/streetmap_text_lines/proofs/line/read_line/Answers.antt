@@ -1,6 +1,6 @@
 use Rattle.std.proofs.Common.{◌≡◌, ◌≤◌, ◌<◌, length, arith, subst, rules, []}
 use Rattle.std.proofs.lemmas.Bool.Decides.{nat_tests}
-use Rattle.streetmap_text_lines.specs.Reading.{TakesShown}
+use Rattle.streetmap_text_lines.specs.LineReads.{TakesShown}
 use Rattle.streetmap_text_lines.proofs.LineLemmas.{part_none, part_more, part_ended, part_last}
 use Rattle.streetmap_text_lines.proofs.LineLemmas.{part_end, part_too_long, no_bytes}
 use Rattle.streetmap_text_lines.proofs.line.read_line.Goals as goal

@@ -2,7 +2,7 @@ use Rattle.std.proofs.Common.{◌≡◌, ◌≤◌, ◌<◌, length, arith, subs
 use Rattle.std.proofs.Common.{List, ℕ}
 use Rattle.std.specs.Io.KnownBytes.{Consumes}
 use Rattle.std.proofs.lemmas.Bool.Decides.{nat_tests}
-use Rattle.streetmap_text_lines.specs.Reading.{HasNoLineFeed, TakesShown}
+use Rattle.streetmap_text_lines.specs.LineReads.{HasNoLineFeed, TakesShown}
 use Rattle.streetmap_text_lines.specs.Whole.{TakesWhole}
 use Rattle.streetmap_text_lines.proofs.LineLemmas.{part_none, part_more, part_end, part_too_long}
 use Rattle.streetmap_text_lines.proofs.LineLemmas.{no_bytes}

@@ -4,9 +4,9 @@ use Rattle.streetmap_web.proofs.RequestsInTurn.{base_kept, all_calls, serves_cli
 use Rattle.streetmap_web.proofs.clients.serve_clients.Goals as goal
 
 pub returns-clause-serves : goal.returns-clause-serves
-returns-clause-serves g c clean x stands =
+returns-clause-serves g c clean x in_condition =
     serves_clients g.K.Keeper.model c.args.service.now c.serve_connections.new.service (slots_of c.args.clients.now) (slots_of c.serve_connections.new.clients)
-    c.serve_connections.ensures.serves clean x stands
+    c.serve_connections.ensures.serves clean x in_condition
 
 pub returns-clause-calls : goal.returns-clause-calls
 returns-clause-calls g c =

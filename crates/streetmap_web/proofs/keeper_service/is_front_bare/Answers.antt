@@ -1,5 +1,5 @@
 use Rattle.std.proofs.Common.{refl}
-use Rattle.streetmap_web.specs.Refusing.{by_head}
+use Rattle.streetmap_web.specs.Refusals.{by_head}
 use Rattle.streetmap_web.proofs.keeper_service.is_front_bare.Goals as goal
 
 pub returns-in-Broken : goal.returns-in-Broken

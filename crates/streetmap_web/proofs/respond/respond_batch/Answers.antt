@@ -1,5 +1,5 @@
 use Rattle.streetmap_batch.specs.BatchView.{batch_value}
-use Rattle.streetmap_routes.specs.Ask.{batch}
+use Rattle.streetmap_routes.specs.Operations.{batch}
 use Rattle.streetmap_web.specs.Responds.{IsResponse}
 use Rattle.streetmap_web.proofs.ReadResponses.{not_called, reply_responds, fault_responds}
 use Rattle.streetmap_web.proofs.respond.respond_batch.Goals as goal

@@ -1,8 +1,8 @@
 use Rattle.streetmap_connections.specs.Leads.{Calls}
 use Rattle.streetmap_connections.specs.Moves.{Moves}
 use Rattle.streetmap_connections.specs.Clients.{place_of, exchanges_of, refusals_of}
-use Rattle.streetmap_connections.specs.Refusing.{AddsRefusals}
-use Rattle.streetmap_connections.specs.Timing.{IsTimedFrom, times_of}
+use Rattle.streetmap_connections.specs.RefusedRequests.{AddsRefusals}
+use Rattle.streetmap_connections.specs.Timers.{IsTimedFrom, times_of}
 use Rattle.streetmap_connections.proofs.client.Client.work.Given as goal
 
 abbrev pub invariant-loop-step : goal.invariant-loop-step

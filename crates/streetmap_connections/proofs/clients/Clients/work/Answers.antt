@@ -3,7 +3,7 @@ use Rattle.std.specs.List.{flat_map, AllZip}
 use Rattle.std.proofs.lemmas.List.Elements.{length_all_zip}
 use Rattle.streetmap_connections.specs.declared.slot.Slot.{Slot}
 use Rattle.streetmap_connections.specs.Counts.{count_of}
-use Rattle.streetmap_connections.specs.Serving.{EachMoves, Serves}
+use Rattle.streetmap_connections.specs.Services.{EachMoves, Serves}
 use Rattle.streetmap_connections.specs.Slots.{clients_in, ended_in, EndsLate, EndsOnly}
 use Rattle.streetmap_connections.proofs.Counting.{all_given_back, count_by_length, count_is_added, lent_and_back}
 use Rattle.streetmap_connections.proofs.clients.Clients.work.Goals as goal

@@ -1,7 +1,7 @@
 use Rattle.std.proofs.Common.{◌<◌, length, set, refl, sym, subst, ◌∙◌, add-one, arith}
 use Rattle.streetmap_connections.specs.declared.slot.Slot.{Slot}
 use Rattle.streetmap_connections.specs.Counts.{CountsOn}
-use Rattle.streetmap_connections.specs.Serving.{TakesTurn}
+use Rattle.streetmap_connections.specs.Services.{TakesTurn}
 use Rattle.streetmap_connections.specs.Slots.{clients_in, past_of, EndsLate, EndsOnly}
 use Rattle.streetmap_connections.proofs.Counting.{counts_kept, counts_then, counts_in_slots}
 use Rattle.streetmap_connections.proofs.ServingLemmas.{each_stays, each_then, serves_none, serves_then, turn_in_slots, turn_moves_in_slots}

@@ -1,7 +1,7 @@
 use Rattle.std.proofs.Common.{◌≡◌}
 use Rattle.std.specs.List.{flat_map}
 use Rattle.streetmap_connections.specs.Counts.{CountsOn}
-use Rattle.streetmap_connections.specs.Serving.{EachMoves, Serves}
+use Rattle.streetmap_connections.specs.Services.{EachMoves, Serves}
 use Rattle.streetmap_connections.specs.Slots.{clients_in, ended_in, EndsLate, EndsOnly}
 use Rattle.streetmap_connections.proofs.Turned.{Turned}
 use Rattle.streetmap_connections.proofs.clients.Round.give_turns.Given as goal

@@ -1,4 +1,4 @@
-use Rattle.streetmap_connections.specs.Serving.{Serves}
+use Rattle.streetmap_connections.specs.Services.{Serves}
 use Rattle.streetmap_connections.specs.Served.{slots_of, LetsInUpTo}
 use Rattle.streetmap_connections.proofs.serve.Acceptor.serve.Given as goal
 

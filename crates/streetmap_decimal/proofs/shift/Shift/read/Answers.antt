@@ -3,7 +3,7 @@ use Rattle.std.specs.Int.{w128}
 use Rattle.std.specs.List.{before_first, after_first}
 use Rattle.std.proofs.lemmas.Int.{to_z-of_z}
 use Rattle.streetmap_decimal.specs.Options.{is_comma, IsOptionCount}
-use Rattle.streetmap_decimal.proofs.Commas.{no_comma, comma_within, before_comma, behind_comma, counted}
+use Rattle.streetmap_decimal.proofs.Commas.{no_comma, comma_within, before_comma, after_comma, counted}
 use Rattle.streetmap_decimal.proofs.shift.Shift.read.Goals as goal
 
 pub returns-then-comma-text : goal.returns-then-comma-text
@@ -21,7 +21,7 @@ returns-in-Some-Some c =
     (Some k.easting) (before_comma text comma.result comma.ensures) k.is-0
     c.count_of_option-easting.ensures.reads in
     let northing = counted _ (after_first is_comma text) c.count_of_option-northing.result
-    (Some k.northing) (behind_comma text comma.result comma.ensures) k.is-1
+    (Some k.northing) (after_comma text comma.result comma.ensures) k.is-1
     c.count_of_option-northing.ensures.reads in (
       subst (λ (z : ℤ). IsOptionCount 18 (before_first is_comma text) z)
           (sym (to_z-of_z w128 k.easting f)) easting,
@@ -35,7 +35,7 @@ returns-in_default c =
     let comma = c.comma_or_len-comma in
     let k = c.in_default in
     let northing = counted _ (after_first is_comma text) c.count_of_option-northing.result
-    None (behind_comma text comma.result comma.ensures) k.is-1
+    None (after_comma text comma.result comma.ensures) k.is-1
     c.count_of_option-northing.ensures.reads in
     λ x y h. northing y h.1
 

@@ -5,7 +5,7 @@ use Rattle.serde_json.specs.Read.{of_members, converted}
 use Rattle.streetmap_feature_reader.specs.UsualGeometry.{geometry_members}
 use Rattle.streetmap_feature_reader.proofs.usual_geometry.UsualGeometry.read.Given as goal
 
--- behind the members found, the rest is read as the rest of the object
+-- after the members found, the rest is read as the rest of the object
 abbrev pub invariant-members : goal.invariant-members
 invariant-members l =
     (n : ℕ) × (length l.reader ≤ n) × (length l.reader ≤ length l.initial.reader)

@@ -5,7 +5,7 @@ use Rattle.serde_json.specs.Read.{of_members, converted}
 use Rattle.streetmap_feature_reader.specs.UsualMembers.{found_members}
 use Rattle.streetmap_feature_reader.proofs.usual_members.UsualMembers.read.Given as goal
 
--- behind the members found, the rest is read as the rest of the object
+-- after the members found, the rest is read as the rest of the object
 abbrev pub invariant-members : goal.invariant-members
 invariant-members l =
     (n : ℕ) × (length l.reader ≤ n)

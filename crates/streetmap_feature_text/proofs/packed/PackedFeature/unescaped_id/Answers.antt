@@ -11,7 +11,7 @@ pub returns-in-Some : goal.returns-in-Some
 returns-in-Some c =
     let h = c.self.invariant in
     let part = c.in-Some.part in
-    let stands : IsPartOf part c.self.inside.kept.value.text h.packed.id =
+    let is_part : IsPartOf part c.self.inside.kept.value.text h.packed.id =
     subst (λ (o : Option Part). IfSome o (λ p. IsPartOf p c.self.inside.kept.value.text h.packed.id)) (ap (λ (k : Packing). k.id) (sym c.deref.ensures) ∙ c.in-Some.is) h.named in
-    ap (λ text. slice_range text part.start part.end) (c.as_slice.ensures ∙ ap (λ (k : Packing). k.text) c.deref-in-Some.ensures) ∙ stands.is
+    ap (λ text. slice_range text part.start part.end) (c.as_slice.ensures ∙ ap (λ (k : Packing). k.text) c.deref-in-Some.ensures) ∙ is_part.is
     ∙ ap (λ (f : FeatureValue). f.id) (sym (packed_view _ _ _ _ h) ∙ c.self.view_is)

@@ -21,9 +21,9 @@ loop-summary-preserved c = λ rest.
     c.loop-summary.invariant (subst (AllByRecursion (IsNamed es)) (sym (turn ss i one (omega arith) c.summary-item.is)) (here, rest))
 
 pub returns : goal.returns
-returns c = λ s told index.
+returns c = λ s reported index.
     let es = c.args.self.now.known.entries in
     let ss = c.args.summaries.now in (
       index.0,
-      λ whole. all_named es s ss told (c.loop-summary.invariant (subst (AllByRecursion (IsNamed es)) (sym (drop_all c.loop-summary.summary-index ss (omega arith))) tt)),
+      λ whole. all_named es s ss reported (c.loop-summary.invariant (subst (AllByRecursion (IsNamed es)) (sym (drop_all c.loop-summary.summary-index ss (omega arith))) tt)),
     )

@@ -6,7 +6,7 @@ use Rattle.streetmap_ledger.specs.Batches.{act, edited}
 use Rattle.streetmap_ledger.specs.Keep.{IsWrite}
 use Rattle.streetmap_ledger.specs.declared.reply.Reply.{Reply}
 use Rattle.streetmap_index.specs.Index.{IsIndexOf}
-use Rattle.streetmap_index.proofs.Replies.{act_tells, followed_batch, noted_writes}
+use Rattle.streetmap_index.proofs.Replies.{act_reports, followed_batch, noted_writes}
 use Rattle.streetmap_index.proofs.Over.{write_over}
 use Rattle.streetmap_index.proofs.keeper.IndexedKeeperKeeper.apply.Goals as goal
 
@@ -22,7 +22,7 @@ returns-in-Ok-Accepted g c =
 pub returns-in-Ok : goal.returns-in-Ok
 returns-in-Ok g c = write_over c.in-Ok.ensures refl (λ s e known says.
     let b = batch_value c.args.batch.now in
-    let told = act_tells s b in
+    let reported = act_reports s b in
     let same : (act s b).state ≡ s = search rules in
     (says.0, (says.1, subst (λ (t : State). IsIndexOf c.args.self.now.index t) (sym same) known)))
 

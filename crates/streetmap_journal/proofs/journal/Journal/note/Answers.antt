@@ -1,8 +1,8 @@
 use Rattle.std.proofs.Common.{rules}
 use Rattle.streetmap_journal.proofs.journal.Journal.note.Goals as goal
 
-pub returns-clause-told : goal.returns-clause-told
-returns-clause-told c = search rules
+pub returns-clause-reported : goal.returns-clause-reported
+returns-clause-reported c = search rules
 
 pub returns-then-put_and_keep-clause-line : goal.returns-then-put_and_keep-clause-line
 returns-then-put_and_keep-clause-line c = search rules

@@ -3,19 +3,19 @@ use Rattle.streetmap_query.specs.QueryValue.{QueryValue}
 use Rattle.streetmap_ledger.specs.Folds.{IsFull}
 use Rattle.streetmap_ledger.specs.Pages.{selects, comes_after}
 use Rattle.streetmap_ledger.proofs.fold.PageFold.pass_candidate.Goals as goal
-use Rattle.streetmap_ledger.proofs.fold.PageFold.pass_candidate.Goals.{then-not-behind, else-not-behind}
+use Rattle.streetmap_ledger.proofs.fold.PageFold.pass_candidate.Goals.{then-not-following, else-not-following}
 
 pub returns-in-Some-clause-passed : goal.returns-in-Some-clause-passed
 returns-in-Some-clause-passed c = λ _ q fs f is made named held.
-    let full : IsTrue c.in-Some.behind → IsFull c.args.self.now = λ behind. elim c.if-not-behind.branch [
-      | then-not-behind w ↦ cc (behind, w.if-not-behind.true)
-      | else-not-behind w ↦ w.is_full.ensures.0 (cc (w.value-is))
+    let full : IsTrue c.in-Some.following → IsFull c.args.self.now = λ following. elim c.if-not-following.branch [
+      | then-not-following w ↦ cc (following, w.if-not-following.true)
+      | else-not-following w ↦ w.is_full.ensures.0 (cc (w.value-is))
     ] in
     let known = sym (c.in-Some-true.ensures f is made) ∙ c.in-Some-true.field-0-test in
-    c.count_hidden.ensures q fs f held (ap (λ (v : QueryValue). selects v f) (sym held.asks) ∙ known)
-    (ap (λ (v : QueryValue). comes_after v.after f) (sym held.asks) ∙ sym (c.in-Some.ensures f named)) full
+    c.count_hidden.ensures q fs f held (ap (λ (v : QueryValue). selects v f) (sym held.is_for) ∙ known)
+    (ap (λ (v : QueryValue). comes_after v.after f) (sym held.is_for) ∙ sym (c.in-Some.ensures f named)) full
 
 pub returns-in-Some-false-clause-passed : goal.returns-in-Some-false-clause-passed
 returns-in-Some-false-clause-passed c = λ _ q fs f is made named held.
     let known = sym (c.in-Some-false.ensures f is made) ∙ c.in-Some-false.field-0-test in
-    c.skip_unselected.ensures q fs f held (ap (λ (v : QueryValue). selects v f) (sym held.asks) ∙ known)
+    c.skip_unselected.ensures q fs f held (ap (λ (v : QueryValue). selects v f) (sym held.is_for) ∙ known)

@@ -3,17 +3,17 @@ use Rattle.streetmap_query.specs.QueryValue.{QueryValue}
 use Rattle.streetmap_ledger.specs.Folds.{IsFull}
 use Rattle.streetmap_ledger.specs.Pages.{selects, comes_after}
 use Rattle.streetmap_ledger.proofs.fold.PageFold.pass_hidden.Goals as goal
-use Rattle.streetmap_ledger.proofs.fold.PageFold.pass_hidden.Goals.{else-behind-via-then-behind+else-not-is_full, else-behind-via-else-behind}
+use Rattle.streetmap_ledger.proofs.fold.PageFold.pass_hidden.Goals.{else-following-via-then-following+else-not-is_full, else-following-via-else-following}
 
 pub returns-then-not-selects-clause-passed : goal.returns-then-not-selects-clause-passed
 returns-then-not-selects-clause-passed c = λ _ q fs held.
-    c.skip_unselected.ensures q fs c.args.feature.now held (ap (λ (v : QueryValue). selects v c.args.feature.now) (sym held.asks) ∙ (sym c.selects.ensures ∙ c.if-not-selects.true))
+    c.skip_unselected.ensures q fs c.args.feature.now held (ap (λ (v : QueryValue). selects v c.args.feature.now) (sym held.is_for) ∙ (sym c.selects.ensures ∙ c.if-not-selects.true))
 
 pub returns-clause-passed : goal.returns-clause-passed
 returns-clause-passed c = λ _ q fs held.
-    let full : IsTrue c.comes_after-behind.result → IsFull c.args.self.now = λ behind. elim c.else-behind.branch [
-      | else-behind-via-then-behind+else-not-is_full w ↦ w.is_full.ensures.0 w.if-not-is_full.false
-      | else-behind-via-else-behind w ↦ cc (behind, w.if-behind.false)
+    let full : IsTrue c.comes_after-following.result → IsFull c.args.self.now = λ following. elim c.else-following.branch [
+      | else-following-via-then-following+else-not-is_full w ↦ w.is_full.ensures.0 w.if-not-is_full.false
+      | else-following-via-else-following w ↦ cc (following, w.if-following.false)
     ] in
-    c.count_hidden.ensures q fs c.args.feature.now held (ap (λ (v : QueryValue). selects v c.args.feature.now) (sym held.asks) ∙ (sym c.selects.ensures ∙ c.if-not-selects.false))
-    (ap (λ (v : QueryValue). comes_after v.after c.args.feature.now) (sym held.asks) ∙ sym c.comes_after-behind.ensures) full
+    c.count_hidden.ensures q fs c.args.feature.now held (ap (λ (v : QueryValue). selects v c.args.feature.now) (sym held.is_for) ∙ (sym c.selects.ensures ∙ c.if-not-selects.false))
+    (ap (λ (v : QueryValue). comes_after v.after c.args.feature.now) (sym held.is_for) ∙ sym c.comes_after-following.ensures) full

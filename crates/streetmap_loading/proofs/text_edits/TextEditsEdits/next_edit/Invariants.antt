@@ -4,7 +4,7 @@ use Rattle.streetmap_loading.specs.Texts.{items_left, skips_left}
 use Rattle.streetmap_loading.specs.TextView.{rules_value}
 use Rattle.streetmap_loading.proofs.text_edits.TextEditsEdits.next_edit.Given as goal
 
--- nothing that is told of was taken
+-- no item was taken, and a number of skips that is known stays
 abbrev pub invariant-loop-turn : goal.invariant-loop-turn
 invariant-loop-turn g l =
     let r = rules_value l.fn.self.rules in

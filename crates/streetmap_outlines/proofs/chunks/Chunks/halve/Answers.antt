@@ -11,25 +11,25 @@ use Rattle.streetmap_outlines.proofs.chunks.Chunks.halve.Goals as goal
 pub returns-clause-same : goal.returns-clause-same
 returns-clause-same c =
     ap joined c.in_ok-insert.ensures.items
-    ∙ halved_at c.args.self.now.chunks.items c.args.place c.index_mut.result.now c.split_off.new.self c.in_ok-behind.behind c.requires c.index_mut.ensures.value _ c.in_ok-behind.ensures.front c.in_ok-behind.ensures.behind
+    ∙ halved_at c.args.self.now.chunks.items c.args.place c.index_mut.result.now c.split_off.new.self c.in_ok-following.following c.requires c.index_mut.ensures.value _ c.in_ok-following.ensures.front c.in_ok-following.ensures.following
 
 pub returns-clause-filled : goal.returns-clause-filled
 returns-clause-filled c = λ filled.
     let cs = c.args.self.now.chunks.items in
     let place = c.args.place in
     let one = c.split_off.new.self in
-    let behind = c.in_ok-behind.behind in
+    let following = c.in_ok-following.following in
     let front_some : 0 < length one.outlines.items = grind (arith, common_steps) in
-    let some : 0 < length behind.outlines.items = grind (arith, common_steps) in
-    All-same HasSome _ _ c.in_ok-insert.ensures.items (each_inserted HasSome (set cs place one) _ behind some (All-set HasSome cs place one front_some filled))
+    let some : 0 < length following.outlines.items = grind (arith, common_steps) in
+    All-same HasSome _ _ c.in_ok-insert.ensures.items (each_inserted HasSome (set cs place one) _ following some (All-set HasSome cs place one front_some filled))
 
 pub returns-clause-bounded : goal.returns-clause-bounded
 returns-clause-bounded c = λ bounded.
     let cs = c.args.self.now.chunks.items in
     let place = c.args.place in
     let one = c.split_off.new.self in
-    let says = c.in_ok-behind.ensures.bounded in
-    All-same IsBounded _ _ c.in_ok-insert.ensures.items (each_inserted IsBounded (set cs place one) _ c.in_ok-behind.behind says.1 (All-set IsBounded cs place one says.0 bounded))
+    let says = c.in_ok-following.ensures.bounded in
+    All-same IsBounded _ _ c.in_ok-insert.ensures.items (each_inserted IsBounded (set cs place one) _ c.in_ok-following.following says.1 (All-set IsBounded cs place one says.0 bounded))
 
 pub returns-clause-listed : goal.returns-clause-listed
 returns-clause-listed c = λ listed.
@@ -37,10 +37,10 @@ returns-clause-listed c = λ listed.
     let place = c.args.place in
     let old = c.index_mut.result.now in
     let one = c.split_off.new.self in
-    let behind = c.in_ok-behind.behind in
+    let following = c.in_ok-following.following in
     let cells = c.list_outlines.new.cells in
     let In : Chunk → Type 0 = IsListedChunk cells in
     let still = still_listed c.args.self.now.cells cells c.list_outlines.ensures.kept cs listed in
-    let front = c.in_ok-behind.ensures.listed cells (subst In (sym c.index_mut.ensures.value) (still place old c.requires)) in
-    let rest : In behind = subst (AreListedUnder cells behind.number) c.as_slice.ensures.value c.in_ok-list_outlines.ensures.listed in
-    All-same In _ _ c.in_ok-insert.ensures.items (each_inserted In (set cs place one) _ behind rest (All-set In cs place one front still))
+    let front = c.in_ok-following.ensures.listed cells (subst In (sym c.index_mut.ensures.value) (still place old c.requires)) in
+    let rest : In following = subst (AreListedUnder cells following.number) c.as_slice.ensures.value c.in_ok-list_outlines.ensures.listed in
+    All-same In _ _ c.in_ok-insert.ensures.items (each_inserted In (set cs place one) _ following rest (All-set In cs place one front still))

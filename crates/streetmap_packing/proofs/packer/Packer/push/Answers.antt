@@ -3,7 +3,7 @@ use Rattle.std.proofs.Common.{length-append}
 use Rattle.std.proofs.lemmas.List.{length-map, map-append}
 use Rattle.streetmap_batch.specs.BatchText.{batch_text}
 use Rattle.streetmap_batch.specs.BatchView.{edit_values, edit_value}
-use Rattle.streetmap_packing.specs.Packing.{comma_behind}
+use Rattle.streetmap_packing.specs.PackingState.{comma_after}
 use Rattle.streetmap_packing.specs.Packs.{numbered}
 use Rattle.streetmap_packing.proofs.PackLemmas.{takes_bytes}
 use Rattle.streetmap_packing.proofs.packer.Packer.push.Goals as goal
@@ -14,7 +14,7 @@ overflow_add-self c =
     let room = takes_bytes p.each (string_bytes p.key) p.number (edit_values p.edits.items)
     (edit_value c.args.edit) p.bytes c.comma_len-comma.result c.args.size c.requires.passes
     p.measured
-    (c.comma_len-comma.ensures.value ∙ ap (λ xs. length (comma_behind (edit_values xs)))
+    (c.comma_len-comma.ensures.value ∙ ap (λ xs. length (comma_after (edit_values xs)))
     c.deref.ensures.value) c.requires.sized in
     let short = room.1 in
     omega (arith, short)
@@ -25,7 +25,7 @@ overflow_add-self-2 c =
     let room = takes_bytes p.each (string_bytes p.key) p.number (edit_values p.edits.items)
     (edit_value c.args.edit) p.bytes c.comma_len-comma.result c.args.size c.requires.passes
     p.measured
-    (c.comma_len-comma.ensures.value ∙ ap (λ xs. length (comma_behind (edit_values xs)))
+    (c.comma_len-comma.ensures.value ∙ ap (λ xs. length (comma_after (edit_values xs)))
     c.deref.ensures.value) c.requires.sized in
     let short = room.1 in
     omega (arith, short)
@@ -36,7 +36,7 @@ invariant_of-self-2 c =
     let room = takes_bytes p.each (string_bytes p.key) p.number (edit_values p.edits.items)
     (edit_value c.args.edit) p.bytes c.comma_len-comma.result c.args.size c.requires.passes
     p.measured
-    (c.comma_len-comma.ensures.value ∙ ap (λ xs. length (comma_behind (edit_values xs)))
+    (c.comma_len-comma.ensures.value ∙ ap (λ xs. length (comma_after (edit_values xs)))
     c.deref.ensures.value) c.requires.sized in
     let few = room.2 in
     let long = length-map p.edits.items edit_value in

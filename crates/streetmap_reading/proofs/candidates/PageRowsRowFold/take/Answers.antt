@@ -14,8 +14,8 @@ returns-in-Ok c = λ start rows held.
 
 pub returns-in_err-feature : goal.returns-in_err-feature
 returns-in_err-feature c = λ start rows held.
-    let told = c.in_err-feature.ensures in
+    let reported = c.in_err-feature.ensures in
     handed_on _ _ _ _ c.from_residual.ensures.1
-    (not_taken (IsCandidate (option_copied start.property)) rows c.args.row.now _ told.refuses (λ it.
-    told.reads it.feature (first_cell it.feature _ it.is) (first_text it.feature _ it.is)
+    (not_taken (IsCandidate (option_copied start.property)) rows c.args.row.now _ reported.refuses (λ it.
+    reported.reads it.feature (first_cell it.feature _ it.is) (first_text it.feature _ it.is)
     (read_so start c.args.self.now rows held it.feature it.fine)))

@@ -12,7 +12,7 @@ returns c = λ start rows held.
 
 pub returns-in_err-extent : goal.returns-in_err-extent
 returns-in_err-extent c = λ start rows held.
-    let told = c.in_err-extent.ensures in
+    let reported = c.in_err-extent.ensures in
     handed_on _ _ _ _ c.from_residual.ensures.1
-    (not_taken IsExtentRow rows c.args.row.now _ told.refuses (λ it. absurd
-    (told.reads (feature_extent it.feature) it.is (extent_is_box it.feature.geometry it.fine))))
+    (not_taken IsExtentRow rows c.args.row.now _ reported.refuses (λ it. absurd
+    (reported.reads (feature_extent it.feature) it.is (extent_is_box it.feature.geometry it.fine))))

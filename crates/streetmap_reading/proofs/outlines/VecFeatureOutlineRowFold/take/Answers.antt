@@ -10,7 +10,7 @@ returns c = λ start rows held.
 
 pub returns-in_err-outline : goal.returns-in_err-outline
 returns-in_err-outline c = λ start rows held.
-    let told = c.in_err-outline.ensures in
+    let reported = c.in_err-outline.ensures in
     handed_on _ _ _ _ c.from_residual.ensures.1
-    (not_taken IsOutlineRow rows c.args.row.now _ told.refuses
-    (λ it. told.reads it.placed it.is it.fine))
+    (not_taken IsOutlineRow rows c.args.row.now _ reported.refuses
+    (λ it. reported.reads it.placed it.is it.fine))

@@ -10,7 +10,7 @@ returns c = λ start rows held.
 
 pub returns-in_err-head : goal.returns-in_err-head
 returns-in_err-head c = λ start rows held.
-    let told = c.in_err-head.ensures in
+    let reported = c.in_err-head.ensures in
     handed_on _ _ _ _ c.from_residual.ensures.1
-    (not_taken IsHeadRow rows c.args.row.now _ told.refuses
-    (λ it. told.reads it.id it.collection it.is it.fine))
+    (not_taken IsHeadRow rows c.args.row.now _ reported.refuses
+    (λ it. reported.reads it.id it.collection it.is it.fine))

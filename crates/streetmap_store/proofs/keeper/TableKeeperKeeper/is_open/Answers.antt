@@ -1,7 +1,7 @@
 use Rattle.std.proofs.Common.{◌≡◌, Option, None, Some, option_map, refl, ◌∙◌, rules}
 use Rattle.std.specs.Prelude.{is_none}
-use Rattle.streetmap_rows.specs.declared.failing.Shut.{Shut}
-use Rattle.streetmap_store.specs.Serving.{cause_in}
+use Rattle.streetmap_rows.specs.declared.failures.Shut.{Shut}
+use Rattle.streetmap_store.specs.CallResults.{cause_in}
 use Rattle.streetmap_store.proofs.keeper.TableKeeperKeeper.is_open.Goals as goal
 
 open_too : (o : Option Shut) → is_none o ≡ is_none (option_map cause_in o)

@@ -1,0 +1,40 @@
+use Rattle.std.proofs.Common.{◌≡◌, [], ◌∷◌, Err, refl, sym, ap, subst, ◌∙◌, arith}
+use Rattle.json.specs.Json.{parse_map}
+use Rattle.json.specs.Reads.{token_of}
+use Rattle.serde_json.specs.Data.{array}
+use Rattle.serde_json.specs.View.{view}
+use Rattle.streetmap_json.specs.Values.{value_at}
+use Rattle.streetmap_json.proofs.Fronts.{array_opens, no_array, empty_front, handed_on}
+use Rattle.streetmap_batch.specs.BatchTokens.{Takes, IsArrayRead}
+use Rattle.streetmap_batch.proofs.edit_tokens.read_array.Goals as goal
+
+pub returns-in_default-clause-takes : goal.returns-in_default-clause-takes
+returns-in_default-clause-takes c =
+    let empty : c.args.reader.now ≡ [] = grind arith in
+    ap (value_at c.args.depth) empty ∙ empty_front c.args.depth
+
+pub returns-in_err-read_items-clause-takes : goal.returns-in_err-read_items-clause-takes
+returns-in_err-read_items-clause-takes c =
+    let ts = c.next.new.self in
+    let first : c.args.reader.now ≡ token_of c.in-Some.token ∷ ts = c.in-Some.ensures.value in
+    let opened = ap (value_at c.args.depth) (first ∙ ap (λ t. t ∷ ts) (c.opens_array.ensures.yes c.if-opens_array.true)) ∙ array_opens c.args.depth ts c.requires in
+    let fault = c.in_err-read_items.field-0.0 in
+    let same : c.from_residual.result ≡ Err fault = grind arith in
+    subst (λ r. Takes IsArrayRead r c.read_items.new.reader (value_at c.args.depth c.args.reader.now)) (sym same)
+    (handed_on fault _ _ (λ none. opened ∙ ap (parse_map array) none) c.in_err-read_items.ensures.takes)
+
+pub returns-in_ok-read_items-clause-takes : goal.returns-in_ok-read_items-clause-takes
+returns-in_ok-read_items-clause-takes c =
+    let ts = c.next.new.self in
+    let first : c.args.reader.now ≡ token_of c.in-Some.token ∷ ts = c.in-Some.ensures.value in
+    let opened = ap (value_at c.args.depth) (first ∙ ap (λ t. t ∷ ts) (c.opens_array.ensures.yes c.if-opens_array.true)) ∙ array_opens c.args.depth ts c.requires in
+    let taken = c.in_ok-read_items.ensures.takes in
+    (array taken.0, opened ∙ ap (parse_map array) taken.1, (taken.0, refl, taken.2))
+
+pub returns-in_ok-read_token-clause-takes : goal.returns-in_ok-read_token-clause-takes
+returns-in_ok-read_token-clause-takes c =
+    let ts = c.next.new.self in
+    let v = view c.in_ok-read_token.field-0 in
+    let first : c.args.reader.now ≡ token_of c.in-Some.token ∷ ts = c.in-Some.ensures.value in
+    let taken = c.in_ok-read_token.ensures.takes in
+    (v, ap (value_at c.args.depth) first ∙ taken, no_array c.args.depth (token_of c.in-Some.token) ts c.read_token.new.reader v taken (c.opens_array.ensures.no c.if-opens_array.false))

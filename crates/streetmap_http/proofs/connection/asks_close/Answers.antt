@@ -1,7 +1,0 @@
-use Rattle.std.proofs.Common.{rules}
-use Rattle.streetmap_http.specs.Connections.{asks_close}
-use Rattle.streetmap_http.proofs.connection.asks_close.Goals as goal
-
-pub returns-then-minor-eq0 : goal.returns-then-minor-eq0
-unfolding asks_close
-returns-then-minor-eq0 c = search rules

@@ -1,0 +1,59 @@
+//! Answers sent to writers that stop, and to a writer that keeps bytes back until it is flushed.
+use crate::fakes::Sink;
+use std::io::BufWriter;
+use std::test::Fail;
+use streetmap_http::{Sent, send};
+use streetmap_memory::PlainKeeper;
+use streetmap_routes::Base;
+use streetmap_web::serve;
+
+/// The result of sending an answer to a writer with this much room, and whether it took the prefix
+/// that fits.
+fn sent(room: usize, fails: bool) -> (Sent, bool) {
+    let mut sink = Sink {
+        taken: [0; 8],
+        len: 0,
+        room,
+        fails,
+        again: false,
+    };
+    let reported = send(&mut sink, b"head:", b"abc");
+    (
+        reported,
+        b"head:abc".starts_with(sink.taken()) && sink.len == room,
+    )
+}
+
+#[test]
+fn answers_are_sent_until_a_writer_stops(rt: HostRuntime) {
+    for fails in [false, true] {
+        for room in 0..9 {
+            let wanted = if room < 8 {
+                Sent::Part(room > 0)
+            } else {
+                Sent::Whole
+            };
+            assert!(rt; sent(room.min(8), fails) == (wanted, true), "{room}");
+        }
+    }
+}
+
+/// Two requests of a stream.
+const STREAM: &[u8] =
+    b"GET /conformance HTTP/1.1\r\nHost: a\r\n\r\nGET / HTTP/1.1\r\nHost: a\r\n\r\n";
+
+#[test]
+fn a_served_writer_is_flushed(rt: HostRuntime) -> Result<(), Fail> {
+    let Ok(base) = Base::new(rt.alloc(), "http://localhost/") else {
+        return Ok(());
+    };
+    let Ok(mut writer) = BufWriter::new(rt.alloc(), Vec::new(rt.alloc())) else {
+        return Ok(());
+    };
+    let mut keeper = PlainKeeper::new(rt.alloc());
+    let mut reader = STREAM;
+    let served = serve(rt.alloc(), &mut keeper, &base, &mut reader, &mut writer);
+    assert!(rt; served.answers > 0);
+    assert!(rt; writer.buffer().is_empty());
+    Ok(())
+}

@@ -1,7 +1,0 @@
-use Rattle.serde_json.specs.View.{view}
-use Rattle.streetmap_placing.proofs.Valued.{given}
-use Rattle.streetmap_placing.proofs.reading.read_placed.Goals as goal
-
-pub returns-clause-value : goal.returns-clause-value
-returns-clause-value c =
-    given view c.args.numbers.now c.args.text.now c.read_asked.result c.read_asked.ensures

@@ -1,0 +1,261 @@
+//! Opening existing tables: the format row is read, and one row for each accepted batch.
+ghost use Rattle.std.specs.Prelude.{◌≡◌, ◌≢◌, IfErr, MatchResult, Some, pos, false, IsTrue, OnOk};
+ghost use Rattle.sqlite.specs.Held.{state};
+ghost use Rattle.sqlite.specs.State.{HasCleanDisk, KeepsCommit, Survives};
+ghost use Rattle.streetmap_ledger.specs.State.{State};
+ghost use Rattle.streetmap_rows.specs.Failures.{HasReason, IsOfStore};
+ghost use Rattle.streetmap_tables.specs.Reasons.{AdoptsFor};
+ghost use Rattle.streetmap_rows.specs.KeptStates.{Rests};
+ghost use Rattle.streetmap_rows.specs.Statements.{select_format};
+ghost use Rattle.streetmap_tables.specs.Adoption.{serials_text, FindsFormat, FindsSerials};
+ghost use Rattle.streetmap_tables.specs.Adoption.{FindsKeys, IsAsItWas, StaysOpen, Adopts};
+ghost use Rattle.streetmap_tables.specs.QueryResults.{format_in, ShowsRows, IsFoundIn};
+ghost use Rattle.streetmap_tables.specs.QueryResults.{IsRefusedFor};
+ghost use Rattle.streetmap_tables.specs.QueryResults.{AdoptsBy};
+
+use sqlite::types::ValueRef;
+use sqlite::{Alter, Connection, Error, Row, Transaction};
+use streetmap_rows::{Shut, Stop, is_of_store, probe, settle};
+
+/// Why tables were not opened.
+#[derive(Drop)]
+pub enum AdoptFault {
+    /// `not_ours`: no format row is one of this product.
+    NotOurs,
+    /// `old_format`: the format is 1.
+    OldFormat,
+    /// `new_format`: the format is above 2.
+    NewFormat,
+    /// `damaged`: the format is 2, and the query for the batches is refused.
+    Damaged,
+    /// `device`: the store failed, or has no room; the error that reported it.
+    Device(Error),
+    /// `memory`: out of memory.
+    Memory,
+}
+
+impl AdoptFault {
+    ghost use Rattle.streetmap_tables.specs.Faults.{adopt_code, adopt_description};
+
+    /// Its name.
+    #[tactic(auto, unfolding(crate::specs::Faults::adopt_code))]
+    pub fn code(&self) -> &'static str
+        ensures { result.now ≡ adopt_code self.now }
+    {
+        match self {
+            AdoptFault::NotOurs => "not_ours",
+            AdoptFault::OldFormat => "old_format",
+            AdoptFault::NewFormat => "new_format",
+            AdoptFault::Damaged => "damaged",
+            AdoptFault::Device(_) => "device",
+            AdoptFault::Memory => "memory",
+        }
+    }
+
+    /// A sentence that describes it.
+    #[tactic(auto, unfolding(crate::specs::Faults::adopt_description))]
+    pub fn description(&self) -> &'static str
+        ensures { result.now ≡ adopt_description self.now }
+    {
+        match self {
+            AdoptFault::NotOurs => "The file is none of this product.",
+            AdoptFault::OldFormat => "The file has format 1.",
+            AdoptFault::NewFormat => "The file has a format above 2.",
+            AdoptFault::Damaged => "The store holds a row that cannot be read.",
+            AdoptFault::Device(_) => "The store failed and must be opened again.",
+            AdoptFault::Memory => "Memory was refused; the call may be made again.",
+        }
+    }
+}
+
+/// What was found in a connection.
+#[derive(Drop)]
+enum Found {
+    /// Format 2, with this number of keys.
+    Keys(u64),
+    /// Format 2, but the query for the batches is refused.
+    Unread,
+    /// Another format, or no format row.
+    Other(Option<i64>),
+}
+
+/// The values of the format row.
+#[tactic(auto, using(streetmap_rows::proofs::ErrorReasons::queried_inside))]
+fn read_format<S: Alter>(tx: &mut Transaction<'_, S>) -> Result<Vec<Row>, Error>
+    ensures reason { HasCleanDisk (state S.Store tx.new.conn.now) →
+        IfErr result (HasReason (state S.Store tx.old.conn.now) (state S.Store tx.new.conn.now)) }
+    ensures same_reference { tx.new.conn.ghost_name ≡ tx.old.conn.ghost_name }
+    ensures finds { HasCleanDisk (state S.Store tx.new.conn.now)
+        → FindsFormat (state S.Store tx.old.conn.now) (state S.Store tx.new.conn.now) result }
+    ensures reports { HasCleanDisk (state S.Store tx.new.conn.now)
+        → ShowsRows select_format (state S.Store tx.old.conn.now) (state S.Store tx.new.conn.now)
+        result }
+    ensures inside { HasCleanDisk (state S.Store tx.new.conn.now)
+        → IsTrue (state S.Store tx.old.conn.now).in_transaction
+        → OnOk result (IsTrue (state S.Store tx.new.conn.now).in_transaction) }
+    ensures kept { HasCleanDisk (state S.Store tx.new.conn.now)
+        → IsTrue (state S.Store tx.old.conn.now).in_transaction
+        → KeepsCommit (state S.Store tx.old.conn.now) (state S.Store tx.new.conn.now) }
+    ensures survives { Survives (state S.Store tx.old.conn.now) (state S.Store tx.new.conn.now)
+        (λ _. ⊥) }
+{
+    tx.query_all(
+        "SELECT value FROM streetmap_meta WHERE name = 'format'",
+        &[],
+    )
+}
+
+/// The serials of all batches, a row for each.
+#[tactic(auto, using(streetmap_rows::proofs::ErrorReasons::queried_inside))]
+pub fn read_serials<S: Alter>(tx: &mut Transaction<'_, S>) -> Result<Vec<Row>, Error>
+    ensures reason { HasCleanDisk (state S.Store tx.new.conn.now) →
+        IfErr result (HasReason (state S.Store tx.old.conn.now) (state S.Store tx.new.conn.now)) }
+    ensures same_reference { tx.new.conn.ghost_name ≡ tx.old.conn.ghost_name }
+    ensures finds { HasCleanDisk (state S.Store tx.new.conn.now)
+        → FindsSerials (state S.Store tx.old.conn.now) result }
+    ensures reports { HasCleanDisk (state S.Store tx.new.conn.now)
+        → ShowsRows serials_text (state S.Store tx.old.conn.now) (state S.Store tx.new.conn.now)
+        result }
+    ensures inside { HasCleanDisk (state S.Store tx.new.conn.now)
+        → IsTrue (state S.Store tx.old.conn.now).in_transaction
+        → OnOk result (IsTrue (state S.Store tx.new.conn.now).in_transaction) }
+    ensures kept { HasCleanDisk (state S.Store tx.new.conn.now)
+        → IsTrue (state S.Store tx.old.conn.now).in_transaction
+        → KeepsCommit (state S.Store tx.old.conn.now) (state S.Store tx.new.conn.now) }
+    ensures survives { Survives (state S.Store tx.old.conn.now) (state S.Store tx.new.conn.now)
+        (λ _. ⊥) }
+{
+    tx.query_all("SELECT serial FROM streetmap_batches", &[])
+}
+
+/// The format in the format row.
+fn format_of(rows: &[Row]) -> Option<i64>
+    ensures { result ≡ format_in rows.now }
+{
+    match rows.first() {
+        Some(row) => match row.get_ref(0) {
+            Ok(ValueRef::Int(format)) => Some(format),
+            _ => None,
+        },
+        None => None,
+    }
+}
+
+/// What was found if the query for the batches met an error: nothing if the store failed, and
+/// otherwise that the query is refused.
+fn unread_by(error: Error) -> Result<Found, Error>
+    ensures { MatchResult result
+        (λ found. (found ≡ Found.Unread) × ¬ (IsOfStore error))
+        (λ e. (e ≡ error) × IsOfStore error) }
+{
+    if is_of_store(error) {
+        Err(error)
+    } else {
+        Ok(Found::Unread)
+    }
+}
+
+/// The format and, if it is 2, the number of keys.
+fn find_inside<S: Alter>(tx: &mut Transaction<'_, S>) -> Result<Found, Error>
+    ensures reason { HasCleanDisk (state S.Store tx.new.conn.now) →
+        IfErr result (HasReason (state S.Store tx.old.conn.now) (state S.Store tx.new.conn.now)) }
+    ensures same_reference { tx.new.conn.ghost_name ≡ tx.old.conn.ghost_name }
+    ensures finds { HasCleanDisk (state S.Store tx.new.conn.now)
+        → FindsKeys (state S.Store tx.old.conn.now) result }
+    ensures reports { HasCleanDisk (state S.Store tx.new.conn.now)
+        → IsFoundIn (state S.Store tx.old.conn.now) result }
+    ensures kept { HasCleanDisk (state S.Store tx.new.conn.now)
+        → IsTrue (state S.Store tx.old.conn.now).in_transaction
+        → KeepsCommit (state S.Store tx.old.conn.now) (state S.Store tx.new.conn.now) }
+    ensures survives { Survives (state S.Store tx.old.conn.now) (state S.Store tx.new.conn.now)
+        (λ _. ⊥) }
+{
+    let rows = read_format(tx)?;
+    match format_of(&rows) {
+        Some(2) => {}
+        other => return Ok(Found::Other(other)),
+    }
+    match read_serials(tx) {
+        Ok(serials) => Ok(Found::Keys(serials.len() as u64)),
+        Err(error) => unread_by(error),
+    }
+}
+
+/// The same, in a transaction that is rolled back, so the connection holds what it held.
+fn find_alone<S: Alter>(conn: &mut Connection<S>) -> Result<Found, Error>
+    requires { conn.old.in_transaction ≡ false }
+    ensures reason { HasCleanDisk (state S.Store conn.new) →
+        IfErr result (HasReason (state S.Store conn.old) (state S.Store conn.new)) }
+    ensures idle { conn.new.in_transaction ≡ false }
+    ensures survives { Survives (state S.Store conn.old) (state S.Store conn.new) (λ _. ⊥) }
+    ensures same { HasCleanDisk (state S.Store conn.new)
+        → IsAsItWas (state S.Store conn.old) (state S.Store conn.new) }
+    ensures finds { HasCleanDisk (state S.Store conn.new)
+        → FindsKeys (state S.Store conn.old) result }
+    ensures reports { HasCleanDisk (state S.Store conn.new)
+        → IsFoundIn (state S.Store conn.old) result }
+{
+    let mut tx = conn.transaction();
+    let found = find_inside(&mut tx);
+    tx.rollback();
+    found
+}
+
+/// Why tables of another format are not opened.
+fn refusal_of(format: Option<i64>) -> AdoptFault
+    ensures { format ≢ Some (pos 2) → IsRefusedFor format result }
+{
+    match format {
+        Some(1) => AdoptFault::OldFormat,
+        Some(format) if format > 2 => AdoptFault::NewFormat,
+        _ => AdoptFault::NotOurs,
+    }
+}
+
+/// Opens the tables that a connection has, and returns how many batches they have accepted.
+///
+/// It writes nothing: in every case the connection holds what it held, and a crash can leave no
+/// more than before. The connection must have no step limit.
+///
+/// # Errors
+///
+/// `OldFormat` for format 1 and `NewFormat` for a format above 2; `NotOurs` for any other format,
+/// if they have no format row, and if the query for it is refused; `Damaged` if the format is 2 and
+/// the query for the batches is refused; `Memory` if memory runs out and the connection is open;
+/// `Device` if the store fails, with its error. `probe` checks that the connection is open before
+/// the number of batches or `OldFormat` is returned, and after memory ran out. If `probe` runs out
+/// of memory too, the result is `Device` with that error.
+pub fn adopt_tables<S: Alter>(conn: &mut Connection<S>) -> Result<u64, AdoptFault>
+    requires { conn.old.in_transaction ≡ false }
+    ensures reason { HasCleanDisk (state S.Store conn.new) →
+        IfErr result (AdoptsFor (state S.Store conn.old) (state S.Store conn.new)) }
+    ensures idle { conn.new.in_transaction ≡ false }
+    ensures survives { Survives (state S.Store conn.old) (state S.Store conn.new) (λ _. ⊥) }
+    ensures same { HasCleanDisk (state S.Store conn.new)
+        → IsAsItWas (state S.Store conn.old) (state S.Store conn.new) }
+    ensures reports { HasCleanDisk (state S.Store conn.new)
+        → AdoptsBy (state S.Store conn.old) result }
+    ensures live { HasCleanDisk (state S.Store conn.new)
+        → StaysOpen (state S.Store conn.new) result }
+    ensures adopts { HasCleanDisk (state S.Store conn.new) → (s : State)
+        → Rests (state S.Store conn.old) s
+        → Adopts s (state S.Store conn.old) (state S.Store conn.new) result }
+{
+    match find_alone(conn) {
+        Ok(Found::Keys(count)) => match probe(conn) {
+            Ok(()) => Ok(count),
+            Err(error) => Err(AdoptFault::Device(error)),
+        },
+        Ok(Found::Unread) => Err(AdoptFault::Damaged),
+        Ok(Found::Other(Some(1))) => match probe(conn) {
+            Ok(()) => Err(AdoptFault::OldFormat),
+            Err(error) => Err(AdoptFault::Device(error)),
+        },
+        Ok(Found::Other(format)) => Err(refusal_of(format)),
+        Err(error) => match settle(conn, error) {
+            Stop::Memory => Err(AdoptFault::Memory),
+            Stop::Closed(Shut::Device(error)) => Err(AdoptFault::Device(error)),
+            Stop::Closed(Shut::Damaged) => Err(AdoptFault::NotOurs),
+        },
+    }
+}
