@@ -1,5 +1,5 @@
 -- What was flushed after an answer, and through the turns of a stream.
-use Rattle.std.proofs.Common.{◌≡◌, ◌≢◌, ℕ, ◌<◌, ◌+◌, Bool, true, false, inl, inr, ◌⊎◌, refl, sym, subst, arith, absurd}
+use Rattle.std.proofs.Common.{◌≡◌, ◌≢◌, ℕ, ◌<◌, ◌+◌, Bool, true, false, inl, inr, ◌⊎◌, refl, sym, subst, arith}
 use Rattle.std.specs.Prelude.{if◌then◌else◌}
 use Rattle.streetmap_http.specs.declared.sender.Sent.{Sent}
 use Rattle.streetmap_http.specs.declared.sender.Sent.TheVariants.{Whole, Part}

@@ -1,4 +1,4 @@
-use Rattle.std.proofs.Common.{subst}
+use Rattle.std.proofs.Common.{subst, true}
 use Rattle.streetmap_web.specs.Turns.{WriteSays}
 use Rattle.streetmap_web.proofs.turns.refuse_turn.Goals as goal
 
