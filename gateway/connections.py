@@ -1,22 +1,22 @@
-"""Connections to the server that stay open: HTTP/1.1 by h11, over the streams of asyncio.
+"""Connections to the server that stay open, and one request at a time on each.
 
-h11 is what httpx reads and writes by. The layers of httpx above it (redirects, cookies, proxies,
-several kinds of event loops) are of no use with this server, and take some ten times as long.
+They are a protocol of asyncio, with httptools as the parser, which uvicorn takes for the clients of
+the gateway. httpx over the same costs ten times as much: a page of a box is two requests.
 """
 
 import asyncio
 import ssl
-import time
-from dataclasses import dataclass
+from typing import NamedTuple, cast
 from urllib.parse import urlsplit
 
-import h11
+import httptools
 
 # How long a request waits: for its turn, for a connection, and for each part of an answer.
 TURN_SECONDS, CONNECT_SECONDS, PART_SECONDS = 120, 15, 60
 # The server closes a connection that is idle for 30 seconds.
 IDLE_SECONDS = 20
-READ_BYTES = 1 << 18
+# Before an answer others may come that say nothing yet (RFC 9110, 15.2).
+FIRST_FINAL = 200
 
 
 class Broken(Exception):
@@ -27,139 +27,152 @@ class Away(Exception):
     """No connection was made in time, or an answer did not come in time."""
 
 
-@dataclass(frozen=True)
-class Answer:
+class Answer(NamedTuple):
     """The status and the body of an answer."""
 
     status: int
     body: bytes
 
 
-class Connection:
-    """A connection, which has one request at a time."""
+class Connection(asyncio.Protocol):
+    """A connection. httptools calls its methods `on_..` as it reads an answer, which has to say how
+    long it is."""
 
-    def __init__(self, reader: asyncio.StreamReader, writer: asyncio.StreamWriter) -> None:
-        self.reader = reader
-        self.writer = writer
-        self.protocol = h11.Connection(h11.CLIENT)
-        self.idle_since = time.monotonic()
+    def __init__(self) -> None:
+        self.loop = asyncio.get_running_loop()
+        self.parser = httptools.HttpResponseParser(self)
+        self.parts: list[bytes] = []
+        self.waiting: asyncio.Future[Answer] | None = None
+        self.patience: asyncio.Timeout | None = None
+        self.is_open = True
+        self.idle_since = 0.0
 
-    @property
-    def is_stale(self) -> bool:
-        """Whether the server has closed it, or is about to."""
-        return self.reader.at_eof() or time.monotonic() - self.idle_since > IDLE_SECONDS
+    def connection_made(self, transport: asyncio.BaseTransport) -> None:
+        self.transport = cast(asyncio.Transport, transport)
 
-    async def ask(self, head: h11.Request, content: bytes) -> Answer:
-        """The answer to a request; Broken if all of it does not come."""
+    def connection_lost(self, _fault: Exception | None) -> None:
+        self.close()
+
+    def data_received(self, data: bytes) -> None:
+        if self.waiting is None:
+            # Nobody has requested it, so what comes after it would be answers to other requests.
+            self.close()
+            return
+        if self.patience is not None:
+            self.patience.reschedule(self.loop.time() + PART_SECONDS)
         try:
-            await self.send(head, content)
-            return await self.answer()
+            self.parser.feed_data(data)
+        except httptools.HttpParserError:
+            self.close()
+
+    def on_message_begin(self) -> None:
+        self.parts = []
+        self.is_open = self.is_open and self.waiting is not None
+
+    def on_body(self, part: bytes) -> None:
+        self.parts.append(part)
+
+    def on_message_complete(self) -> None:
+        status, parts, self.parts = self.parser.get_status_code(), self.parts, []
+        if status < FIRST_FINAL or self.waiting is None:
+            return
+        self.is_open = self.is_open and self.parser.should_keep_alive()
+        if not self.waiting.done():
+            self.waiting.set_result(Answer(status, b"".join(parts)))
+        self.waiting = None
+
+    async def ask(self, request: bytes) -> Answer:
+        """The answer to a request; Broken if the connection ends before it, Away if it is late."""
+        if not self.is_open:
+            raise Broken
+        answer = self.waiting = self.loop.create_future()
+        self.transport.write(request)
+        try:
+            async with asyncio.timeout(PART_SECONDS) as self.patience:
+                return await answer
         except TimeoutError as fault:
             raise Away from fault
-        except (OSError, h11.RemoteProtocolError) as fault:
-            raise Broken from fault
-
-    async def send(self, head: h11.Request, content: bytes) -> None:
-        events: list[h11.Event] = [head, *([h11.Data(content)] if content else ())]
-        for event in [*events, h11.EndOfMessage()]:
-            self.writer.write(self.protocol.send(event) or b"")
-        async with asyncio.timeout(PART_SECONDS):
-            await self.writer.drain()
-
-    async def answer(self) -> Answer:
-        status, parts = 0, []
-        while not isinstance(event := await self.event(), h11.EndOfMessage):
-            if isinstance(event, h11.Response):
-                status = event.status_code
-            elif isinstance(event, h11.Data):
-                parts.append(event.data)
-        return Answer(status, b"".join(parts))
-
-    async def event(self) -> h11.Event:
-        """The next part of the answer."""
-        while (event := self.protocol.next_event()) is h11.NEED_DATA:
-            async with asyncio.timeout(PART_SECONDS):
-                self.protocol.receive_data(await self.reader.read(READ_BYTES))
-        if not isinstance(event, h11.Event) or isinstance(event, h11.ConnectionClosed):
-            raise Broken
-        return event
+        finally:
+            self.patience = None
+            self.idle_since = self.loop.time()
 
     def is_free(self) -> bool:
-        """Whether it takes a further request after this answer."""
-        if (self.protocol.our_state, self.protocol.their_state) != (h11.DONE, h11.DONE):
-            return False
-        self.protocol.start_next_cycle()
-        self.idle_since = time.monotonic()
-        return True
+        """Whether it can have a request: it is open, and has no other."""
+        is_fresh = self.loop.time() - self.idle_since <= IDLE_SECONDS
+        return self.is_open and self.waiting is None and is_fresh
 
     def close(self) -> None:
-        self.writer.close()
+        """Ends the connection, and what waits for an answer."""
+        self.is_open = False
+        self.transport.abort()
+        if self.waiting is not None and not self.waiting.done():
+            self.waiting.set_exception(Broken())
 
 
 class Connections:
-    """At most so many connections to an http or https URL. The one used last is used first."""
+    """At most `most` connections to an http or https URL. The one used last is used first."""
 
     def __init__(self, address: str, most: int) -> None:
         url = urlsplit(address)
-        self.host, self.port = url.hostname or "", url.port
-        self.fields = [("Host", url.netloc)]
-        self.path = url.path.rstrip("/")
         self.tls = ssl.create_default_context() if url.scheme == "https" else None
+        self.host, self.port = url.hostname or "", url.port or (443 if self.tls else 80)
+        self.path, self.name = url.path.rstrip("/"), url.netloc
         self.turns = asyncio.Semaphore(most)
         self.idle: list[Connection] = []
 
     async def ask(self, method: str, target: str, content: bytes = b"") -> Answer:
-        """The answer to a request, whose target follows the path of the URL."""
-        fields = [*self.fields, ("Content-Length", str(len(content)))] if content else self.fields
-        head = h11.Request(method=method, target=self.path + target, headers=fields)
+        """The answer to a request, whose target follows the path of the URL and is escaped."""
+        lines = [f"{method} {self.path}{target} HTTP/1.1", f"Host: {self.name}"]
+        lines += [f"Content-Length: {len(content)}"] if content else []
+        request = "\r\n".join([*lines, "", ""]).encode("ascii") + content
         try:
             async with asyncio.timeout(TURN_SECONDS):
                 await self.turns.acquire()
         except TimeoutError as fault:
             raise Away from fault
         try:
-            return await self.ask_now(head, content)
+            return await self.ask_now(request)
         finally:
             self.turns.release()
 
-    async def ask_now(self, head: h11.Request, content: bytes) -> Answer:
+    async def ask_now(self, request: bytes) -> Answer:
         connection = self.take() or await self.connect()
-        is_free = False
         try:
-            answer = await connection.ask(head, content)
-            is_free = connection.is_free()
-            return answer
+            return await connection.ask(request)
         except Broken:
             # What broke it has mostly broken the others too.
             self.close()
             raise
         finally:
-            if is_free:
-                self.idle.append(connection)
-            else:
-                connection.close()
+            self.give_back(connection)
 
     def take(self) -> Connection | None:
-        """A connection that no request has, and that is not stale."""
-        while self.idle and self.idle[0].is_stale:
+        """A connection that no request has."""
+        while self.idle and not self.idle[0].is_free():
             self.idle.pop(0).close()
         while self.idle:
             connection = self.idle.pop()
-            if not connection.is_stale:
+            if connection.is_free():
                 return connection
             connection.close()
         return None
 
+    def give_back(self, connection: Connection) -> None:
+        if connection.is_free():
+            self.idle.append(connection)
+        else:
+            connection.close()
+
     async def connect(self) -> Connection:
-        port = self.port or (443 if self.tls else 80)
+        loop = asyncio.get_running_loop()
         try:
             async with asyncio.timeout(CONNECT_SECONDS):
-                streams = await asyncio.open_connection(
-                    self.host, port, ssl=self.tls, limit=READ_BYTES
+                _, connection = await loop.create_connection(
+                    Connection, self.host, self.port, ssl=self.tls
                 )
         except (OSError, TimeoutError) as fault:
             raise Away from fault
-        return Connection(*streams)
+        return connection
 
     def close(self) -> None:
         """Closes the connections that no request has."""
