@@ -85,7 +85,8 @@ class Connection(asyncio.Protocol):
         """The answer to a request; Broken if the connection ends before it, Away if it is late."""
         if not self.is_open:
             raise Broken
-        answer = self.waiting = self.loop.create_future()
+        answer: asyncio.Future[Answer] = self.loop.create_future()
+        self.waiting = answer
         self.transport.write(request)
         try:
             async with asyncio.timeout(PART_SECONDS) as self.patience:
