@@ -18,7 +18,7 @@ from psycopg2.sql import SQL, Literal as Value
 from ..grid import BOUND, STEPS, nearest_steps
 from ..problems import Problem
 from ..systems import CRS84, EPSG, Systems
-from .catalogue import Catalogue, read_catalogue
+from .catalogue import Catalogue
 from .clauses import MirrorSystem
 from .database import Reading
 
@@ -105,7 +105,6 @@ def draw(
     reading: Reading, system: MirrorSystem, systems: Systems, collection: str, at: TileAddress
 ) -> Tile:
     """The tile of a collection in this state."""
-    read_catalogue(reading, collection)
     region = systems.by_uri[CRS84].box(at.bounds()).region((-BOUND, -BOUND, BOUND, BOUND))
     if region.bounds is None:
         return Tile(b"", False)
