@@ -1,7 +1,7 @@
 """Connections to the server that stay open, and one request at a time on each.
 
 They are a protocol of asyncio, with httptools as the parser, which uvicorn takes for the clients of
-the gateway. httpx over the same costs ten times as much: a page of a box is two requests.
+the gateway. The layers of httpx would take a multiple of it, and a page of a box is two requests.
 """
 
 import asyncio

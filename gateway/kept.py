@@ -25,9 +25,10 @@ class Kept(Generic[Key, Value]):
 
     def put(self, key: Key, value: Value, size: int) -> None:
         """Keeps a value, which with its key takes about `size` bytes."""
-        before, _ = self.values.pop(key, (0, None))
+        if key in self.values:
+            self.bytes -= self.values.pop(key)[0]
         self.values[key] = size, value
-        self.bytes += size - before
+        self.bytes += size
         while self.bytes > self.most_bytes:
             _, (dropped, _) = self.values.popitem(last=False)
             self.bytes -= dropped
