@@ -15,9 +15,10 @@ from mirror_tests.front import Front, front, mirror_settings, reader_of
 CLASSES = """
 features-3/queryables features-3/queryables-query-parameters features-3/filter
 features-3/features-filter features-5/schemas features-5/returnables-and-receivables
-features-5/queryables features-5/sortables cql2/cql2-text cql2/basic-cql2 cql2/advanced-comparison-operators
-cql2/basic-spatial-functions cql2/basic-spatial-functions-plus tiles-1/core tiles-1/tileset
-tiles-1/tilesets-list tiles-1/geodata-tilesets tiles-1/mvt
+features-5/queryables features-5/sortables cql2/cql2-text cql2/basic-cql2
+cql2/advanced-comparison-operators cql2/basic-spatial-functions
+cql2/basic-spatial-functions-plus tiles-1/core tiles-1/tileset tiles-1/tilesets-list
+tiles-1/geodata-tilesets tiles-1/mvt
 """.split()
 VALIDATE = """
 use JSON::Validator::Schema::OpenAPIv3;
