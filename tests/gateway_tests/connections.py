@@ -87,9 +87,9 @@ class Sender:
             yield self.text[at : at + 1]
 
 
-async def outcome(asked: Connections, *request: str) -> Answer | type[Exception]:
+async def outcome(asked: Connections) -> Answer | type[Exception]:
     try:
-        return await asked.ask(*(request or ("GET", "/collections")))
+        return await asked.ask("GET", "/collections")
     except (Broken, Away) as fault:
         return type(fault)
 
