@@ -26,7 +26,7 @@ from messages import open_collection
 from tables import FEATURES, batches
 
 HEIGHTS, EACH_HEIGHT = 9000, 450
-LEVEL = 14
+LEVEL, ROUNDS_OF_TILES = 14, 5
 MIRROR = '[mirror]\ndatabase = "{database}"\n'
 MIRRORED = "SELECT serial FROM streetmap_mirror"
 PROJECT = """
@@ -51,6 +51,7 @@ unix_socket_directories = ''
 shared_buffers = 128MB
 fsync = off
 """
+WAIT_SECONDS = 1800
 BIN = Path("/usr/lib/postgresql/15/bin")
 
 
@@ -85,6 +86,15 @@ def rows(port: int, query: str) -> list[str]:
     return done.stdout.splitlines()
 
 
+def wait_for(database: int, serial: int) -> None:
+    """Waits until the mirror has a serial."""
+    ends = time.monotonic() + WAIT_SECONDS
+    while rows(database, MIRRORED) != [str(serial)]:
+        if time.monotonic() > ends:
+            fail(f"the mirror has no serial {serial}")
+        time.sleep(0.05)
+
+
 @contextlib.contextmanager
 def mirrored(program: Path, file: Path, journal: Path, database: int) -> Iterator[int]:
     """A server with a journal, and its transport into a database that has caught up. Gives the
@@ -98,11 +108,7 @@ def mirrored(program: Path, file: Path, journal: Path, database: int) -> Iterato
     with until_done(subprocess.Popen(served, **quiet), port):
         transport = subprocess.Popen(script, **quiet)
         try:
-            serial = FEATURES // 1000 + 1
-            while rows(database, MIRRORED) != [str(serial)]:
-                if transport.poll() is not None:
-                    fail("the transport has ended")
-                time.sleep(0.2)
+            wait_for(database, FEATURES // 1000 + 1)
             rows(database, "VACUUM ANALYZE streetmap_features")
             yield port
         finally:
@@ -196,24 +202,27 @@ def change(server: int, serial: int) -> None:
     urllib.request.urlopen(f"http://127.0.0.1:{server}/batches", body, timeout=60).close()
 
 
+def drawn_and_kept(service: Service, targets: list[str]) -> list[tuple[float, float, int]]:
+    """What each tile takes when it is drawn, and when it is kept, in milliseconds; its bytes."""
+    found = []
+    for target in targets:
+        drawn, size = milliseconds(service, target)
+        found.append((drawn, milliseconds(service, target)[0], size))
+    return found
+
+
 def report_tiles(service: Service, server: int, database: int) -> None:
-    """Times of tiles as they are drawn, and as they are kept."""
+    """Medians of several rounds. Before each the collection changes."""
     targets = tiles_of(service)
-    drawn: list[list[float]] = [[] for _ in targets]
-    kept: list[list[float]] = [[] for _ in targets]
-    sizes = [0] * len(targets)
-    for number in range(5):
-        serial = FEATURES // 1000 + 2 + number
+    rounds = []
+    for number in range(ROUNDS_OF_TILES):
         change(server, number)
-        while rows(database, MIRRORED) != [str(serial)]:
-            time.sleep(0.05)
-        for at, target in enumerate(targets):
-            took, sizes[at] = milliseconds(service, target)
-            drawn[at].append(took)
-            kept[at].append(milliseconds(service, target)[0])
-    for target, size, first, again in zip(targets, sizes, drawn, kept):
-        figures = f"{statistics.median(first):.1f} ms, again {statistics.median(again):.1f} ms"
-        report(target.rpartition("Quad/")[2], f"{figures}, {size} bytes")
+        wait_for(database, FEATURES // 1000 + 2 + number)
+        rounds.append(drawn_and_kept(service, targets))
+    for target, figures in zip(targets, zip(*rounds)):
+        drawn, kept, size = (statistics.median(each) for each in zip(*figures))
+        what = f"{drawn:.1f} ms, again {kept:.1f} ms, {size:.0f} bytes"
+        report(target.rpartition("Quad/")[2], what)
 
 
 def run(program: Path, folder: Path) -> None:

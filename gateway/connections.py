@@ -149,16 +149,13 @@ class Connections:
 
     def take(self) -> Connection | None:
         """A connection that no request has."""
-        while self.idle and not self.idle[0].is_free():
-            self.idle.pop(0).close()
-        while self.idle:
-            connection = self.idle.pop()
-            if connection.is_free():
-                return connection
-            connection.close()
-        return None
+        idle, self.idle = self.idle, []
+        for connection in idle:
+            self.give_back(connection)
+        return self.idle.pop() if self.idle else None
 
     def give_back(self, connection: Connection) -> None:
+        """Keeps a connection for further requests if it can have any."""
         if connection.is_free():
             self.idle.append(connection)
         else:

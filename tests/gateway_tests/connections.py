@@ -5,7 +5,6 @@ The server of these tests sends the bytes of a row, whatever it is requested.
 
 import asyncio
 import sys
-from collections.abc import Iterator
 from dataclasses import dataclass
 
 from gateway_tests.service import ROOT
@@ -60,9 +59,7 @@ class Sender:
         self.connections += 1
         while head := await self.request(reader):
             self.requests += head
-            for piece in self.pieces():
-                writer.write(piece)
-                await writer.drain()
+            await self.send(writer)
             if self.ends:
                 break
             if self.unasked:
@@ -78,13 +75,12 @@ class Sender:
         length = head.partition(b"Content-Length: ")[2].partition(b"\r\n")[0]
         return head + await reader.readexactly(int(length or 0))
 
-    def pieces(self) -> Iterator[bytes]:
-        """The bytes at once, or one after the other."""
-        if not self.is_slow:
-            yield self.text
-            return
-        for at in range(len(self.text)):
-            yield self.text[at : at + 1]
+    async def send(self, writer: asyncio.StreamWriter) -> None:
+        """Sends the bytes at once, or one after the other."""
+        size = 1 if self.is_slow else len(self.text) or 1
+        for at in range(0, len(self.text), size):
+            writer.write(self.text[at : at + size])
+            await writer.drain()
 
 
 async def outcome(asked: Connections) -> Answer | type[Exception]:

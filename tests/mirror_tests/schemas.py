@@ -40,20 +40,24 @@ Schema = dict[str, Any]
 
 def check_schemas(context: Context, front: Front) -> None:
     for collection in front.kept:
-        schemas = {name: linked(context, front, collection, name) for name in NAMES}
-        for name, schema in schemas.items():
-            check_form(context, f"{collection}: {name}", schema)
-        for kept in front.kept[collection]:
-            check_returned(context, schemas["schema"], kept)
+        check_collection(context, front, collection)
     found = {name: linked(context, front, "assets", name) for name in NAMES}
     check_queryables(context, front, found["queryables"])
     check_sortables(context, front, found["sortables"], found["schema"])
     check_received(context, front, found["schema"])
     front.database.ask(SET_TYPES)
-    for name in NAMES:
-        again = linked(context, front, "assets", name)
-        context.check(f"{name} with types that are set", again, found[name])
+    again = {name: linked(context, front, "assets", name) for name in NAMES}
+    context.check("with types that are set", again, found)
     front.database.ask(NOT_SET)
+
+
+def check_collection(context: Context, front: Front, collection: str) -> None:
+    """The form of the three schemas, and that of the features is true of each of them."""
+    schemas = {name: linked(context, front, collection, name) for name in NAMES}
+    for name, schema in schemas.items():
+        check_form(context, f"{collection}: {name}", schema)
+    for kept in front.kept[collection]:
+        check_returned(context, schemas["schema"], kept)
 
 
 def linked(context: Context, front: Front, collection: str, name: str) -> Schema:
