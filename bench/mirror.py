@@ -26,7 +26,8 @@ from messages import open_collection
 from tables import FEATURES, batches
 
 HEIGHTS, EACH_HEIGHT = 9000, 450
-LEVEL, ROUNDS_OF_TILES = 14, 5
+# A tile of level 14 has all that it can have, 10,000 of these lamps, and one of 16 some 1,400.
+LEVELS, ROUNDS_OF_TILES = (14, 15, 16, 17), 5
 MIRROR = '[mirror]\ndatabase = "{database}"\n'
 MIRRORED = "SELECT serial FROM streetmap_mirror"
 PROJECT = """
@@ -176,16 +177,14 @@ def table(services: list[Service]) -> None:
 
 
 def tiles_of(service: Service) -> list[str]:
-    """The tiles of a level that the extent of the lamps meets."""
+    """The tile in the middle of the lamps, at each level."""
     collection = json.loads(service.page("/collections/lamps"))
     west, south, east, north = collection["extent"]["spatial"]["bbox"][0]
-    size = 1 << LEVEL
-    columns = [math.floor((it + 180) / 360 * size) for it in (west, east)]
-    turns = [math.asinh(math.tan(math.radians(it))) for it in (north, south)]
-    spans = [math.floor((1 - it / math.pi) / 2 * size) for it in turns]
-    path = f"/collections/lamps/tiles/WebMercatorQuad/{LEVEL}"
-    below, across = (range(span[0], span[1] + 1) for span in (spans, columns))
-    return [f"{path}/{row}/{column}" for row in below for column in across]
+    across = (west + east + 360) / 720
+    turn = math.asinh(math.tan(math.radians((south + north) / 2)))
+    down = (1 - turn / math.pi) / 2
+    path = "/collections/lamps/tiles/WebMercatorQuad"
+    return [f"{path}/{it}/{int(down * 2**it)}/{int(across * 2**it)}" for it in LEVELS]
 
 
 def milliseconds(service: Service, target: str) -> tuple[float, int]:
