@@ -1,6 +1,6 @@
 """Pages of 100 features by the gateway, beside QGIS Server and MapServer over the same 100,000.
 
-It needs the gateway's packages (tests/packages.txt), `wrk`, `nginx` and `gdal-bin`. QGIS Server
+It needs the gateway's packages (tests/packages.txt), `nginx` and `gdal-bin`. QGIS Server
 (`qgis-server`, `python3-qgis`) and MapServer (`cgi-mapserver`) are compared with it if they are
 installed: Debian's packages of these names, by apt-get. No test needs them.
 
@@ -26,6 +26,7 @@ from pathlib import Path
 
 from clients import Started, serve, until_done
 from harness import free_port
+from loader import Loader
 from measures import compact, create, fail, report
 from messages import open_collection
 from tables import FEATURES, batches, lamp
@@ -124,15 +125,6 @@ FASTCGI = """
     fastcgi_param SERVER_PORT $server_port;
     fastcgi_param HTTP_HOST $http_host;
 """
-# Sends each request to the next target of a file.
-SCRIPT = """
-local targets, at = {{}}, 0
-for line in io.lines("{targets}") do targets[#targets + 1] = line end
-request = function()
-    at = at % #targets + 1
-    return wrk.format("GET", targets[at])
-end
-"""
 
 
 @dataclass(frozen=True)
@@ -206,8 +198,10 @@ def gateways(program: Path, file: Path, folder: Path) -> Iterator[Service]:
 
 
 @contextlib.contextmanager
-def by_fastcgi(program: Path, folder: Path, seen: dict[str, str]) -> Iterator[int]:
-    """A FastCGI program as PROCESSES processes behind nginx. Gives the port."""
+def by_fastcgi(
+    program: Path, folder: Path, seen: dict[str, str], processes: int = PROCESSES
+) -> Iterator[int]:
+    """A FastCGI program as some processes behind nginx. Gives the port."""
     folder.mkdir()
     seen = seen | {"TMPDIR": str(folder)}
     with contextlib.ExitStack() as started:
@@ -215,7 +209,7 @@ def by_fastcgi(program: Path, folder: Path, seen: dict[str, str]) -> Iterator[in
         listener.bind(str(folder / "socket"))
         listener.listen(128)
         errors = started.enter_context((folder / "errors").open("wb"))
-        for _ in range(PROCESSES):
+        for _ in range(processes):
             process = subprocess.Popen(
                 [str(program)],
                 env=os.environ | seen,
@@ -290,36 +284,24 @@ def walked(service: Service) -> list[str]:
     return found[::EACH_WALKED]
 
 
-def bytes_of(service: Service, targets: list[str]) -> float:
-    """The bytes of these pages on the average, 0 of none. Each has to have 100 lamps."""
+def bytes_of(service: Service, targets: list[str], is_full: bool = True) -> float:
+    """The bytes of these pages on the average, 0 of none. Each has to have 100 lamps, or some if
+    it need not be full."""
     sizes = []
     for target in targets:
         text = service.page(target)
-        if len(json.loads(text)["features"]) != LIMIT:
-            fail(f"{service.name} has no page of {LIMIT} at {target}: {text[:300]!r}")
+        count = len(json.loads(text)["features"])
+        if count != LIMIT and (is_full or count == 0):
+            fail(f"{service.name} has {count} lamps at {target}: {text[:300]!r}")
         sizes.append(len(text))
     return statistics.mean(sizes or [0])
 
 
-def rate(service: Service, targets: list[str], connections: int, folder: Path) -> float:
-    """Pages a second over `connections` connections; 0 without targets."""
-    if not targets:
-        return 0
-    script, listed = folder / "wrk.lua", folder / "targets"
-    listed.write_text("\n".join(targets) + "\n")
-    script.write_text(SCRIPT.format(targets=listed))
-    words = ["wrk", "-t1", f"-c{connections}", f"-d{SECONDS}s", "--timeout", "30s"]
-    words += ["-s", str(script), f"http://127.0.0.1:{service.port}/"]
-    done = subprocess.run(words, capture_output=True, text=True, check=True).stdout
-    if "Non-2xx" in done or "Socket errors" in done:
-        fail(f"wrk reports errors of {service.name}: {done}")
-    return float(done.partition("Requests/sec:")[2].split()[0])
-
-
-def rates(asked: dict[Service, list[str]], many: int, folder: Path) -> list[float]:
-    """The medians of several rounds, in each of which the servers take turns."""
+def rates(asked: dict[Service, list[str]], many: int) -> list[float]:
+    """Pages a second over a number of connections, 0 without targets: the medians of several
+    rounds, in each of which the servers take turns."""
     rounds = [
-        [rate(service, targets, many, folder) for service, targets in asked.items()]
+        [Loader(it.port, each, SECONDS).rate(many) if each else 0 for it, each in asked.items()]
         for _ in range(ROUNDS)
     ]
     return [statistics.median(taken) for taken in zip(*rounds)]
@@ -330,7 +312,7 @@ def print_row(name: str, figures: list[float]) -> None:
     print(f"| {name} | {' | '.join(shown)} |", flush=True)
 
 
-def table(services: list[Service], folder: Path) -> None:
+def table(services: list[Service]) -> None:
     """Prints the pages a second of each server."""
     areas = boxes(services[0])
     kinds = {
@@ -343,13 +325,13 @@ def table(services: list[Service], folder: Path) -> None:
     for name, asked in kinds.items():
         sizes = [bytes_of(service, targets) for service, targets in asked.items()]
         for many in CONNECTIONS:
-            print_row(f"{name}, connections: {many}", rates(asked, many, folder))
+            print_row(f"{name}, connections: {many}", rates(asked, many))
         print_row(f"{name}, bytes of a page", sizes)
 
 
 def run(program: Path, folder: Path) -> None:
     folder.chmod(0o755)
-    if missing := [it for it in ("wrk", "nginx", "ogr2ogr") if not shutil.which(it)]:
+    if missing := [it for it in ("nginx", "ogr2ogr") if not shutil.which(it)]:
         report("pages", f"not installed: {' '.join(missing)}")
         return
     opening = {"key": "open", "edits": [open_collection("lamps")]}
@@ -361,4 +343,4 @@ def run(program: Path, folder: Path) -> None:
             services.append(started.enter_context(qgis_server(lamps, folder / "qgis")))
         if MAPSERVER.exists():
             services.append(started.enter_context(mapserver(lamps, folder / "mapserver")))
-        table(services, folder)
+        table(services)

@@ -10,38 +10,22 @@ from collections.abc import Callable, Mapping
 from typing import Any, TypeVar
 from urllib.parse import quote, urlencode
 
-import httpx
-
+from .connections import Answer, Away, Broken, Connections
 from .features import Page, read_page
 from .problems import Problem, not_found, server_away
 
 TRIES = 3
-TIMEOUTS = {"timeout": httpx.Timeout(60, connect=15, pool=120).as_dict()}
-IDLE_SECONDS = 20
-# A connection that broke; the request on it may have been read or not.
-BROKEN = (httpx.RemoteProtocolError, httpx.ReadError, httpx.WriteError, httpx.CloseError)
 Value = TypeVar("Value")
 
 
 class ServerClient:
-    """A pool of connections to the server, fewer than its `--clients`.
-
-    It is a transport of httpx alone. What a client of httpx adds (redirects, cookies, proxies of
-    the environment) is of no use with this server, and takes as long again.
-    """
+    """A client of the server over a pool of connections, fewer than its `--clients`."""
 
     def __init__(self, address: str, connections: int) -> None:
-        limits = httpx.Limits(
-            max_connections=connections,
-            max_keepalive_connections=connections,
-            keepalive_expiry=IDLE_SECONDS,
-        )
-        self.pool = httpx.AsyncHTTPTransport(limits=limits)
-        self.address = httpx.URL(address)
-        self.path = self.address.raw_path.rstrip(b"/")
+        self.connections = Connections(address, connections)
 
     async def close(self) -> None:
-        await self.pool.aclose()
+        self.connections.close()
 
     async def collections(self) -> list[dict[str, Any]]:
         found: list[dict[str, Any]] = (await self.get("/collections"))["collections"]
@@ -71,38 +55,27 @@ class ServerClient:
         return await self.ask(json.loads, "POST", "/batches", batch)
 
     async def ask(
-        self, read: Callable[[bytes], Value], method: str, target: str, content: bytes | None = None
+        self, read: Callable[[bytes], Value], method: str, target: str, content: bytes = b""
     ) -> Value:
         """The answer of the server at a target, as `read` reads it; a Problem with the server's
         code if it refuses."""
-        url = self.address.copy_with(raw_path=self.path + target.encode())
-        request = httpx.Request(method, url, content=content, extensions=TIMEOUTS)
-        status, body = await self.send(request)
-        if status != 200:
-            raise refusal(status, body)
+        answer = await self.answer(method, target, content)
+        if answer.status != 200:
+            raise refusal(answer.status, answer.body)
         try:
-            return read(body)
+            return read(answer.body)
         except ValueError as fault:
             raise bad_answer() from fault
 
-    async def send(self, request: httpx.Request) -> tuple[int, bytes]:
-        for attempt in range(TRIES):
+    async def answer(self, method: str, target: str, content: bytes) -> Answer:
+        for _ in range(TRIES):
             try:
-                return await self.answer(request)
-            except BROKEN:
-                if attempt == TRIES - 1:
-                    break
-            except httpx.TransportError:
+                return await self.connections.ask(method, target, content)
+            except Broken:
+                continue
+            except Away:
                 break
         raise server_away("The server does not answer. What was sent may be sent again.")
-
-    async def answer(self, request: httpx.Request) -> tuple[int, bytes]:
-        """The status and body of an answer. Its connection goes back to the pool in any case."""
-        answer = await self.pool.handle_async_request(request)
-        try:
-            return answer.status_code, await answer.aread()
-        finally:
-            await answer.aclose()
 
 
 def collection_path(collection: str) -> str:

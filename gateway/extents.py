@@ -13,7 +13,8 @@ UNIT = Decimal(1).scaleb(-DEGREE_PLACES)
 def degree_extent(operation: Operation, bounds: Sequence[int]) -> list[Decimal] | None:
     """West, south, east and north of grid bounds, rounded outward; None if these have no
     coordinates in degrees. West is above east for an extent across the 180th meridian."""
-    around = degrees_around(operation, bounds)
+    x0, y0, x1, y1 = bounds
+    around = degrees_around(operation, (x0, y0, x1, y1))
     if around is None:
         return None
     west, south = (Decimal(bound).quantize(UNIT, ROUND_FLOOR) - UNIT for bound in around[:2])

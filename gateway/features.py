@@ -7,11 +7,11 @@ geometry is read, transformed and written. The text after it is passed on as it 
 
 import json
 import sys
-from collections import OrderedDict
 from dataclasses import dataclass
 from typing import Any, NamedTuple
 
 from .geojson import compact, transform_geometries
+from .kept import Kept
 from .systems import System
 
 FEATURES, GEOMETRY, ID, LINKS = '{"features":[', '{"geometry":', ',"id":', '],"links":['
@@ -60,40 +60,23 @@ class TransformedPage:
     goes_on: bool
 
 
-class KeptPages:
-    """The pages that were requested last, by the bytes that the server answered."""
+KEPT_PAGES: Kept[tuple[bytes, System], TransformedPage] = Kept(KEPT_BYTES)
 
-    def __init__(self, most_bytes: int) -> None:
-        self.most_bytes = most_bytes
-        self.bytes = 0
-        self.pages: OrderedDict[tuple[bytes, System], TransformedPage] = OrderedDict()
 
-    def page(self, body: bytes, system: System) -> TransformedPage:
-        """The page of an answer in a reference system; a ValueError if it is no page."""
-        key = body, system
-        page = self.pages.pop(key, None)
-        if page is None:
-            page = made_page(body, system)
-            self.bytes += size_of(body, page)
-        self.pages[key] = page
-        while self.bytes > self.most_bytes:
-            (oldest, _), dropped = self.pages.popitem(last=False)
-            self.bytes -= size_of(oldest, dropped)
-        return page
+def transformed_page(body: bytes, system: System) -> TransformedPage:
+    """The page of an answer in a reference system; a ValueError if it is no page."""
+    if len(body) > PAGE_BYTES:
+        return made_page(body, system)
+    page = KEPT_PAGES.get((body, system))
+    if page is None:
+        page = made_page(body, system)
+        KEPT_PAGES.put((body, system), page, size_of(body, page))
+    return page
 
 
 def size_of(body: bytes, page: TransformedPage) -> int:
     """About how much memory a page takes."""
     return sys.getsizeof(body) + sys.getsizeof(page.text) + ENTRY_BYTES
-
-
-KEPT_PAGES = KeptPages(KEPT_BYTES)
-
-
-def transformed_page(body: bytes, system: System) -> TransformedPage:
-    """The page of an answer in a reference system; a ValueError if it is no page."""
-    is_small = len(body) <= PAGE_BYTES
-    return KEPT_PAGES.page(body, system) if is_small else made_page(body, system)
 
 
 def made_page(body: bytes, system: System) -> TransformedPage:

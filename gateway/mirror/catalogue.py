@@ -10,7 +10,7 @@ from dataclasses import dataclass
 from psycopg2.sql import SQL, Literal
 
 from ..problems import Problem
-from .database import Reading
+from .database import Reading, Row
 from .filters import Kind
 
 COLLECTION = """
@@ -77,14 +77,25 @@ class Catalogue:
 IDENTITY = Property(ID, frozenset({"string"}), "text")
 
 
-def read_catalogue(reading: Reading, collection: str) -> Catalogue:
-    """What the mirror knows of a collection; a refusal if it has none of this name."""
+def read_changed(reading: Reading, collection: str) -> int:
+    """The serial of a collection's last change; a refusal if the mirror has none of this name."""
+    changed: int = read_opened(reading, collection)[3]
+    return changed
+
+
+def read_opened(reading: Reading, collection: str) -> Row:
+    """The serial of the state, and the collection's title, time and serial."""
     found = None
     if "\0" not in collection:
         found = reading.row(SQL(COLLECTION).format(Literal(collection)))
     if found is None or found[1] is None:
         raise Problem(404, "no_collection", "The mirror has no such collection.")
-    serial, title, time, changed = found
+    return found
+
+
+def read_catalogue(reading: Reading, collection: str) -> Catalogue:
+    """What the mirror knows of a collection; a refusal if it has none of this name."""
+    serial, title, time, changed = read_opened(reading, collection)
     rows = reading.rows(SQL(PROPERTIES).format(Literal(collection)))
     made = [
         Property(name, frozenset(kinds or ()), set_type, name == time)

@@ -1,5 +1,5 @@
 """What filters can be of a collection, what can be sorted by, and what its features have, as JSON
-Schema (OGC 19-079r2, 6; drafts of Parts 5 and 8).
+Schema (OGC 19-079r2, 6; the drafts of Part 5, OGC 23-058, and Part 8).
 
 The mirror knows the kinds of values that properties have had, so these describe what exists, and
 not what the office may still write.
@@ -36,31 +36,37 @@ OWN = {
 Schema = dict[str, Any]
 
 
-def described(found: Property, kinds: tuple[str, ...] = tuple(SEEN_TYPES)) -> Schema:
-    """What values a property has, of these kinds."""
+def compared(found: Property) -> Schema:
+    """What a property is compared with: values of the type that is set, or of the kinds seen."""
     if found.set_type is not None:
         return {"title": found.name, **SET_TYPES[found.set_type]}
+    return seen(found, SCALARS)
+
+
+def seen(found: Property, kinds: tuple[str, ...] = tuple(SEEN_TYPES)) -> Schema:
+    """What was seen in a property, of these kinds."""
     types = list(dict.fromkeys(SEEN_TYPES[kind] for kind in kinds if kind in found.seen))
     return {"title": found.name, "type": types[0] if len(types) == 1 else types}
 
 
 def queryables(catalogue: Catalogue, address: str) -> Schema:
     """What filters can name."""
-    found = {each.name: described(each, SCALARS) for each in catalogue.scalars()}
+    found = {each.name: compared(each) for each in catalogue.scalars()}
     return schema(catalogue, address, found | OWN) | {"additionalProperties": False}
 
 
 def sortables(catalogue: Catalogue, address: str) -> Schema:
     """What can be sorted by."""
     sorted_by = [it for it in catalogue.scalars() if it.kinds & set(ORDER)]
-    found = {each.name: described(each, SCALARS) for each in sorted_by}
+    found = {each.name: compared(each) for each in sorted_by}
     own = {ID: OWN[ID]}
     return schema(catalogue, address, found | own) | {"additionalProperties": False}
 
 
 def features(catalogue: Catalogue, address: str) -> Schema:
-    """What features have: their id, their geometry and each property that was seen."""
-    found = {each.name: described(each) for each in catalogue.properties.values()}
+    """What features have: their id, their geometry and each property that was seen. The type that
+    the office has set changes no feature."""
+    found = {each.name: seen(each) for each in catalogue.properties.values() if each.seen}
     return schema(catalogue, address, found | OWN)
 
 

@@ -7,17 +7,20 @@ from typing import Any, TypeVar
 import psycopg2
 from psycopg2.sql import SQL
 
+from ..kept import Kept
 from ..problems import Problem
 from ..settings import Mirror, SettingsFault
 from ..systems import Systems
 from . import tiles
-from .catalogue import Catalogue, read_catalogue
+from .catalogue import Catalogue, read_catalogue, read_changed
 from .clauses import MirrorSystem
 from .database import Database, Reading
 from .pages import MirrorPage, Paging
 from .selection import Selection, check_serial
 
 SYSTEM = "SELECT srid, easting, northing FROM streetmap_mirror"
+# Tiles are kept as they were drawn, the last KEPT_BYTES of them, each with some bytes beside it.
+KEPT_BYTES, ENTRY_BYTES = 1 << 25, 1 << 9
 Value = TypeVar("Value")
 
 
@@ -32,6 +35,8 @@ class MirrorService:
         code = int(systems.office.uri.rpartition("/")[2])
         self.system = MirrorSystem(code, systems.office.grid)
         self.is_compared = False
+        # Each tile with the serial of its collection's last change.
+        self.kept: Kept[tuple[str, tiles.TileAddress], tuple[int, tiles.Tile]] = Kept(KEPT_BYTES)
 
     @classmethod
     def of(cls, settings: Mirror | None, systems: Systems) -> "MirrorService | None":
@@ -94,15 +99,23 @@ class MirrorService:
     async def tile(
         self, collection: str, at: tiles.TileAddress, is_known: Callable[[int], bool]
     ) -> tuple[int, tiles.Tile | None]:
-        """The serial of the collection's last change, and the tile unless that serial is known."""
+        """The serial of the collection's last change, and the tile unless that serial is known. A
+        tile is drawn once for each such serial."""
+        kept = self.kept.get((collection, at))
 
         def tile(reading: Reading) -> tuple[int, tiles.Tile | None]:
-            changed = read_catalogue(reading, collection).changed
+            changed = read_changed(reading, collection)
             if is_known(changed):
                 return changed, None
+            if kept is not None and kept[0] == changed:
+                return kept
             return changed, tiles.draw(reading, self.system, self.systems, collection, at)
 
-        return await self.read(tile)
+        changed, drawn = await self.read(tile)
+        if drawn is not None:
+            size = len(drawn.body) + ENTRY_BYTES
+            self.kept.put((collection, at), (changed, drawn), size)
+        return changed, drawn
 
     async def close(self) -> None:
         self.database.close()

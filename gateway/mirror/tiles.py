@@ -18,7 +18,7 @@ from psycopg2.sql import SQL, Literal as Value
 from ..grid import BOUND, STEPS, nearest_steps
 from ..problems import Problem
 from ..systems import CRS84, EPSG, Systems
-from .catalogue import Catalogue, read_catalogue
+from .catalogue import Catalogue
 from .clauses import MirrorSystem
 from .database import Reading
 
@@ -32,19 +32,23 @@ HALF, UNITS, MARGIN = Decimal("20037508.3427892480"), 4096, 64
 PIXELS, PAPER = 256, Decimal("0.00028")
 # The first features of a tile by id that are drawn; the others are left out.
 MOST_FEATURES = 10_000
+# OFFSET 0 has each geometry made once, although it is both tested and drawn.
 TILE = """
 WITH chosen AS MATERIALIZED (
     SELECT id, properties, geometry FROM streetmap_features
     WHERE collection = {collection} AND {within}
     ORDER BY id LIMIT {most} + 1
-), drawn AS MATERIALIZED (
-    SELECT id, properties - 'id' AS properties, ST_AsMVTGeom(
-        ST_Transform(geometry, 3857), ST_TileEnvelope({level}, {column}, {row}), {units}, {margin}
-    ) AS geometry
-    FROM (SELECT * FROM chosen ORDER BY id LIMIT {most}) AS first
 )
 SELECT (SELECT count(*) FROM chosen) > {most}, ST_AsMVT(drawn, {collection}, {units}, 'geometry')
-FROM drawn WHERE geometry IS NOT NULL
+FROM (
+    SELECT id, CASE WHEN properties ? 'id' THEN properties - 'id' ELSE properties END AS properties,
+        ST_AsMVTGeom(
+            ST_Transform(geometry, 3857),
+            ST_TileEnvelope({level}, {column}, {row}), {units}, {margin}
+        ) AS geometry
+    FROM (SELECT * FROM chosen ORDER BY id LIMIT {most}) AS first
+    OFFSET 0
+) AS drawn WHERE geometry IS NOT NULL
 """
 PLACED = """
 SELECT ST_X(it.placed), ST_Y(it.placed) FROM (
@@ -105,7 +109,6 @@ def draw(
     reading: Reading, system: MirrorSystem, systems: Systems, collection: str, at: TileAddress
 ) -> Tile:
     """The tile of a collection in this state."""
-    read_catalogue(reading, collection)
     region = systems.by_uri[CRS84].box(at.bounds()).region((-BOUND, -BOUND, BOUND, BOUND))
     if region.bounds is None:
         return Tile(b"", False)

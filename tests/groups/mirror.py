@@ -20,6 +20,7 @@ PACKAGES = (
     "python3-httptools",
     "python3-httpx",
     "python3-jinja2",
+    "python3-jsonschema",
     "python3-lark",
     "python3-psycopg2",
     "python3-pydantic",

@@ -9,14 +9,16 @@ from urllib.parse import urlsplit
 from followers_tests.postgres import Database
 from gateway_tests.service import PYTHON, ROOT, SYSTEM, environment, gateway, json_of, settings_text
 from harness import Context, free_port
-from mirror_tests import filters, refusals, tiles, walks
+from mirror_tests import filters, refusals, schemas, tiles, walks
 from mirror_tests.front import Front, front, mirror_settings, reader_of
 
 CLASSES = """
 features-3/queryables features-3/queryables-query-parameters features-3/filter
-features-3/features-filter cql2/cql2-text cql2/basic-cql2 cql2/advanced-comparison-operators
-cql2/basic-spatial-functions cql2/basic-spatial-functions-plus tiles-1/core tiles-1/tileset
-tiles-1/tilesets-list tiles-1/geodata-tilesets tiles-1/mvt
+features-3/features-filter features-5/schemas features-5/returnables-and-receivables
+features-5/queryables features-5/sortables cql2/cql2-text cql2/basic-cql2
+cql2/advanced-comparison-operators cql2/basic-spatial-functions
+cql2/basic-spatial-functions-plus tiles-1/core tiles-1/tileset tiles-1/tilesets-list
+tiles-1/geodata-tilesets tiles-1/mvt
 """.split()
 VALIDATE = """
 use JSON::Validator::Schema::OpenAPIv3;
@@ -37,7 +39,8 @@ def check_gateway(context: Context, cluster: Database, count: int) -> None:
         refusals.check_faults(context, made)
         refusals.check_texts(context, made)
         tiles.check_tiles(context, made)
-        check_schemas(context, made)
+        check_classes(context, made)
+        schemas.check_schemas(context, made)
         check_gdal(context, made)
         check_qgis(context, made)
         walks.check_walks(context, made)
@@ -51,8 +54,8 @@ def short(uri: str) -> str:
     return "/".join([path.split("/")[0], path.split("/")[-1]])
 
 
-def check_schemas(context: Context, made: Front) -> None:
-    """Conformance classes, the description, and the schemas of a collection."""
+def check_classes(context: Context, made: Front) -> None:
+    """The conformance classes and the description."""
     listed = {short(it) for it in json_of(made.asked.ask("/conformance"))["conformsTo"]}
     context.check("the classes", set(CLASSES) - listed, set())
     described = json_of(made.asked.ask("/api"))["paths"]
@@ -62,27 +65,9 @@ def check_schemas(context: Context, made: Front) -> None:
     context.check("the description is valid", (ended.stdout, ended.stderr), ("0", ""))
     there = [f"/collections/{{collectionId}}{path}" in described for path in ADDED[:4]]
     context.check("the description", there, [True] * 4)
-    found = json_of(made.asked.ask("/collections/assets/queryables"))
-    kinds = {name: it.get("type") for name, it in found["properties"].items()}
-    wanted = {
-        "id": "string",
-        "no": "integer",
-        "height": "integer",
-        "name": "string",
-        "lit": "boolean",
-        "breite": "number",
-        "geometry": None,
-    }
-    context.check("queryables", {name: kinds.get(name) for name in wanted}, wanted)
-    context.check("what filters cannot name", "tags" in kinds, False)
-    context.check("no others", found["additionalProperties"], False)
-    shown = json_of(made.asked.ask("/collections/assets/schema"))["properties"]
-    context.check("the schema", (shown["tags"]["type"], "mixed" in shown), ("array", True))
     page = made.asked.ask("/collections/assets/items", filter="no < 50", f="html")
     has_link = "serial=" in page.text and "after=" in page.text
     context.check("a page for people", (page.status_code, has_link), (200, True))
-    sortables = json_of(made.asked.ask("/collections/assets/sortables"))["properties"]
-    context.check("sortables", ("no" in sortables, "geometry" in sortables), (True, False))
     links = {
         it["rel"].rpartition("/")[2]
         for it in json_of(made.asked.ask("/collections/assets"))["links"]

@@ -136,6 +136,7 @@ def check_tiles(context: Context, front: Front) -> None:
     context.check("tiles with features", all(sum(it) > 9 for it in counts.values()), True)
     check_tags(context, front)
     check_cut(context, front)
+    check_kept(context, front)
     check_metadata(context, front)
     check_gdal(context, front)
 
@@ -175,6 +176,23 @@ def check_cut(context: Context, front: Front) -> None:
     context.check("a full tile", answer.headers.get("streetmap-tile"), "cut")
     whole = front.asked.ask(path_of("lamps", 8, *tile_of(8)))
     context.check("a tile that is whole", "streetmap-tile" in whole.headers, False)
+
+
+def check_kept(context: Context, front: Front) -> None:
+    """A tile is drawn once for each serial of its collection's last change."""
+    path = path_of("many", 8, *tile_of(8))
+    first = front.asked.ask(path)
+    front.database.ask("DELETE FROM streetmap_features WHERE id = 'M10001'")
+    again = front.asked.ask(path)
+    same = again.content == first.content, again.headers["etag"] == first.headers["etag"]
+    context.check("a tile that is kept", same, (True, True))
+    context.check("it is cut", again.headers.get("streetmap-tile"), "cut")
+    front.database.ask("UPDATE streetmap_collections SET changed = 2 WHERE id = 'many'")
+    drawn = front.asked.ask(path)
+    ids = {it.properties["id"] for it in read_tile(drawn.content)["many"][1]}
+    found = "M10001" in ids, "M20001" in ids, drawn.headers["etag"]
+    context.check("a tile that is drawn again", found, (False, True, '"2"'))
+    context.check("it is whole", "streetmap-tile" in drawn.headers, False)
 
 
 def check_metadata(context: Context, front: Front) -> None:
