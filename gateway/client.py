@@ -7,14 +7,25 @@ waits.
 
 import json
 from collections.abc import Callable, Mapping
+from functools import cached_property
 from typing import Any, TypeVar
 from urllib.parse import quote, urlencode
 
-from .connections import Answer, Away, Broken, Connections
+import aiohttp
+from yarl import URL
+
 from .features import Page, read_page
 from .problems import Problem, not_found, server_away
 
 TRIES = 3
+# How long a request waits: for a connection, and for each part of an answer.
+TIMEOUT = aiohttp.ClientTimeout(total=None, connect=135, sock_connect=15, sock_read=60)
+# The server closes a connection that is idle for 30 seconds.
+IDLE_SECONDS = 20
+# Fields that aiohttp would add; the server has no use for them.
+UNSENT = ("Accept", "Accept-Encoding", "Content-Type", "User-Agent")
+# No connection was made in time, or an answer did not come in time.
+AWAY = (aiohttp.ClientConnectorError, aiohttp.ServerTimeoutError)
 Value = TypeVar("Value")
 
 
@@ -22,10 +33,22 @@ class ServerClient:
     """A client of the server over a pool of connections, fewer than its `--clients`."""
 
     def __init__(self, address: str, connections: int) -> None:
-        self.connections = Connections(address, connections)
+        self.address = address.rstrip("/")
+        self.most = connections
+
+    @cached_property
+    def session(self) -> aiohttp.ClientSession:
+        """The pool. It belongs to the event loop that makes the first request."""
+        return aiohttp.ClientSession(
+            connector=aiohttp.TCPConnector(limit=self.most, keepalive_timeout=IDLE_SECONDS),
+            cookie_jar=aiohttp.DummyCookieJar(),
+            timeout=TIMEOUT,
+            skip_auto_headers=UNSENT,
+            auto_decompress=False,
+        )
 
     async def close(self) -> None:
-        self.connections.close()
+        await self.session.close()
 
     async def collections(self) -> list[dict[str, Any]]:
         found: list[dict[str, Any]] = (await self.get("/collections"))["collections"]
@@ -59,23 +82,31 @@ class ServerClient:
     ) -> Value:
         """The answer of the server at a target, as `read` reads it; a Problem with the server's
         code if it refuses."""
-        answer = await self.answer(method, target, content)
-        if answer.status != 200:
-            raise refusal(answer.status, answer.body)
+        status, body = await self.answer(method, target, content)
+        if status != 200:
+            raise refusal(status, body)
         try:
-            return read(answer.body)
+            return read(body)
         except ValueError as fault:
             raise bad_answer() from fault
 
-    async def answer(self, method: str, target: str, content: bytes) -> Answer:
+    async def answer(self, method: str, target: str, content: bytes) -> tuple[int, bytes]:
+        """The status and the body of an answer. A connection that broke is tried again: the request
+        on it may have been read or not."""
         for _ in range(TRIES):
             try:
-                return await self.connections.ask(method, target, content)
-            except Broken:
-                continue
-            except Away:
+                return await self.answer_once(method, target, content)
+            except AWAY:
                 break
+            except aiohttp.ClientError:
+                continue
         raise server_away("The server does not answer. What was sent may be sent again.")
+
+    async def answer_once(self, method: str, target: str, content: bytes) -> tuple[int, bytes]:
+        url = URL(self.address + target, encoded=True)
+        data = content or None
+        async with self.session.request(method, url, data=data, allow_redirects=False) as answer:
+            return answer.status, await answer.read()
 
 
 def collection_path(collection: str) -> str:

@@ -1,6 +1,6 @@
 """The gateway in real reference systems: boxes, edits, faults, and QGIS, GDAL and OWSLib."""
 
-from gateway_tests import answers, boxes, clients, connections, costs, doubles, edits, faults
+from gateway_tests import answers, boxes, clients, costs, doubles, edits, faults
 from gateway_tests import html_pages, network, orders, pages, round_trip, settings, texts, writing
 from gateway_tests.data import batches, collections
 from gateway_tests.service import gateway
@@ -9,6 +9,7 @@ from messages import post
 
 PACKAGES = (
     "libjson-validator-perl",
+    "python3-aiohttp",
     "python3-jinja2",
     "python3-pydantic",
     "python3-starlette",
@@ -34,7 +35,6 @@ def run(context: Context) -> None:
     writing.check_token(context)
     doubles.check_doubles(context)
     texts.check_texts(context)
-    connections.check_connections(context)
     file = context.new_file("town.streetmap", *map(post, batches(collections())))
     with context.serve(file, "--clients", "48") as server:
         with gateway(context, server.url) as asked, network.Rude(context, asked):

@@ -17,6 +17,7 @@ PACKAGES = (
     "libjson-validator-perl",
     "postgresql",
     "postgresql-15-postgis-3",
+    "python3-aiohttp",
     "python3-httptools",
     "python3-httpx",
     "python3-jinja2",
