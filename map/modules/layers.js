@@ -3,6 +3,7 @@
  * one that is chosen, all on one canvas.
  *
  * @typedef {import("./feature.js").Feature} Feature
+ * @typedef {import("./geometry.js").Box} Box
  * @typedef {import("./geometry.js").Position} Position
  * @typedef {import("./pending.js").Mark} Mark
  * @typedef {import("./painting.js").Style} Style
@@ -10,7 +11,7 @@
  * @typedef {object} Shown
  * @property {string} collection
  * @property {Feature} feature
- * @property {import("./geometry.js").Box | null} box
+ * @property {Box | null} box
  * @property {{mark: Mark, op: string} | null} pending
  * @property {Styles} styles
  * @typedef {import("./legend.js").SymbolShape} SymbolShape
@@ -18,11 +19,13 @@
  *   the style sheet
  */
 import * as L from "../leaflet/leaflet.esm.js";
-import { addCanvas } from "./canvas.js";
+import { Surface } from "./canvas.js";
 import { colour } from "./colours.js";
 import { nameOf } from "./feature.js";
 import { boxOf, distanceTo, overlaps } from "./geometry.js";
 import { Painter } from "./painting.js";
+import { Stamps } from "./stamps.js";
+import { outlineOf } from "./tiles.js";
 
 const LEVEL = 410;
 const DASHES = { basket: [6, 4], waiting: [2, 5], differs: [10, 4, 2, 4], refused: [] };
@@ -43,7 +46,8 @@ export class Layers {
   /** @type {Map<string, Shown>} */
   shown = new Map();
   #map;
-  #canvas;
+  #surface;
+  #stamps = new Stamps();
   /** @type {(collection: string, feature: Feature) => Look} */
   #lookOf;
   /** @type {Map<string, Styles>} those at the zoom and in the colours of now */
@@ -58,29 +62,71 @@ export class Layers {
   constructor(map, lookOf) {
     this.#map = map;
     this.#lookOf = lookOf;
-    this.#canvas = addCanvas(map, "features", LEVEL, (...drawn) => this.#paint(...drawn));
+    this.#surface = new Surface(map, "features", LEVEL, (tiles) => this.#paint(tiles));
   }
 
   /**
-   * @param {CanvasRenderingContext2D} context
-   * @param {L.PixelBounds} bounds in pixels
+   * Paints the features in tiles that are empty.
+   * @param {import("./canvas.js").Tile[]} tiles
    */
-  #paint(context, { min, max }) {
+  #paint(tiles) {
+    this.#stamps.use(this.#surface.ratio);
+    const halo = this.#chosen && this.#halo();
+    const all = this.#drawnIn(outlineOf(tiles.map(({ square }) => square)));
+    for (const { context, square } of tiles) {
+      const painter = new Painter(context, this.#placing, this.#stamps);
+      const box = this.#boxOf(square);
+      const inTile = all.filter((it) => overlaps(it.box, box));
+      for (const kind of ORDER) {
+        for (const it of inTile) painter.paint(it.feature.geometry, kind, it.styles[kind]);
+      }
+      for (const kind of halo ? ORDER : []) painter.paint(this.#chosen.geometry, kind, halo[kind]);
+    }
+  }
+
+  /** @returns {import("./painting.js").Placing} where positions are in Leaflet's pixels */
+  get #placing() {
     const scale = this.#map.getZoomScale(this.#map.getZoom(), 0) / 1000;
     const { x: east, y: south } = this.#map.getPixelOrigin();
-    const painter = new Painter(context, { scale, east, south });
-    const box = {
-      x0: (min.x + east - REACH) / scale,
-      x1: (max.x + east + REACH) / scale,
-      y0: -(max.y + south + REACH) / scale,
-      y1: -(min.y + south - REACH) / scale,
+    return { scale, east, south };
+  }
+
+  /**
+   * @param {import("./tiles.js").Rectangle} rectangle
+   * @returns {Box} of the features that may be seen in it
+   */
+  #boxOf({ left, top, right, bottom }) {
+    const { scale, east, south } = this.#placing;
+    return {
+      x0: (left + east - REACH) / scale,
+      x1: (right + east + REACH) / scale,
+      y0: -(bottom + south + REACH) / scale,
+      y1: -(top + south - REACH) / scale,
     };
-    const inView = [...this.shown.values()].filter((it) => it.box && overlaps(it.box, box));
-    for (const kind of ORDER) {
-      for (const { feature, styles } of inView) painter.paint(feature.geometry, kind, styles[kind]);
-    }
-    const halo = this.#chosen && this.#halo();
-    for (const kind of halo ? ORDER : []) painter.paint(this.#chosen.geometry, kind, halo[kind]);
+  }
+
+  /**
+   * @param {import("./tiles.js").Rectangle} rectangle
+   * @returns {Shown[]} what may be seen in it
+   */
+  #drawnIn(rectangle) {
+    const box = this.#boxOf(rectangle);
+    return [...this.shown.values()].filter((it) => it.box && overlaps(it.box, box));
+  }
+
+  /**
+   * Has a part of the map painted again.
+   * @param {Box | null} box
+   */
+  #changed(box) {
+    if (!box) return;
+    const { scale, east, south } = this.#placing;
+    this.#surface.paintAgain({
+      left: box.x0 * scale - east - REACH,
+      right: box.x1 * scale - east + REACH,
+      top: -box.y1 * scale - south - REACH,
+      bottom: -box.y0 * scale - south + REACH,
+    });
   }
 
   /** @returns {number} the radius of a point at the zoom of now */
@@ -176,12 +222,24 @@ export class Layers {
     const styles = this.#styles(collection, feature, pending);
     const box = boxOf(feature.geometry);
     this.shown.set(name, { collection, feature, box, pending, styles });
-    this.#canvas.paintAgain();
+    this.#changed(box);
+    if (before?.feature !== feature) this.#changed(before?.box);
   }
 
   /** @param {string} name of a feature among all collections */
   remove(name) {
-    if (this.shown.delete(name)) this.#canvas.paintAgain();
+    this.#changed(this.shown.get(name)?.box);
+    this.shown.delete(name);
+  }
+
+  /** @param {boolean} isGathering whether more features are to come: they are painted together */
+  gather(isGathering) {
+    this.#surface.gather(isGathering);
+  }
+
+  /** @returns {Box} of the view and what is around it */
+  get around() {
+    return this.#boxOf(this.#surface.around);
   }
 
   /** Draws all again: colours or sizes changed. */
@@ -190,7 +248,7 @@ export class Layers {
     for (const shown of this.shown.values()) {
       shown.styles = this.#styles(shown.collection, shown.feature, shown.pending);
     }
-    this.#canvas.paintAgain();
+    this.#surface.paintAgain();
   }
 
   /**
@@ -199,12 +257,12 @@ export class Layers {
    */
   outline(feature) {
     if (feature === this.#chosen) return;
+    for (const it of [feature, this.#chosen]) this.#changed(it && boxOf(it.geometry));
     this.#chosen = feature;
-    this.#canvas.paintAgain();
   }
 
   /**
-   * @param {import("./geometry.js").Box} around
+   * @param {Box} around
    * @param {string} except the name of a feature that does not count
    * @returns {Iterable<import("./geometry.js").Geometry>} of the features that may meet the box
    */

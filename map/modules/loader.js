@@ -7,8 +7,8 @@
  *   problem: string}} Count of the features of a collection; a problem says why it is not of now
  */
 import { NoAnswer, Refusal, readPages } from "./api.js";
-import { afterFrame } from "./element.js";
 import { boxOf } from "./geometry.js";
+import { idle } from "./idle.js";
 
 export class Loader {
   /** @type {AbortController | null} */
@@ -87,8 +87,8 @@ export class Loader {
       if (!(fault instanceof NoAnswer) && !(fault instanceof Refusal)) throw fault;
       return this.#fromSeen(collection, box, datetime, fault.message);
     }
-    const forget = () => this.#seen.keepOnly(collection, box, ids).catch(console.error);
-    if (isWhole && !datetime) afterFrame(forget);
+    const now = Date.now();
+    if (isWhole && !datetime) idle.add(() => this.#seen.keepOnly(collection, box, ids, now));
     return {
       ids,
       shown: ids.size,

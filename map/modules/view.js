@@ -12,6 +12,7 @@ import { toPosition } from "./draw.js";
 import { nameOf } from "./feature.js";
 import { boxOf, overlaps } from "./geometry.js";
 import { addGrid, addScale } from "./grid.js";
+import { idle } from "./idle.js";
 import { Labels } from "./labels.js";
 import { Layers, toPlace } from "./layers.js";
 import { makeMap } from "./leaflet_map.js";
@@ -72,9 +73,14 @@ export class View {
     const { dataset } = this.map.getContainer();
     const { lat, lng } = this.map.getCenter();
     Object.assign(dataset, { x: lng, y: lat, zoom: this.map.getZoom(), state: "asks" });
+    this.layers.gather(true);
+    idle.hold();
     const turn = (this.#turn += 1);
     return () => {
-      if (turn === this.#turn) dataset.state = "rests";
+      if (turn !== this.#turn) return;
+      this.layers.gather(false);
+      idle.release();
+      dataset.state = "rests";
     };
   }
 
@@ -146,7 +152,9 @@ export class View {
 
   /** @returns {Iterable<import("./labels.js").Label>} the labels of what is drawn */
   *#shownLabels() {
-    for (const { collection, feature } of this.layers.shown.values()) {
+    const { box: view } = this;
+    for (const { collection, feature, box } of this.layers.shown.values()) {
+      if (!box || !overlaps(box, view)) continue;
       const text = labelOf(this.legends.get(collection), feature);
       if (text) yield { feature, text };
     }
@@ -246,10 +254,7 @@ export class View {
     const { box } = this;
     const counts = await this.#loader.load(wanted, box, this.#datetime);
     if (!counts) return;
-    for (const [name, { collection, feature }] of this.layers.shown) {
-      const isPending = this.#state.basket.pending.has(name) && !this.#isOff(collection);
-      if (!isPending && !counts.get(collection)?.ids.has(feature.id)) this.layers.remove(name);
-    }
+    this.#removeGone(counts, box);
     this.#drawPending();
     this.counts = counts;
     this.asOf = Math.min(...[...counts.values()].map(({ oldest }) => oldest ?? Date.now()));
@@ -257,6 +262,21 @@ export class View {
     this.#listener.onCounts();
     this.#showDensity(box);
     rests();
+  }
+
+  /**
+   * Takes away what the view no longer has. Around the view all stays that no filter concerns.
+   * @param {Map<string, {ids: Set<string>}>} counts
+   * @param {Box} box of the view
+   */
+  #removeGone(counts, box) {
+    const around = this.#datetime ? box : this.layers.around;
+    for (const [name, { collection, feature, box: own }] of this.layers.shown) {
+      if (this.#state.basket.pending.has(name) && !this.#isOff(collection)) continue;
+      const ids = counts.get(collection)?.ids;
+      const isAround = ids && own && !overlaps(own, box) && overlaps(own, around);
+      if (!ids?.has(feature.id) && !isAround) this.layers.remove(name);
+    }
   }
 
   /**
