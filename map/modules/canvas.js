@@ -26,6 +26,8 @@ export class Surface {
   #container;
   /** @type {Map<string, Tile>} by their places */
   #tiles = new Map();
+  /** @type {HTMLCanvasElement[]} those of tiles that were let go */
+  #free = [];
   /** What the tiles were painted for; they are of no use for another. */
   #origin = { x: 0, y: 0 };
   #zoom = 0;
@@ -86,7 +88,7 @@ export class Surface {
   #paintNext() {
     clearTimeout(this.#timer);
     this.#timer = 0;
-    this.#frame ||= requestAnimationFrame(() => this.#draw());
+    if (this.#frame === 0) this.#frame = requestAnimationFrame(() => this.#draw());
   }
 
   /**
@@ -134,6 +136,7 @@ export class Surface {
     const { view, around } = this;
     for (const [key, { square }] of this.#tiles) if (!meet(square, around)) this.#remove(key);
     const tiles = squaresIn(view, SIDE).map((place) => this.#tileAt(place));
+    for (const canvas of this.#free.splice(0)) canvas.remove();
     const stale = tiles.filter(({ isStale }) => isStale);
     for (const tile of stale) {
       const { left, top, right, bottom } = tile.square;
@@ -143,9 +146,9 @@ export class Surface {
     if (stale.length > 0) this.#paint(stale);
   }
 
-  /** @param {string} key of a tile */
+  /** @param {string} key of a tile, whose canvas is free for another one */
   #remove(key) {
-    this.#tiles.get(key).canvas.remove();
+    this.#free.push(this.#tiles.get(key).canvas);
     this.#tiles.delete(key);
   }
 
@@ -164,14 +167,15 @@ export class Surface {
    * @returns {Tile} a new one
    */
   #made(square) {
-    const canvas = document.createElement("canvas");
-    canvas.width = canvas.height = SIDE * this.ratio;
+    const canvas = this.#free.pop() ?? document.createElement("canvas");
+    const pixels = SIDE * this.ratio;
+    if (canvas.width !== pixels) [canvas.width, canvas.height] = [pixels, pixels];
     canvas.style.cssText = `position: absolute; width: ${SIDE}px; height: ${SIDE}px;`;
     [canvas.style.left, canvas.style.top] = [`${square.left}px`, `${square.top}px`];
     const context = canvas.getContext("2d");
-    context.scale(this.ratio, this.ratio);
-    context.translate(-square.left, -square.top);
-    this.#container.append(canvas);
+    const { left, top } = square;
+    context.setTransform(this.ratio, 0, 0, this.ratio, -left * this.ratio, -top * this.ratio);
+    if (!canvas.parentNode) this.#container.append(canvas);
     return { canvas, context, square, isStale: true };
   }
 }

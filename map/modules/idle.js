@@ -12,9 +12,10 @@ const MOST_HELD = 3000;
 
 /** @type {Later} acts when the browser has nothing to do, or after a time if one is given */
 function later(act, milliseconds) {
-  if (milliseconds !== undefined) setTimeout(act, milliseconds);
-  else if ("requestIdleCallback" in globalThis) requestIdleCallback(act, { timeout: MOST_BUSY });
-  else setTimeout(act);
+  // Safari has no such callback.
+  const isIdleKnown = typeof requestIdleCallback === "function";
+  if (milliseconds === undefined && isIdleKnown) requestIdleCallback(act, { timeout: MOST_BUSY });
+  else setTimeout(act, milliseconds);
 }
 
 export class Idle {

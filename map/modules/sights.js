@@ -16,6 +16,7 @@ import { contains } from "./geometry.js";
 export class Sights {
   /** @type {Map<string, Sight>} the oldest first */
   #byId = new Map();
+  /** @type {Cells<Sight>} those that have an extent */
   #cells = new Cells();
   #last = 0;
 

@@ -12,12 +12,12 @@ import { toPosition } from "./draw.js";
 import { nameOf } from "./feature.js";
 import { boxOf, overlaps } from "./geometry.js";
 import { addGrid, addScale } from "./grid.js";
-import { idle } from "./idle.js";
 import { Labels } from "./labels.js";
 import { Layers, toPlace } from "./layers.js";
 import { makeMap } from "./leaflet_map.js";
 import { labelOf, symbolOf } from "./legend.js";
 import { Loader, extentOf } from "./loader.js";
+import { Resting } from "./resting.js";
 import { interval } from "./time.js";
 
 /** The time in milliseconds that the view has to rest before its features are requested. */
@@ -39,6 +39,7 @@ export class View {
   #drawGrid;
   #labels;
   #density;
+  #resting;
   /** As of when the view is, in milliseconds since 1970. */
   asOf = 0;
 
@@ -53,6 +54,7 @@ export class View {
     this.#drawGrid = addGrid(this.map);
     addScale(this.map);
     this.layers = new Layers(this.map, (id, feature) => this.#lookOf(id, feature));
+    this.#resting = new Resting(this.map, this.layers);
     this.#density = new DensityLayer(this.map);
     this.#labels = new Labels(this.map, () => this.#shownLabels());
     this.#seen = seen;
@@ -65,29 +67,8 @@ export class View {
     this.map.on("zoomend", () => this.#zoomed());
   }
 
-  /**
-   * Notes on the map where it is, and that the features of the view are requested.
-   * @returns {() => void} notes that they are there, unless they were requested again since
-   */
-  #asks() {
-    const { dataset } = this.map.getContainer();
-    const { lat, lng } = this.map.getCenter();
-    Object.assign(dataset, { x: lng, y: lat, zoom: this.map.getZoom(), state: "asks" });
-    this.layers.gather(true);
-    idle.hold();
-    const turn = (this.#turn += 1);
-    return () => {
-      if (turn !== this.#turn) return;
-      this.layers.gather(false);
-      idle.release();
-      dataset.state = "rests";
-    };
-  }
-
-  #turn = 0;
-
   #moved() {
-    this.#asks();
+    this.#resting.asks();
     const { lat: y, lng: x } = this.map.getCenter();
     this.#state.set("view", { x, y, zoom: this.map.getZoom() });
     this.#loader.drop();
@@ -249,7 +230,7 @@ export class View {
 
   /** Requests the features of the view, and takes away those that are gone. */
   async refresh() {
-    const rests = this.#asks();
+    const rests = this.#resting.asks();
     const wanted = this.switchedOn.map(({ id }) => id);
     const { box } = this;
     const counts = await this.#loader.load(wanted, box, this.#datetime);
