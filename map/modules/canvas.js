@@ -4,11 +4,12 @@
  *
  * @typedef {import("./tiles.js").Rectangle} Rectangle in the pixels of Leaflet's layers
  * @typedef {object} Tile
- * @property {HTMLCanvasElement} canvas
- * @property {CanvasRenderingContext2D} context
  * @property {Rectangle} square that it covers
+ * @property {HTMLCanvasElement | null} canvas null if nothing is painted there
  * @property {boolean} isStale whether it has to be painted again
- * @typedef {(tiles: Tile[]) => void} Paint paints tiles that are empty
+ * @typedef {{square: Rectangle, open: () => CanvasRenderingContext2D}} Sheet a tile that is to be
+ *   painted; it is opened, and empty then, only if something is
+ * @typedef {(sheets: Sheet[]) => void} Paint
  */
 import * as L from "../leaflet/leaflet.esm.js";
 import { grown, meet, squareAt, squaresIn } from "./tiles.js";
@@ -136,19 +137,29 @@ export class Surface {
     const { view, around } = this;
     for (const [key, { square }] of this.#tiles) if (!meet(square, around)) this.#remove(key);
     const tiles = squaresIn(view, SIDE).map((place) => this.#tileAt(place));
-    for (const canvas of this.#free.splice(0)) canvas.remove();
     const stale = tiles.filter(({ isStale }) => isStale);
-    for (const tile of stale) {
-      const { left, top, right, bottom } = tile.square;
-      tile.context.clearRect(left, top, right - left, bottom - top);
-      tile.isStale = false;
-    }
-    if (stale.length > 0) this.#paint(stale);
+    if (stale.length > 0) this.#paintTiles(stale);
+    for (const canvas of this.#free.splice(0)) canvas.remove();
+  }
+
+  /** @param {Tile[]} tiles */
+  #paintTiles(tiles) {
+    const before = tiles.map((tile) => tile.canvas);
+    for (const tile of tiles) [tile.canvas, tile.isStale] = [null, false];
+    const sheets = tiles.map((tile, index) => {
+      const open = () => this.#opened(tile, before[index]);
+      return { square: tile.square, open };
+    });
+    this.#paint(sheets);
+    before.forEach((canvas, index) => {
+      if (canvas && tiles[index].canvas === null) this.#free.push(canvas);
+    });
   }
 
   /** @param {string} key of a tile, whose canvas is free for another one */
   #remove(key) {
-    this.#free.push(this.#tiles.get(key).canvas);
+    const { canvas } = this.#tiles.get(key);
+    if (canvas) this.#free.push(canvas);
     this.#tiles.delete(key);
   }
 
@@ -158,24 +169,29 @@ export class Surface {
    */
   #tileAt(place) {
     const key = `${place.column} ${place.row}`;
-    if (!this.#tiles.has(key)) this.#tiles.set(key, this.#made(squareAt(place, SIDE)));
+    if (!this.#tiles.has(key)) {
+      this.#tiles.set(key, { square: squareAt(place, SIDE), canvas: null, isStale: true });
+    }
     return this.#tiles.get(key);
   }
 
   /**
-   * @param {Rectangle} square
-   * @returns {Tile} a new one
+   * @param {Tile} tile
+   * @param {HTMLCanvasElement | null} before its own canvas, if it has one
+   * @returns {CanvasRenderingContext2D} of its canvas, which is empty
    */
-  #made(square) {
-    const canvas = this.#free.pop() ?? document.createElement("canvas");
+  #opened(tile, before) {
+    const { left, top } = tile.square;
+    const canvas = before ?? this.#free.pop() ?? document.createElement("canvas");
     const pixels = SIDE * this.ratio;
     if (canvas.width !== pixels) [canvas.width, canvas.height] = [pixels, pixels];
     canvas.style.cssText = `position: absolute; width: ${SIDE}px; height: ${SIDE}px;`;
-    [canvas.style.left, canvas.style.top] = [`${square.left}px`, `${square.top}px`];
+    [canvas.style.left, canvas.style.top] = [`${left}px`, `${top}px`];
     const context = canvas.getContext("2d");
-    const { left, top } = square;
     context.setTransform(this.ratio, 0, 0, this.ratio, -left * this.ratio, -top * this.ratio);
+    context.clearRect(left, top, SIDE, SIDE);
     if (!canvas.parentNode) this.#container.append(canvas);
-    return { canvas, context, square, isStale: true };
+    tile.canvas = canvas;
+    return context;
   }
 }

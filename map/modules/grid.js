@@ -57,15 +57,16 @@ function multiples(from, to, step) {
 }
 
 /**
- * Paints the lines of the grid in tiles.
+ * Paints the lines of the grid.
  * @param {L.Map} map
- * @param {import("./canvas.js").Tile[]} tiles
+ * @param {import("./canvas.js").Sheet[]} sheets
  */
-function paintLines(map, tiles) {
+function paintLines(map, sheets) {
   const { step, pixels } = measures(map);
   const { x: east, y: south } = map.getPixelOrigin();
   const own = colour("grid");
-  for (const { context, square: { left, top, right, bottom } } of tiles) {
+  for (const { open, square: { left, top, right, bottom } } of sheets) {
+    const context = open();
     context.strokeStyle = own;
     context.lineWidth = 1;
     context.beginPath();
@@ -89,7 +90,7 @@ function paintLines(map, tiles) {
  * @returns {() => void} draws them again
  */
 export function addGrid(map) {
-  const surface = new Surface(map, "grid", LEVEL, (tiles) => paintLines(map, tiles));
+  const surface = new Surface(map, "grid", LEVEL, (sheets) => paintLines(map, sheets));
   const labels = element("div", { class: "grid-labels", "aria-hidden": "true" });
   map.getContainer().append(labels);
   const label = (way, value, step, pixel) => {

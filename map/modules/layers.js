@@ -62,25 +62,26 @@ export class Layers {
   constructor(map, lookOf) {
     this.#map = map;
     this.#lookOf = lookOf;
-    this.#surface = new Surface(map, "features", LEVEL, (tiles) => this.#paint(tiles));
+    this.#surface = new Surface(map, "features", LEVEL, (sheets) => this.#paint(sheets));
   }
 
-  /**
-   * Paints the features in tiles that are empty.
-   * @param {import("./canvas.js").Tile[]} tiles
-   */
-  #paint(tiles) {
+  /** @param {import("./canvas.js").Sheet[]} sheets */
+  #paint(sheets) {
     this.#stamps.use(this.#surface.ratio);
-    const halo = this.#chosen && this.#halo();
-    const all = this.#drawnIn(outlineOf(tiles.map(({ square }) => square)));
-    for (const { context, square } of tiles) {
-      const painter = new Painter(context, this.#placing, this.#stamps);
+    const chosen = this.#chosen && { feature: this.#chosen, styles: this.#halo() };
+    const haloBox = chosen && boxOf(chosen.feature.geometry);
+    const all = this.#drawnIn(outlineOf(sheets.map(({ square }) => square)));
+    for (const { square, open } of sheets) {
       const box = this.#boxOf(square);
       const inTile = all.filter((it) => overlaps(it.box, box));
-      for (const kind of ORDER) {
-        for (const it of inTile) painter.paint(it.feature.geometry, kind, it.styles[kind]);
+      const halo = haloBox && overlaps(haloBox, box) ? [chosen] : [];
+      if (inTile.length + halo.length === 0) continue;
+      const painter = new Painter(open(), this.#placing, this.#stamps);
+      for (const group of [inTile, halo]) {
+        for (const kind of ORDER) {
+          for (const it of group) painter.paint(it.feature.geometry, kind, it.styles[kind]);
+        }
       }
-      for (const kind of halo ? ORDER : []) painter.paint(this.#chosen.geometry, kind, halo[kind]);
     }
   }
 

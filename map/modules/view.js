@@ -20,7 +20,7 @@ import { Loader, extentOf } from "./loader.js";
 import { Resting } from "./resting.js";
 import { interval } from "./time.js";
 
-/** The time in milliseconds that the view has to rest before its features are requested. */
+/** Of moves that follow each other within this time, in milliseconds, the last one is requested. */
 const PAUSE = 40;
 
 export class View {
@@ -36,6 +36,8 @@ export class View {
   #state;
   #listener;
   #timer = 0;
+  /** When the view moved last. */
+  #last = 0;
   #drawGrid;
   #labels;
   #density;
@@ -74,7 +76,9 @@ export class View {
     this.#loader.drop();
     this.#drawSeen();
     clearTimeout(this.#timer);
-    this.#timer = setTimeout(() => this.refresh(), PAUSE);
+    const now = performance.now();
+    this.#timer = setTimeout(() => this.refresh(), now - this.#last < PAUSE ? PAUSE : 0);
+    this.#last = now;
   }
 
   /**
