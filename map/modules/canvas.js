@@ -37,6 +37,8 @@ export class Surface {
   #frame = 0;
   #timer = 0;
   #isGathering = false;
+  /** @type {(() => void)[]} what is called once all is painted */
+  #after = [];
 
   /**
    * @param {L.Map} map
@@ -55,7 +57,10 @@ export class Surface {
     made.append(this.#container);
     map.on("zoomanim", ({ center, zoom }) => this.#transform(zoom, this.#originAt(center, zoom)));
     map.on("zoom", () => this.#follow());
-    map.on("moveend", () => this.#follow());
+    map.on("moveend", () => {
+      this.#follow();
+      this.#paintNext();
+    });
     this.paintAgain();
   }
 
@@ -86,6 +91,12 @@ export class Surface {
     if (this.#timer && !isGathering) this.#paintNext();
   }
 
+  /** @param {() => void} act is called once what changed is painted */
+  afterPaint(act) {
+    this.#after.push(act);
+    if (!this.#timer) this.#paintNext();
+  }
+
   #paintNext() {
     clearTimeout(this.#timer);
     this.#timer = 0;
@@ -106,7 +117,6 @@ export class Surface {
   /** Moves and scales what is painted to where the map is, until it is painted again. */
   #follow() {
     this.#transform(this.#map.getZoom(), this.#map.getPixelOrigin());
-    this.#paintNext();
   }
 
   /**
@@ -140,6 +150,7 @@ export class Surface {
     const stale = tiles.filter(({ isStale }) => isStale);
     if (stale.length > 0) this.#paintTiles(stale);
     for (const canvas of this.#free.splice(0)) canvas.remove();
+    for (const act of this.#after.splice(0)) act();
   }
 
   /** @param {Tile[]} tiles */

@@ -5,30 +5,24 @@
  * @typedef {import("./feature.js").Feature} Feature
  * @typedef {import("./geometry.js").Box} Box
  * @typedef {import("./geometry.js").Position} Position
- * @typedef {import("./pending.js").Mark} Mark
- * @typedef {import("./painting.js").Style} Style
- * @typedef {Record<import("./painting.js").Kind, Style>} Styles how a feature is drawn
+ * @typedef {import("./styling.js").Styles} Styles
  * @typedef {object} Shown
  * @property {string} collection
  * @property {Feature} feature
  * @property {Box | null} box
- * @property {{mark: Mark, op: string} | null} pending
+ * @property {import("./styling.js").PendingEdit | null} pending
  * @property {Styles} styles
- * @typedef {import("./legend.js").SymbolShape} SymbolShape
- * @typedef {{colour: string, shape: SymbolShape}} Look a colour is `#rrggbb`, or the name of one in
- *   the style sheet
  */
 import * as L from "../leaflet/leaflet.esm.js";
 import { Surface } from "./canvas.js";
-import { colour } from "./colours.js";
 import { nameOf } from "./feature.js";
 import { boxOf, distanceTo, overlaps } from "./geometry.js";
 import { Painter } from "./painting.js";
 import { Stamps } from "./stamps.js";
+import { Styling, sizesAt } from "./styling.js";
 import { outlineOf } from "./tiles.js";
 
 const LEVEL = 410;
-const DASHES = { basket: [6, 4], waiting: [2, 5], differs: [10, 4, 2, 4], refused: [] };
 /** How far a symbol reaches beyond its position, in pixels. */
 const REACH = 16;
 /** @type {import("./painting.js").Kind[]} */
@@ -48,27 +42,27 @@ export class Layers {
   #map;
   #surface;
   #stamps = new Stamps();
-  /** @type {(collection: string, feature: Feature) => Look} */
   #lookOf;
-  /** @type {Map<string, Styles>} those at the zoom and in the colours of now */
-  #styled = new Map();
+  #styling;
   /** @type {Feature | null} the one that has the halo */
   #chosen = null;
 
   /**
    * @param {L.Map} map
-   * @param {(collection: string, feature: Feature) => Look} lookOf
+   * @param {(collection: string, feature: Feature) => import("./styling.js").Look} lookOf
    */
   constructor(map, lookOf) {
     this.#map = map;
     this.#lookOf = lookOf;
+    this.#styling = new Styling(sizesAt(map.getZoom()));
+    map.on("zoomend", () => this.#zoomed());
     this.#surface = new Surface(map, "features", LEVEL, (sheets) => this.#paint(sheets));
   }
 
   /** @param {import("./canvas.js").Sheet[]} sheets */
   #paint(sheets) {
     this.#stamps.use(this.#surface.ratio);
-    const chosen = this.#chosen && { feature: this.#chosen, styles: this.#halo() };
+    const chosen = this.#chosen && { feature: this.#chosen, styles: this.#styling.halo };
     const haloBox = chosen && boxOf(chosen.feature.geometry);
     const all = this.#drawnIn(outlineOf(sheets.map(({ square }) => square)));
     for (const { square, open } of sheets) {
@@ -130,84 +124,6 @@ export class Layers {
     });
   }
 
-  /** @returns {number} the radius of a point at the zoom of now */
-  #radius() {
-    const zoom = this.#map.getZoom();
-    if (zoom < 0) return 2.5;
-    return zoom < 2 ? 3.5 : zoom < 4 ? 5 : 6.5;
-  }
-
-  /** @returns {number} the width of a line at the zoom of now */
-  #width() {
-    const zoom = this.#map.getZoom();
-    if (zoom < 1) return 1.25;
-    return zoom < 2.5 ? 2 : 3;
-  }
-
-  /**
-   * @param {string} collection
-   * @param {Feature} feature
-   * @param {Shown["pending"]} pending
-   * @returns {Styles}
-   */
-  #styles(collection, feature, pending) {
-    const look = this.#lookOf(collection, feature);
-    const key = `${look.colour} ${look.shape} ${pending?.mark} ${pending?.op}`;
-    if (!this.#styled.has(key)) this.#styled.set(key, this.#stylesOf(look, pending));
-    return this.#styled.get(key);
-  }
-
-  /**
-   * @param {Look} look
-   * @param {Shown["pending"]} pending
-   * @returns {Styles}
-   */
-  #stylesOf({ colour: name, shape }, pending) {
-    const own = name.startsWith("#") ? name : colour(name);
-    const isGone = pending?.op === "delete";
-    const fade = isGone ? 0.25 : 1;
-    const base = {
-      shape,
-      radius: this.#radius() + (pending ? 1.5 : 0),
-      color: pending ? colour(`mark-${pending.mark}`) : own,
-      dash: pending ? DASHES[pending.mark] : [],
-      opacity: 1,
-      fillColor: own,
-    };
-    const weight = this.#width() + (pending ? 1.5 : 0);
-    return {
-      line: { ...base, weight, opacity: isGone ? 0.7 : 1, fillColor: "", fillOpacity: 0 },
-      area: { ...base, weight: pending ? 3 : 1.5, fillOpacity: 0.25 * fade },
-      point: {
-        ...base,
-        color: pending ? base.color : colour("paper"),
-        dash: [],
-        weight: pending ? 3 : 1.25,
-        fillOpacity: fade,
-      },
-    };
-  }
-
-  /** @returns {Styles} of the feature that is chosen */
-  #halo() {
-    /** @type {Style} */
-    const halo = {
-      shape: "circle",
-      color: colour("chosen"),
-      weight: 3,
-      opacity: 0.9,
-      dash: [],
-      radius: this.#radius() + 5,
-      fillColor: "",
-      fillOpacity: 0,
-    };
-    return {
-      line: { ...halo, weight: 9, opacity: 0.45 },
-      area: { ...halo, weight: 5 },
-      point: halo,
-    };
-  }
-
   /**
    * Draws a feature, in the place of the one that has its name.
    * @param {string} collection
@@ -233,6 +149,21 @@ export class Layers {
     this.shown.delete(name);
   }
 
+  /**
+   * @param {string} collection
+   * @param {Feature} feature
+   * @param {Shown["pending"]} pending
+   * @returns {Styles}
+   */
+  #styles(collection, feature, pending) {
+    return this.#styling.of(this.#lookOf(collection, feature), pending);
+  }
+
+  /** @param {() => void} act is called once what changed is painted */
+  afterPaint(act) {
+    this.#surface.afterPaint(act);
+  }
+
   /** @param {boolean} isGathering whether more features are to come: they are painted together */
   gather(isGathering) {
     this.#surface.gather(isGathering);
@@ -243,9 +174,16 @@ export class Layers {
     return this.#boxOf(this.#surface.around);
   }
 
+  /** Draws all again if the sizes at this zoom are others. */
+  #zoomed() {
+    const { radius, width } = sizesAt(this.#map.getZoom());
+    const { sizes } = this.#styling;
+    if (sizes.radius !== radius || sizes.width !== width) this.redraw();
+  }
+
   /** Draws all again: colours or sizes changed. */
   redraw() {
-    this.#styled.clear();
+    this.#styling = new Styling(sizesAt(this.#map.getZoom()));
     for (const shown of this.shown.values()) {
       shown.styles = this.#styles(shown.collection, shown.feature, shown.pending);
     }

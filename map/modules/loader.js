@@ -18,7 +18,8 @@ export class Loader {
 
   /**
    * @param {import("./seen.js").Seen} seen
-   * @param {(collection: string, features: import("./feature.js").Feature[]) => void} draw
+   * @param {(collection: string, features: import("./feature.js").Feature[],
+   *   onPainted?: () => void) => void} draw
    */
   constructor(seen, draw) {
     this.#seen = seen;
@@ -66,10 +67,10 @@ export class Loader {
     let [matched, isWhole] = [0, true];
     try {
       for await (const page of readPages(collection, box, datetime, signal)) {
-        performance.mark("page came");
+        const start = performance.now();
         for (const feature of page.features) ids.add(feature.id);
-        this.#draw(collection, this.#seen.see(collection, page.features));
-        requestAnimationFrame(() => performance.measure("page drawn", "page came"));
+        const drawn = () => performance.measure("page drawn", { start });
+        this.#draw(collection, this.#seen.see(collection, page.features), drawn);
         matched = page.numberMatched;
         isWhole = page.next === null;
       }

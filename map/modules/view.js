@@ -60,13 +60,12 @@ export class View {
     this.#density = new DensityLayer(this.map);
     this.#labels = new Labels(this.map, () => this.#shownLabels());
     this.#seen = seen;
-    this.#loader = new Loader(seen, (collection, features) => this.#draw(collection, features));
+    this.#loader = new Loader(seen, (...page) => this.#draw(...page));
     this.#state = state;
     this.#listener = listener;
     state.on("view", (now, before) => this.#follow(now, before));
     state.on("basket", ({ pending }, before) => this.#showPending(pending, before.pending));
     this.map.on("moveend", () => this.#moved());
-    this.map.on("zoomend", () => this.#zoomed());
   }
 
   #moved() {
@@ -116,18 +115,10 @@ export class View {
     }
   }
 
-  #size = -1;
-  #zoomed() {
-    const zoom = this.map.getZoom();
-    const size = [0, 1, 2, 2.5, 4].filter((step) => zoom >= step).length;
-    if (size !== this.#size) this.layers.redraw();
-    this.#size = size;
-  }
-
   /**
    * @param {string} collection
    * @param {import("./feature.js").Feature} feature
-   * @returns {import("./layers.js").Look}
+   * @returns {import("./styling.js").Look}
    */
   #lookOf(collection, feature) {
     const row = symbolOf(this.legends.get(collection), feature);
@@ -209,12 +200,14 @@ export class View {
   /**
    * @param {string} collection
    * @param {import("./feature.js").Feature[]} features
+   * @param {() => void} [onPainted]
    */
-  #draw(collection, features) {
+  #draw(collection, features, onPainted) {
     const { pending } = this.#state.basket;
     for (const feature of features) {
       if (!pending.has(nameOf(collection, feature.id))) this.#put(collection, feature, null);
     }
+    if (onPainted) this.layers.afterPaint(onPainted);
   }
 
   /**
