@@ -5,7 +5,7 @@ import * as L from "../leaflet/leaflet.esm.js";
 import { Surface } from "./canvas.js";
 import { colour } from "./colours.js";
 import { element } from "./element.js";
-import { language } from "./words.js";
+import { inDigits } from "./words.js";
 
 /** That of the lines, below all features. */
 const LEVEL = 390;
@@ -29,10 +29,7 @@ function roundDown(most) {
  */
 function inMetres(length) {
   const digits = Math.max(0, Math.min(3, -Math.floor(Math.log10(length) + 1e-9)));
-  return length.toLocaleString(
-    language,
-    { minimumFractionDigits: digits, maximumFractionDigits: digits },
-  );
+  return inDigits(length, digits);
 }
 
 /**
@@ -125,11 +122,7 @@ export function addGrid(map) {
  */
 function inMetresAt(value, step) {
   const digits = Math.max(0, Math.min(3, -Math.floor(Math.log10(step) + 1e-9)));
-  const rounded = Math.round(value * 1000) / 1000 || 0;
-  return rounded.toLocaleString(
-    language,
-    { minimumFractionDigits: digits, maximumFractionDigits: digits },
-  );
+  return inDigits(Math.round(value * 1000) / 1000 || 0, digits);
 }
 
 /**
