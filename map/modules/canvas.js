@@ -7,9 +7,9 @@
  * @property {Rectangle} square that it covers
  * @property {HTMLCanvasElement | null} canvas null if nothing is painted there
  * @property {boolean} isStale whether it has to be painted again
- * @typedef {{square: Rectangle, open: () => CanvasRenderingContext2D}} Sheet a tile that is to be
- *   painted; it is opened, and empty then, only if something is
- * @typedef {(sheets: Sheet[]) => void} Paint
+ * @typedef {{square: Rectangle, open: () => CanvasRenderingContext2D}} Blank a part that is to be
+ *   painted; it is opened only if something is to be seen there, and is empty then
+ * @typedef {(blanks: Blank[]) => void} Paint
  */
 import * as L from "../leaflet/leaflet.esm.js";
 import { grown, meet, squareAt, squaresIn } from "./tiles.js";
@@ -157,11 +157,11 @@ export class Surface {
   #paintTiles(tiles) {
     const before = tiles.map((tile) => tile.canvas);
     for (const tile of tiles) [tile.canvas, tile.isStale] = [null, false];
-    const sheets = tiles.map((tile, index) => {
+    const blanks = tiles.map((tile, index) => {
       const open = () => this.#opened(tile, before[index]);
       return { square: tile.square, open };
     });
-    this.#paint(sheets);
+    this.#paint(blanks);
     before.forEach((canvas, index) => {
       if (canvas && tiles[index].canvas === null) this.#free.push(canvas);
     });

@@ -56,13 +56,13 @@ function multiples(from, to, step) {
 /**
  * Paints the lines of the grid.
  * @param {L.Map} map
- * @param {import("./canvas.js").Sheet[]} sheets
+ * @param {import("./canvas.js").Blank[]} blanks
  */
-function paintLines(map, sheets) {
+function paintLines(map, blanks) {
   const { step, pixels } = measures(map);
   const { x: east, y: south } = map.getPixelOrigin();
   const own = colour("grid");
-  for (const { open, square: { left, top, right, bottom } } of sheets) {
+  for (const { open, square: { left, top, right, bottom } } of blanks) {
     const context = open();
     context.strokeStyle = own;
     context.lineWidth = 1;
@@ -87,7 +87,7 @@ function paintLines(map, sheets) {
  * @returns {() => void} draws them again
  */
 export function addGrid(map) {
-  const surface = new Surface(map, "grid", LEVEL, (sheets) => paintLines(map, sheets));
+  const surface = new Surface(map, "grid", LEVEL, (blanks) => paintLines(map, blanks));
   const labels = element("div", { class: "grid-labels", "aria-hidden": "true" });
   map.getContainer().append(labels);
   const label = (way, value, step, pixel) => {

@@ -56,16 +56,16 @@ export class Layers {
     this.#lookOf = lookOf;
     this.#styling = new Styling(sizesAt(map.getZoom()));
     map.on("zoomend", () => this.#zoomed());
-    this.#surface = new Surface(map, "features", LEVEL, (sheets) => this.#paint(sheets));
+    this.#surface = new Surface(map, "features", LEVEL, (blanks) => this.#paint(blanks));
   }
 
-  /** @param {import("./canvas.js").Sheet[]} sheets */
-  #paint(sheets) {
+  /** @param {import("./canvas.js").Blank[]} blanks */
+  #paint(blanks) {
     this.#stamps.use(this.#surface.ratio);
     const chosen = this.#chosen && { feature: this.#chosen, styles: this.#styling.halo };
     const haloBox = chosen && boxOf(chosen.feature.geometry);
-    const all = this.#drawnIn(outlineOf(sheets.map(({ square }) => square)));
-    for (const { square, open } of sheets) {
+    const all = this.#visibleIn(outlineOf(blanks.map(({ square }) => square)));
+    for (const { square, open } of blanks) {
       const box = this.#boxOf(square);
       const inTile = all.filter((it) => overlaps(it.box, box));
       const halo = haloBox && overlaps(haloBox, box) ? [chosen] : [];
@@ -104,7 +104,7 @@ export class Layers {
    * @param {import("./tiles.js").Rectangle} rectangle
    * @returns {Shown[]} what may be seen in it
    */
-  #drawnIn(rectangle) {
+  #visibleIn(rectangle) {
     const box = this.#boxOf(rectangle);
     return [...this.shown.values()].filter((it) => it.box && overlaps(it.box, box));
   }
