@@ -87,15 +87,6 @@ export function takeBack(text) {
 }
 
 /**
- * Acts once the next frame is there; at once if none comes, since the page is not shown.
- * @param {() => void} act
- */
-export function afterFrame(act) {
-  if (document.hidden) setTimeout(act);
-  else requestAnimationFrame(() => setTimeout(act));
-}
-
-/**
  * Asks in a dialog.
  * @param {string} title
  * @param {(Node | string)[]} content

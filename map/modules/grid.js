@@ -2,10 +2,13 @@
  * @file What measures on the map: the grid of lines, the scale, and the place of the pointer.
  */
 import * as L from "../leaflet/leaflet.esm.js";
+import { Surface } from "./canvas.js";
 import { colour } from "./colours.js";
 import { element } from "./element.js";
-import { language } from "./words.js";
+import { inDigits } from "./words.js";
 
+/** That of the lines, below all features. */
+const LEVEL = 390;
 const LINE_PIXELS = 110;
 const SCALE_PIXELS = 120;
 
@@ -26,10 +29,56 @@ function roundDown(most) {
  */
 function inMetres(length) {
   const digits = Math.max(0, Math.min(3, -Math.floor(Math.log10(length) + 1e-9)));
-  return length.toLocaleString(
-    language,
-    { minimumFractionDigits: digits, maximumFractionDigits: digits },
-  );
+  return inDigits(length, digits);
+}
+
+/**
+ * @param {L.Map} map
+ * @returns {{step: number, pixels: number}} the metres between two lines, and the pixels of a metre
+ */
+function measures(map) {
+  const pixels = map.getZoomScale(map.getZoom(), 0);
+  return { step: roundDown(LINE_PIXELS / pixels), pixels };
+}
+
+/**
+ * @param {number} from
+ * @param {number} to
+ * @param {number} step
+ * @returns {number[]} the multiples of a step
+ */
+function multiples(from, to, step) {
+  const first = Math.ceil(from / step);
+  const length = Math.max(0, Math.floor(to / step) - first + 1);
+  return Array.from({ length }, (_, place) => (first + place) * step);
+}
+
+/**
+ * Paints the lines of the grid.
+ * @param {L.Map} map
+ * @param {import("./canvas.js").Blank[]} blanks
+ */
+function paintLines(map, blanks) {
+  const { step, pixels } = measures(map);
+  const { x: east, y: south } = map.getPixelOrigin();
+  const own = colour("grid");
+  for (const { open, square: { left, top, right, bottom } } of blanks) {
+    const context = open();
+    context.strokeStyle = own;
+    context.lineWidth = 1;
+    context.beginPath();
+    for (const x of multiples((left - 1 + east) / pixels, (right + 1 + east) / pixels, step)) {
+      const at = Math.round(x * pixels - east);
+      context.moveTo(at, top);
+      context.lineTo(at, bottom);
+    }
+    for (const y of multiples(-(bottom + 1 + south) / pixels, -(top - 1 + south) / pixels, step)) {
+      const at = Math.round(-y * pixels - south);
+      context.moveTo(left, at);
+      context.lineTo(right, at);
+    }
+    context.stroke();
+  }
 }
 
 /**
@@ -38,39 +87,32 @@ function inMetres(length) {
  * @returns {() => void} draws them again
  */
 export function addGrid(map) {
-  const pane = map.createPane("grid");
-  pane.style.zIndex = "390";
-  pane.style.pointerEvents = "none";
-  const renderer = L.canvas({ pane: "grid", padding: 0 });
-  const group = L.layerGroup().addTo(map);
+  const surface = new Surface(map, "grid", LEVEL, (blanks) => paintLines(map, blanks));
   const labels = element("div", { class: "grid-labels", "aria-hidden": "true" });
   map.getContainer().append(labels);
-  const draw = () => {
-    group.clearLayers();
-    const bounds = map.getBounds();
-    const step = roundDown(LINE_PIXELS / map.getZoomScale(map.getZoom(), 0)) * 1;
-    const [west, east] = [bounds.getWest(), bounds.getEast()];
-    const [south, north] = [bounds.getSouth(), bounds.getNorth()];
-    const style = { renderer, interactive: false, color: colour("grid"), weight: 1 };
-    const texts = [];
-    const label = (way, value, pixel) => {
-      const text = element("span", { class: way }, inMetresAt(value, step));
-      text.style[way === "easting" ? "left" : "top"] = `${pixel}px`;
-      texts.push(text);
-    };
-    for (let place = Math.ceil(west / step); place * step <= east; place += 1) {
-      L.polyline([[south, place * step], [north, place * step]], style).addTo(group);
-      label("easting", place * step, map.latLngToContainerPoint([south, place * step]).x);
-    }
-    for (let place = Math.ceil(south / step); place * step <= north; place += 1) {
-      L.polyline([[place * step, west], [place * step, east]], style).addTo(group);
-      label("northing", place * step, map.latLngToContainerPoint([place * step, west]).y);
-    }
-    labels.replaceChildren(...texts);
+  const label = (way, value, step, pixel) => {
+    const text = element("span", { class: way }, inMetresAt(value, step));
+    text.style[way === "easting" ? "left" : "top"] = `${pixel}px`;
+    return text;
   };
-  map.on("moveend", draw);
+  const write = () => {
+    const bounds = map.getBounds();
+    const { step } = measures(map);
+    const [west, south] = [bounds.getWest(), bounds.getSouth()];
+    const eastings = multiples(west, bounds.getEast(), step).map((x) =>
+      label("easting", x, step, map.latLngToContainerPoint([south, x]).x),
+    );
+    const northings = multiples(south, bounds.getNorth(), step).map((y) =>
+      label("northing", y, step, map.latLngToContainerPoint([y, west]).y),
+    );
+    labels.replaceChildren(...eastings, ...northings);
+  };
+  map.on("moveend", write);
   map.on("movestart", () => labels.replaceChildren());
-  return draw;
+  return () => {
+    surface.paintAgain();
+    write();
+  };
 }
 
 /**
@@ -80,11 +122,7 @@ export function addGrid(map) {
  */
 function inMetresAt(value, step) {
   const digits = Math.max(0, Math.min(3, -Math.floor(Math.log10(step) + 1e-9)));
-  const rounded = Math.round(value * 1000) / 1000 || 0;
-  return rounded.toLocaleString(
-    language,
-    { minimumFractionDigits: digits, maximumFractionDigits: digits },
-  );
+  return inDigits(Math.round(value * 1000) / 1000 || 0, digits);
 }
 
 /**

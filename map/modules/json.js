@@ -39,9 +39,23 @@ export function isEqual(one, other) {
   if (one === other) return true;
   const areObjects = typeof one === "object" && typeof other === "object" && one && other;
   if (!areObjects || Array.isArray(one) !== Array.isArray(other)) return false;
+  if (Array.isArray(one)) return isSameList(one, other);
   const names = Object.keys(one);
   if (names.length !== Object.keys(other).length) return false;
   return names.every((name) => Object.hasOwn(other, name) && isEqual(one[name], other[name]));
+}
+
+/**
+ * @param {any[]} one
+ * @param {any[]} other
+ * @returns {boolean} whether they have equal values; lists of positions may be long
+ */
+function isSameList(one, other) {
+  if (one.length !== other.length) return false;
+  for (let place = 0; place < one.length; place += 1) {
+    if (one[place] !== other[place] && !isEqual(one[place], other[place])) return false;
+  }
+  return true;
 }
 
 /**

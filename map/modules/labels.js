@@ -51,14 +51,14 @@ export class Labels {
   #draw() {
     this.#clear();
     if (this.#map.getZoom() < LEAST_ZOOM) return;
-    const { clientWidth, clientHeight } = this.#map.getContainer();
+    const { x: width, y: height } = this.#map.getSize();
     /** @type {CanvasRenderingContext2D | null} */
     let context = null;
     const rooms = new Rooms();
     for (const { feature, text } of this.#read()) {
-      context ??= this.#open(clientWidth, clientHeight);
+      context ??= this.#open(width, height);
       const room = this.#roomOf(feature, this.#widthOf(context, text));
-      if (!room || !isIn(room, clientWidth, clientHeight) || !rooms.take(room)) continue;
+      if (!room || !isIn(room, width, height) || !rooms.take(room)) continue;
       context.strokeText(text, room.left, room.bottom - 3);
       context.fillText(text, room.left, room.bottom - 3);
       if (rooms.count === MOST_LABELS) break;

@@ -3,29 +3,26 @@
  * one that is chosen, all on one canvas.
  *
  * @typedef {import("./feature.js").Feature} Feature
+ * @typedef {import("./geometry.js").Box} Box
  * @typedef {import("./geometry.js").Position} Position
- * @typedef {import("./pending.js").Mark} Mark
- * @typedef {import("./painting.js").Style} Style
- * @typedef {Record<import("./painting.js").Kind, Style>} Styles how a feature is drawn
+ * @typedef {import("./styling.js").Styles} Styles
  * @typedef {object} Shown
  * @property {string} collection
  * @property {Feature} feature
- * @property {import("./geometry.js").Box | null} box
- * @property {{mark: Mark, op: string} | null} pending
+ * @property {Box | null} box
+ * @property {import("./styling.js").PendingEdit | null} pending
  * @property {Styles} styles
- * @typedef {import("./legend.js").SymbolShape} SymbolShape
- * @typedef {{colour: string, shape: SymbolShape}} Look a colour is `#rrggbb`, or the name of one in
- *   the style sheet
  */
 import * as L from "../leaflet/leaflet.esm.js";
-import { addCanvas } from "./canvas.js";
-import { colour } from "./colours.js";
+import { Surface } from "./canvas.js";
 import { nameOf } from "./feature.js";
 import { boxOf, distanceTo, overlaps } from "./geometry.js";
 import { Painter } from "./painting.js";
+import { Stamps } from "./stamps.js";
+import { Styling, sizesAt } from "./styling.js";
+import { outlineOf } from "./tiles.js";
 
 const LEVEL = 410;
-const DASHES = { basket: [6, 4], waiting: [2, 5], differs: [10, 4, 2, 4], refused: [] };
 /** How far a symbol reaches beyond its position, in pixels. */
 const REACH = 16;
 /** @type {import("./painting.js").Kind[]} */
@@ -43,122 +40,88 @@ export class Layers {
   /** @type {Map<string, Shown>} */
   shown = new Map();
   #map;
-  #canvas;
-  /** @type {(collection: string, feature: Feature) => Look} */
+  #surface;
+  #stamps = new Stamps();
   #lookOf;
-  /** @type {Map<string, Styles>} those at the zoom and in the colours of now */
-  #styled = new Map();
+  #styling;
   /** @type {Feature | null} the one that has the halo */
   #chosen = null;
 
   /**
    * @param {L.Map} map
-   * @param {(collection: string, feature: Feature) => Look} lookOf
+   * @param {(collection: string, feature: Feature) => import("./styling.js").Look} lookOf
    */
   constructor(map, lookOf) {
     this.#map = map;
     this.#lookOf = lookOf;
-    this.#canvas = addCanvas(map, "features", LEVEL, (...drawn) => this.#paint(...drawn));
+    this.#styling = new Styling(sizesAt(map.getZoom()));
+    map.on("zoomend", () => this.#zoomed());
+    this.#surface = new Surface(map, "features", LEVEL, (blanks) => this.#paint(blanks));
   }
 
-  /**
-   * @param {CanvasRenderingContext2D} context
-   * @param {L.PixelBounds} bounds in pixels
-   */
-  #paint(context, { min, max }) {
+  /** @param {import("./canvas.js").Blank[]} blanks */
+  #paint(blanks) {
+    this.#stamps.use(this.#surface.ratio);
+    const chosen = this.#chosen && { feature: this.#chosen, styles: this.#styling.halo };
+    const haloBox = chosen && boxOf(chosen.feature.geometry);
+    const all = this.#visibleIn(outlineOf(blanks.map(({ square }) => square)));
+    for (const { square, open } of blanks) {
+      const box = this.#boxOf(square);
+      const inTile = all.filter((it) => overlaps(it.box, box));
+      const halo = haloBox && overlaps(haloBox, box) ? [chosen] : [];
+      if (inTile.length + halo.length === 0) continue;
+      const painter = new Painter(open(), this.#placing, this.#stamps);
+      for (const group of [inTile, halo]) {
+        for (const kind of ORDER) {
+          for (const it of group) painter.paint(it.feature.geometry, kind, it.styles[kind]);
+        }
+      }
+    }
+  }
+
+  /** @returns {import("./painting.js").Placing} where positions are in Leaflet's pixels */
+  get #placing() {
     const scale = this.#map.getZoomScale(this.#map.getZoom(), 0) / 1000;
     const { x: east, y: south } = this.#map.getPixelOrigin();
-    const painter = new Painter(context, { scale, east, south });
-    const box = {
-      x0: (min.x + east - REACH) / scale,
-      x1: (max.x + east + REACH) / scale,
-      y0: -(max.y + south + REACH) / scale,
-      y1: -(min.y + south - REACH) / scale,
-    };
-    const inView = [...this.shown.values()].filter((it) => it.box && overlaps(it.box, box));
-    for (const kind of ORDER) {
-      for (const { feature, styles } of inView) painter.paint(feature.geometry, kind, styles[kind]);
-    }
-    const halo = this.#chosen && this.#halo();
-    for (const kind of halo ? ORDER : []) painter.paint(this.#chosen.geometry, kind, halo[kind]);
-  }
-
-  /** @returns {number} the radius of a point at the zoom of now */
-  #radius() {
-    const zoom = this.#map.getZoom();
-    if (zoom < 0) return 2.5;
-    return zoom < 2 ? 3.5 : zoom < 4 ? 5 : 6.5;
-  }
-
-  /** @returns {number} the width of a line at the zoom of now */
-  #width() {
-    const zoom = this.#map.getZoom();
-    if (zoom < 1) return 1.25;
-    return zoom < 2.5 ? 2 : 3;
+    return { scale, east, south };
   }
 
   /**
-   * @param {string} collection
-   * @param {Feature} feature
-   * @param {Shown["pending"]} pending
-   * @returns {Styles}
+   * @param {import("./tiles.js").Rectangle} rectangle
+   * @returns {Box} of the features that may be seen in it
    */
-  #styles(collection, feature, pending) {
-    const look = this.#lookOf(collection, feature);
-    const key = `${look.colour} ${look.shape} ${pending?.mark} ${pending?.op}`;
-    if (!this.#styled.has(key)) this.#styled.set(key, this.#stylesOf(look, pending));
-    return this.#styled.get(key);
+  #boxOf({ left, top, right, bottom }) {
+    const { scale, east, south } = this.#placing;
+    return {
+      x0: (left + east - REACH) / scale,
+      x1: (right + east + REACH) / scale,
+      y0: -(bottom + south + REACH) / scale,
+      y1: -(top + south - REACH) / scale,
+    };
   }
 
   /**
-   * @param {Look} look
-   * @param {Shown["pending"]} pending
-   * @returns {Styles}
+   * @param {import("./tiles.js").Rectangle} rectangle
+   * @returns {Shown[]} what may be seen in it
    */
-  #stylesOf({ colour: name, shape }, pending) {
-    const own = name.startsWith("#") ? name : colour(name);
-    const isGone = pending?.op === "delete";
-    const fade = isGone ? 0.25 : 1;
-    const base = {
-      shape,
-      radius: this.#radius() + (pending ? 1.5 : 0),
-      color: pending ? colour(`mark-${pending.mark}`) : own,
-      dash: pending ? DASHES[pending.mark] : [],
-      opacity: 1,
-      fillColor: own,
-    };
-    const weight = this.#width() + (pending ? 1.5 : 0);
-    return {
-      line: { ...base, weight, opacity: isGone ? 0.7 : 1, fillColor: "", fillOpacity: 0 },
-      area: { ...base, weight: pending ? 3 : 1.5, fillOpacity: 0.25 * fade },
-      point: {
-        ...base,
-        color: pending ? base.color : colour("paper"),
-        dash: [],
-        weight: pending ? 3 : 1.25,
-        fillOpacity: fade,
-      },
-    };
+  #visibleIn(rectangle) {
+    const box = this.#boxOf(rectangle);
+    return [...this.shown.values()].filter((it) => it.box && overlaps(it.box, box));
   }
 
-  /** @returns {Styles} of the feature that is chosen */
-  #halo() {
-    /** @type {Style} */
-    const halo = {
-      shape: "circle",
-      color: colour("chosen"),
-      weight: 3,
-      opacity: 0.9,
-      dash: [],
-      radius: this.#radius() + 5,
-      fillColor: "",
-      fillOpacity: 0,
-    };
-    return {
-      line: { ...halo, weight: 9, opacity: 0.45 },
-      area: { ...halo, weight: 5 },
-      point: halo,
-    };
+  /**
+   * Has a part of the map painted again.
+   * @param {Box | null} box
+   */
+  #changed(box) {
+    if (!box) return;
+    const { scale, east, south } = this.#placing;
+    this.#surface.paintAgain({
+      left: box.x0 * scale - east - REACH,
+      right: box.x1 * scale - east + REACH,
+      top: -box.y1 * scale - south - REACH,
+      bottom: -box.y0 * scale - south + REACH,
+    });
   }
 
   /**
@@ -176,21 +139,55 @@ export class Layers {
     const styles = this.#styles(collection, feature, pending);
     const box = boxOf(feature.geometry);
     this.shown.set(name, { collection, feature, box, pending, styles });
-    this.#canvas.paintAgain();
+    this.#changed(box);
+    if (before?.feature !== feature) this.#changed(before?.box);
   }
 
   /** @param {string} name of a feature among all collections */
   remove(name) {
-    if (this.shown.delete(name)) this.#canvas.paintAgain();
+    this.#changed(this.shown.get(name)?.box);
+    this.shown.delete(name);
+  }
+
+  /**
+   * @param {string} collection
+   * @param {Feature} feature
+   * @param {Shown["pending"]} pending
+   * @returns {Styles}
+   */
+  #styles(collection, feature, pending) {
+    return this.#styling.of(this.#lookOf(collection, feature), pending);
+  }
+
+  /** @param {() => void} act is called once what changed is painted */
+  afterPaint(act) {
+    this.#surface.afterPaint(act);
+  }
+
+  /** @param {boolean} isGathering whether more features are to come: they are painted together */
+  gather(isGathering) {
+    this.#surface.gather(isGathering);
+  }
+
+  /** @returns {Box} of the view and what is around it */
+  get around() {
+    return this.#boxOf(this.#surface.around);
+  }
+
+  /** Draws all again if the sizes at this zoom are others. */
+  #zoomed() {
+    const { radius, width } = sizesAt(this.#map.getZoom());
+    const { sizes } = this.#styling;
+    if (sizes.radius !== radius || sizes.width !== width) this.redraw();
   }
 
   /** Draws all again: colours or sizes changed. */
   redraw() {
-    this.#styled.clear();
+    this.#styling = new Styling(sizesAt(this.#map.getZoom()));
     for (const shown of this.shown.values()) {
       shown.styles = this.#styles(shown.collection, shown.feature, shown.pending);
     }
-    this.#canvas.paintAgain();
+    this.#surface.paintAgain();
   }
 
   /**
@@ -199,12 +196,12 @@ export class Layers {
    */
   outline(feature) {
     if (feature === this.#chosen) return;
+    for (const it of [feature, this.#chosen]) this.#changed(it && boxOf(it.geometry));
     this.#chosen = feature;
-    this.#canvas.paintAgain();
   }
 
   /**
-   * @param {import("./geometry.js").Box} around
+   * @param {Box} around
    * @param {string} except the name of a feature that does not count
    * @returns {Iterable<import("./geometry.js").Geometry>} of the features that may meet the box
    */

@@ -7,8 +7,8 @@
  *   problem: string}} Count of the features of a collection; a problem says why it is not of now
  */
 import { NoAnswer, Refusal, readPages } from "./api.js";
-import { afterFrame } from "./element.js";
 import { boxOf } from "./geometry.js";
+import { idle } from "./idle.js";
 
 export class Loader {
   /** @type {AbortController | null} */
@@ -18,7 +18,8 @@ export class Loader {
 
   /**
    * @param {import("./seen.js").Seen} seen
-   * @param {(collection: string, features: import("./feature.js").Feature[]) => void} draw
+   * @param {(collection: string, features: import("./feature.js").Feature[],
+   *   onPainted?: () => void) => void} draw
    */
   constructor(seen, draw) {
     this.#seen = seen;
@@ -66,10 +67,10 @@ export class Loader {
     let [matched, isWhole] = [0, true];
     try {
       for await (const page of readPages(collection, box, datetime, signal)) {
-        performance.mark("page came");
+        const start = performance.now();
         for (const feature of page.features) ids.add(feature.id);
-        this.#draw(collection, this.#seen.see(collection, page.features));
-        requestAnimationFrame(() => performance.measure("page drawn", "page came"));
+        const drawn = () => performance.measure("page drawn", { start });
+        this.#draw(collection, this.#seen.see(collection, page.features), drawn);
         matched = page.numberMatched;
         isWhole = page.next === null;
       }
@@ -87,8 +88,8 @@ export class Loader {
       if (!(fault instanceof NoAnswer) && !(fault instanceof Refusal)) throw fault;
       return this.#fromSeen(collection, box, datetime, fault.message);
     }
-    const forget = () => this.#seen.keepOnly(collection, box, ids).catch(console.error);
-    if (isWhole && !datetime) afterFrame(forget);
+    const now = Date.now();
+    if (isWhole && !datetime) idle.add(() => this.#seen.keepOnly(collection, box, ids, now));
     return {
       ids,
       shown: ids.size,

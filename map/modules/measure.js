@@ -5,7 +5,7 @@
  * @typedef {import("./geometry.js").Position} Position
  */
 import { paths } from "./geometry.js";
-import { language, say } from "./words.js";
+import { inDigits, say } from "./words.js";
 
 /**
  * @param {Position[]} positions
@@ -66,22 +66,13 @@ export function sketchMeasured(kind, positions) {
 }
 
 /**
- * @param {number} value
- * @param {number} digits after the point
- */
-function rounded(value, digits) {
-  const options = { minimumFractionDigits: digits, maximumFractionDigits: digits };
-  return value.toLocaleString(language, options);
-}
-
-/**
  * @param {{length: number, area: number}} measures as of `measured`
  * @returns {string} the length in metres, of an area its outline and its square metres; no text of
  *   points
  */
 export function measuresInWords({ length, area }) {
   if (length === 0) return "";
-  const metres = rounded(length / 1000, 2);
+  const metres = inDigits(length / 1000, 2);
   if (area === 0) return say("{metres} m long", { metres });
-  return say("{area} m², {metres} m around", { area: rounded(area / 1e6, 2), metres });
+  return say("{area} m², {metres} m around", { area: inDigits(area / 1e6, 2), metres });
 }

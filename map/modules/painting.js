@@ -18,7 +18,7 @@
  *   x * scale - east, -y * scale - south, in pixels
  */
 import { members } from "./geometry.js";
-import { traceSymbol } from "./symbols.js";
+import { finish, take } from "./stamps.js";
 
 /** Positions of a path that are nearer to the last one than this, in pixels, are left out. */
 const NEAR = 0.6;
@@ -54,16 +54,19 @@ function tracePath(context, positions, { scale, east, south }) {
 export class Painter {
   #context;
   #placing;
+  #stamps;
   /** @type {Style | null} */
   #style = null;
 
   /**
    * @param {CanvasRenderingContext2D} context
    * @param {Placing} placing
+   * @param {import("./stamps.js").Stamps} stamps
    */
-  constructor(context, placing) {
+  constructor(context, placing, stamps) {
     this.#context = context;
     this.#placing = placing;
+    this.#stamps = stamps;
     context.lineCap = "round";
     context.lineJoin = "round";
   }
@@ -76,21 +79,10 @@ export class Painter {
   paint(geometry, kind, style) {
     for (const { type, coordinates } of members(geometry)) {
       if (kindOfType(type) !== kind) continue;
-      this.#take(style);
       if (type === "Point") this.#point(coordinates, style);
       else if (type === "MultiPoint") for (const at of coordinates) this.#point(at, style);
       else this.#paths(type, coordinates, style);
     }
-  }
-
-  /** @param {Style} style from now on */
-  #take(style) {
-    if (style === this.#style) return;
-    this.#style = style;
-    this.#context.strokeStyle = style.color;
-    this.#context.lineWidth = style.weight;
-    this.#context.setLineDash(style.dash);
-    if (style.fillColor) this.#context.fillStyle = style.fillColor;
   }
 
   /**
@@ -100,9 +92,10 @@ export class Painter {
   #point(position, style) {
     const { scale, east, south } = this.#placing;
     const [x, y] = [position[0] * scale - east, -position[1] * scale - south];
-    this.#context.beginPath();
-    traceSymbol(this.#context, style.shape, Math.round(x), Math.round(y), style.radius);
-    this.#finish(style);
+    const { canvas, reach } = this.#stamps.of(style);
+    const [left, top] = [Math.round(x) - reach, Math.round(y) - reach];
+    this.#context.globalAlpha = 1;
+    this.#context.drawImage(canvas, left, top, 2 * reach, 2 * reach);
   }
 
   /**
@@ -113,22 +106,13 @@ export class Painter {
   #paths(type, coordinates, style) {
     const depth = { LineString: 0, MultiLineString: 1, Polygon: 1, MultiPolygon: 2 }[type];
     const isClosed = type.endsWith("Polygon");
+    if (style !== this.#style) take(this.#context, style);
+    this.#style = style;
     this.#context.beginPath();
     for (const positions of depth === 0 ? [coordinates] : coordinates.flat(depth - 1)) {
       tracePath(this.#context, positions, this.#placing);
       if (isClosed) this.#context.closePath();
     }
-    this.#finish(style);
-  }
-
-  /** @param {Style} style */
-  #finish({ fillColor, fillOpacity, opacity }) {
-    const context = this.#context;
-    if (fillColor) {
-      context.globalAlpha = fillOpacity;
-      context.fill("evenodd");
-    }
-    context.globalAlpha = opacity;
-    context.stroke();
+    finish(this.#context, style);
   }
 }

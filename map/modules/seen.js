@@ -3,28 +3,32 @@
  *
  * @typedef {import("./feature.js").Feature} Feature
  * @typedef {import("./geometry.js").Box} Box
- * @typedef {object} Sight
- * @property {Feature} feature
- * @property {Box | null} box
- * @property {number} seen when the server showed it last
- * @property {boolean} kept whether it lies in an area that was taken along, and does not go
- * @property {number} written as of when it is on the device; 0 if it has to be written
+ * @typedef {import("./sights.js").Sight} Sight
  */
-import { afterFrame } from "./element.js";
-import { boxOf, contains, overlaps } from "./geometry.js";
+import { boxOf, overlaps } from "./geometry.js";
+import { idle } from "./idle.js";
 import { isEqual } from "./json.js";
 import { readAnswers } from "./queue.js";
+import { Sights } from "./sights.js";
 import { readAll, result, transact } from "./store.js";
 
 /** How many features of a collection are kept; the ones seen longest ago go first. */
 const MOST_KEPT = 20_000;
 /** The number written at once, so that a frame can come between. */
-const WRITTEN_AT_ONCE = 250;
+const WRITTEN_AT_ONCE = 100;
 /** What did not change is written again after this time, in milliseconds. */
 const WRITTEN_AGAIN = 600_000;
 
+/**
+ * @param {Sight | undefined} sight
+ * @returns {boolean} whether it has to be written to the device
+ */
+function isDue(sight) {
+  return sight !== undefined && sight.seen - sight.written > WRITTEN_AGAIN;
+}
+
 export class Seen {
-  /** @type {Map<string, Map<string, Sight>>} the features of each collection, oldest first */
+  /** @type {Map<string, Sights>} the features of each collection */
   #sights = new Map();
   /** The last record of an accepted batch that is taken in. */
   #answer = 0;
@@ -59,10 +63,10 @@ export class Seen {
 
   /**
    * @param {string} collection
-   * @returns {Map<string, Sight>}
+   * @returns {Sights}
    */
   #of(collection) {
-    if (!this.#sights.has(collection)) this.#sights.set(collection, new Map());
+    if (!this.#sights.has(collection)) this.#sights.set(collection, new Sights());
     return this.#sights.get(collection);
   }
 
@@ -83,19 +87,27 @@ export class Seen {
    * @param {boolean} [isTaken] whether they are taken along, and stay
    */
   async put(collection, features, isTaken = false) {
-    await this.#write(collection, features, this.#note(collection, features, isTaken));
+    this.#note(collection, features, isTaken);
+    await this.#write(collection, features);
+    await this.#trim(collection);
   }
 
   /**
-   * Keeps features that the server showed now: in memory at once, and on the device after the next
-   * frame, since they are to be drawn first.
+   * Keeps features that the server showed now: in memory at once, and on the device later, since
+   * they are to be drawn first.
    * @param {string} collection
    * @param {Feature[]} features
    * @returns {Feature[]} the same; of one that did not change, the object that is known already
    */
   see(collection, features) {
-    const over = this.#note(collection, features, false);
-    afterFrame(() => this.#write(collection, features, over).catch(console.error));
+    this.#note(collection, features, false);
+    const sights = this.#of(collection);
+    const due = features.filter(({ id }) => isDue(sights.get(id)));
+    for (let start = 0; start < due.length; start += WRITTEN_AT_ONCE) {
+      const some = due.slice(start, start + WRITTEN_AT_ONCE);
+      idle.add(() => this.#write(collection, some));
+    }
+    if (sights.size > MOST_KEPT) idle.add(() => this.#trim(collection));
     return features.map((feature) => this.find(collection, feature.id)?.feature ?? feature);
   }
 
@@ -103,56 +115,46 @@ export class Seen {
    * @param {string} collection
    * @param {Feature[]} features
    * @param {boolean} isTaken
-   * @returns {string[]} the ids of those that are too many, and no longer in memory
    */
   #note(collection, features, isTaken) {
     const [sights, now] = [this.#of(collection), Date.now()];
     for (const feature of features) {
       const known = sights.get(feature.id);
       const kept = isTaken || known?.kept || false;
-      sights.delete(feature.id);
       const isSame = known && isEqual(known.feature, feature);
-      if (isSame) sights.set(feature.id, { ...known, seen: now, kept });
-      else sights.set(feature.id, this.#sight(feature, now, kept));
-      if (isTaken || kept !== known?.kept) sights.get(feature.id).written = 0;
+      const sight = isSame ? known : this.#sight(feature, now, kept);
+      if (isTaken || kept !== known?.kept) sight.written = 0;
+      [sight.seen, sight.kept] = [now, kept];
+      sights.set(feature.id, sight);
     }
-    const over = this.#surplus(sights);
-    for (const id of over) sights.delete(id);
-    return over;
   }
 
   /**
-   * Writes what is still in memory of features and is not on the device, and deletes others.
+   * Writes what is still in memory of features and is not on the device.
    * @param {string} collection
    * @param {Feature[]} features
-   * @param {string[]} gone
    */
-  async #write(collection, features, gone) {
+  async #write(collection, features) {
     const sights = this.#of(collection);
-    const isDue = (sight) => sight && sight.seen - sight.written > WRITTEN_AGAIN;
-    const due = features.map(({ id }) => id).filter((id) => isDue(sights.get(id)));
+    const due = features.map(({ id }) => sights.get(id)).filter(isDue);
     for (let start = 0; start < due.length; start += WRITTEN_AT_ONCE) {
-      const written = due.slice(start, start + WRITTEN_AT_ONCE).map((id) => sights.get(id));
+      const now = due.slice(start, start + WRITTEN_AT_ONCE).map((sight) => ({ ...sight, sight }));
       const write = (table) => {
-        for (const { feature, seen, kept } of written.filter(Boolean)) {
+        for (const { feature, seen, kept } of now) {
           table.put({ collection, id: feature.id, feature, seen, kept });
         }
       };
       await transact(["features"], "readwrite", write, "relaxed");
-      for (const sight of written.filter(Boolean)) sight.written = sight.seen;
+      for (const { sight, seen } of now) sight.written = seen;
     }
-    const forget = (table) => gone.forEach((id) => table.delete([collection, id]));
-    if (gone.length > 0) await transact(["features"], "readwrite", forget, "relaxed");
   }
 
   /**
-   * @param {Map<string, Sight>} sights
-   * @returns {string[]} the ids of those that are too many
+   * Lets the features go that are too many.
+   * @param {string} collection
    */
-  #surplus(sights) {
-    if (sights.size <= MOST_KEPT) return [];
-    const looked = [...sights].filter(([, { kept }]) => !kept).map(([id]) => id);
-    return looked.slice(0, Math.max(0, looked.length - MOST_KEPT));
+  async #trim(collection) {
+    await this.drop(collection, this.#of(collection).surplus(MOST_KEPT));
   }
 
   /**
@@ -190,13 +192,10 @@ export class Seen {
    * @param {string} collection
    * @param {Box} box
    * @param {Set<string>} ids those that it showed
+   * @param {number} [time] when it did; what was seen later stays
    */
-  async keepOnly(collection, box, ids) {
-    const gone = [];
-    for (const [id, sight] of this.#of(collection)) {
-      if (sight.box && contains(box, sight.box) && !ids.has(id)) gone.push(id);
-    }
-    await this.drop(collection, gone);
+  async keepOnly(collection, box, ids, time = Infinity) {
+    await this.drop(collection, this.#of(collection).missing(box, ids, time));
   }
 
   /**
@@ -205,11 +204,7 @@ export class Seen {
    * @returns {Sight[]} what was seen whose extent meets the box
    */
   within(collection, box) {
-    const found = [];
-    for (const sight of this.#of(collection).values()) {
-      if (sight.box && overlaps(sight.box, box)) found.push(sight);
-    }
-    return found;
+    return this.#of(collection).within(box);
   }
 
   /**

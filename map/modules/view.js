@@ -17,9 +17,10 @@ import { Layers, toPlace } from "./layers.js";
 import { makeMap } from "./leaflet_map.js";
 import { labelOf, symbolOf } from "./legend.js";
 import { Loader, extentOf } from "./loader.js";
+import { Resting } from "./resting.js";
 import { interval } from "./time.js";
 
-/** The time in milliseconds that the view has to rest before its features are requested. */
+/** Of moves that follow each other within this time, in milliseconds, the last one is requested. */
 const PAUSE = 40;
 
 export class View {
@@ -35,9 +36,12 @@ export class View {
   #state;
   #listener;
   #timer = 0;
+  /** When the view moved last. */
+  #last = 0;
   #drawGrid;
   #labels;
   #density;
+  #resting;
   /** As of when the view is, in milliseconds since 1970. */
   asOf = 0;
 
@@ -52,42 +56,28 @@ export class View {
     this.#drawGrid = addGrid(this.map);
     addScale(this.map);
     this.layers = new Layers(this.map, (id, feature) => this.#lookOf(id, feature));
+    this.#resting = new Resting(this.map, this.layers);
     this.#density = new DensityLayer(this.map);
     this.#labels = new Labels(this.map, () => this.#shownLabels());
     this.#seen = seen;
-    this.#loader = new Loader(seen, (collection, features) => this.#draw(collection, features));
+    this.#loader = new Loader(seen, (...page) => this.#draw(...page));
     this.#state = state;
     this.#listener = listener;
     state.on("view", (now, before) => this.#follow(now, before));
     state.on("basket", ({ pending }, before) => this.#showPending(pending, before.pending));
     this.map.on("moveend", () => this.#moved());
-    this.map.on("zoomend", () => this.#zoomed());
   }
-
-  /**
-   * Notes on the map where it is, and that the features of the view are requested.
-   * @returns {() => void} notes that they are there, unless they were requested again since
-   */
-  #asks() {
-    const { dataset } = this.map.getContainer();
-    const { lat, lng } = this.map.getCenter();
-    Object.assign(dataset, { x: lng, y: lat, zoom: this.map.getZoom(), state: "asks" });
-    const turn = (this.#turn += 1);
-    return () => {
-      if (turn === this.#turn) dataset.state = "rests";
-    };
-  }
-
-  #turn = 0;
 
   #moved() {
-    this.#asks();
+    this.#resting.asks();
     const { lat: y, lng: x } = this.map.getCenter();
     this.#state.set("view", { x, y, zoom: this.map.getZoom() });
     this.#loader.drop();
     this.#drawSeen();
     clearTimeout(this.#timer);
-    this.#timer = setTimeout(() => this.refresh(), PAUSE);
+    const now = performance.now();
+    this.#timer = setTimeout(() => this.refresh(), now - this.#last < PAUSE ? PAUSE : 0);
+    this.#last = now;
   }
 
   /**
@@ -125,18 +115,10 @@ export class View {
     }
   }
 
-  #size = -1;
-  #zoomed() {
-    const zoom = this.map.getZoom();
-    const size = [0, 1, 2, 2.5, 4].filter((step) => zoom >= step).length;
-    if (size !== this.#size) this.layers.redraw();
-    this.#size = size;
-  }
-
   /**
    * @param {string} collection
    * @param {import("./feature.js").Feature} feature
-   * @returns {import("./layers.js").Look}
+   * @returns {import("./styling.js").Look}
    */
   #lookOf(collection, feature) {
     const row = symbolOf(this.legends.get(collection), feature);
@@ -146,7 +128,9 @@ export class View {
 
   /** @returns {Iterable<import("./labels.js").Label>} the labels of what is drawn */
   *#shownLabels() {
-    for (const { collection, feature } of this.layers.shown.values()) {
+    const { box: view } = this;
+    for (const { collection, feature, box } of this.layers.shown.values()) {
+      if (!box || !overlaps(box, view)) continue;
       const text = labelOf(this.legends.get(collection), feature);
       if (text) yield { feature, text };
     }
@@ -216,12 +200,14 @@ export class View {
   /**
    * @param {string} collection
    * @param {import("./feature.js").Feature[]} features
+   * @param {() => void} [onPainted]
    */
-  #draw(collection, features) {
+  #draw(collection, features, onPainted) {
     const { pending } = this.#state.basket;
     for (const feature of features) {
       if (!pending.has(nameOf(collection, feature.id))) this.#put(collection, feature, null);
     }
+    if (onPainted) this.layers.afterPaint(onPainted);
   }
 
   /**
@@ -241,15 +227,12 @@ export class View {
 
   /** Requests the features of the view, and takes away those that are gone. */
   async refresh() {
-    const rests = this.#asks();
+    const rests = this.#resting.asks();
     const wanted = this.switchedOn.map(({ id }) => id);
     const { box } = this;
     const counts = await this.#loader.load(wanted, box, this.#datetime);
     if (!counts) return;
-    for (const [name, { collection, feature }] of this.layers.shown) {
-      const isPending = this.#state.basket.pending.has(name) && !this.#isOff(collection);
-      if (!isPending && !counts.get(collection)?.ids.has(feature.id)) this.layers.remove(name);
-    }
+    this.#removeGone(counts, box);
     this.#drawPending();
     this.counts = counts;
     this.asOf = Math.min(...[...counts.values()].map(({ oldest }) => oldest ?? Date.now()));
@@ -257,6 +240,21 @@ export class View {
     this.#listener.onCounts();
     this.#showDensity(box);
     rests();
+  }
+
+  /**
+   * Takes away what the view no longer has. Around the view all stays that no filter concerns.
+   * @param {Map<string, {ids: Set<string>}>} counts
+   * @param {Box} box of the view
+   */
+  #removeGone(counts, box) {
+    const around = this.#datetime ? box : this.layers.around;
+    for (const [name, { collection, feature, box: own }] of this.layers.shown) {
+      if (this.#state.basket.pending.has(name) && !this.#isOff(collection)) continue;
+      const ids = counts.get(collection)?.ids;
+      const isAround = ids && own && !overlaps(own, box) && overlaps(own, around);
+      if (!ids?.has(feature.id) && !isAround) this.layers.remove(name);
+    }
   }
 
   /**

@@ -50,12 +50,20 @@ export function say(text, parts = {}) {
   return fillIn(Object.hasOwn(table, text) ? table[text] : text, parts);
 }
 
+/** @type {Map<number | undefined, Intl.NumberFormat>} by digits: one takes long to make */
+const formats = new Map();
+
 /**
  * @param {number} number
+ * @param {number} [digits] how many are after the point; without it as many as are needed, up to 3
  * @returns {string} with the marks of the page's language
  */
-export function inDigits(number) {
-  return number.toLocaleString(language);
+export function inDigits(number, digits = undefined) {
+  if (!formats.has(digits)) {
+    const options = { minimumFractionDigits: digits ?? 0, maximumFractionDigits: digits ?? 3 };
+    formats.set(digits, new Intl.NumberFormat(language, options));
+  }
+  return formats.get(digits).format(number);
 }
 
 /** Puts the texts of the document itself into the page's language. */

@@ -11,6 +11,7 @@ import json
 import random
 import tempfile
 import threading
+import time
 from collections.abc import Iterator
 from http.server import BaseHTTPRequestHandler, ThreadingHTTPServer
 from pathlib import Path
@@ -21,8 +22,9 @@ from harness import Context, free_port
 
 from browser.browsers import browser
 from browser.page import Page
-from browser.site import serve_map
+from browser.site import serve_map, site
 from browser.standing import drag_map
+from browser.towns import delete, town
 
 COUNT = 100_000
 # The sides, in millimetres, of the town's square and of the cells of a lookup.
@@ -164,4 +166,44 @@ def town_of_many(context: Context) -> None:
 
 RESTS = "return document.getElementById('map').dataset.state === 'rests'"
 
-PARTS = (town_of_many,)
+
+def beside(context: Context) -> None:
+    """What lies beside the view stays painted, and goes once the view is there again without it."""
+    with site(context, "beside", town()) as made, browser() as page:
+        page.open(made.address)
+        page.wait_shown("lamps", "12")
+        page.look_at(36, 10, 4)
+        paper, lamp = (page.script(COLOUR, name) for name in ("paper", "collection-1"))
+        pair = (36, 4), (24, 16)
+        seen = page.until([lamp] * 2, lambda: page.colours_at(*pair))
+        context.check("both lamps", seen, [lamp] * 2)
+        drag_and_rest(page, 420)
+        made.edit("gone", delete("lamps", "L02"))
+        context.check("one is beside the view", page.at(24, 16)[0] < page.script(LEFT), True)
+        context.check("the other is not", page.colours_at((36, 4)), [lamp])
+        drag_and_rest(page, -420)
+        seen = page.until([lamp, paper], lambda: page.colours_at(*pair))
+        context.check("what is gone is not painted", seen, [lamp, paper])
+
+
+COLOUR = """
+return getComputedStyle(document.documentElement).getPropertyValue(`--${arguments[0]}`).trim();
+"""
+LEFT = "return document.getElementById('map').getBoundingClientRect().left"
+
+
+def drag_and_rest(page: Page, pixels: int) -> None:
+    """Drags the map, lets it come to rest before the button is released, and waits for its
+    features."""
+    before = page.view()
+    left, top = page.at(*before[:2])
+    page.mouse("mouseMoved", left, top)
+    page.mouse("mousePressed", left, top, 1)
+    for step in (pixels // 80, pixels):
+        page.mouse("mouseMoved", left - step, top, 1)
+    time.sleep(0.1)
+    page.mouse("mouseReleased", left - pixels, top, 1)
+    page.wait("the drag", lambda: page.view() != before and page.script(RESTS))
+
+
+PARTS = (town_of_many, beside)

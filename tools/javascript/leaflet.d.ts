@@ -2,7 +2,13 @@
 
 declare module "*/leaflet.esm.js" {
   type Place = LatLng | [number, number];
-  type Listener = (event: { latlng: LatLng }) => void;
+  // What a listener gets depends on its event: a click has a place, a zoom the view to come.
+  type Listener = (event: { latlng: LatLng; center: LatLng; zoom: number }) => void;
+
+  interface Point {
+    x: number;
+    y: number;
+  }
 
   interface LatLng {
     lat: number;
@@ -38,8 +44,11 @@ declare module "*/leaflet.esm.js" {
     getCenter(): LatLng;
     getZoom(): number;
     getZoomScale(to: number, from: number): number;
-    getPixelOrigin(): { x: number; y: number };
-    latLngToContainerPoint(place: Place): { x: number; y: number };
+    getPixelOrigin(): Point;
+    getSize(): Point;
+    project(place: Place, zoom: number): Point;
+    containerPointToLayerPoint(at: [number, number]): Point;
+    latLngToContainerPoint(place: Place): Point;
     setView(place: Place, zoom: number, options?: { reset?: boolean; animate?: boolean }): this;
     fitBounds(
       corners: Place[],
@@ -109,27 +118,13 @@ declare module "*/leaflet.esm.js" {
   };
   const control: { zoom(options: { position: string }): Addition };
 
-  interface Surface extends Layer {
-    paintAgain(): void;
-  }
-
-  const Canvas: {
-    extend(own: object): new (options: {
-      pane: string;
-      padding: number;
-      paint: (context: CanvasRenderingContext2D, bounds: PixelBounds) => void;
-    }) => Surface;
+  const DomUtil: {
+    setTransform(element: HTMLElement, offset: Point, scale: number): void;
   };
-
-  interface PixelBounds {
-    min: { x: number; y: number };
-    max: { x: number; y: number };
-  }
-
-  const Util: { requestAnimFrame(act: () => void, owner: object): number };
 
   function map(container: HTMLElement, options: MapOptions): Map;
   function latLng(lat: number, lng: number): LatLng;
+  function point(x: number, y: number): Point;
   function canvas(options: { pane: string; padding: number }): Renderer;
   function layerGroup(): LayerGroup;
   function imageOverlay(
