@@ -76,7 +76,9 @@ export class View {
     this.#drawSeen();
     clearTimeout(this.#timer);
     const now = performance.now();
-    this.#timer = setTimeout(() => this.refresh(), now - this.#last < PAUSE ? PAUSE : 0);
+    // Requested at once, so that the answer is on its way while what is known is painted.
+    if (now - this.#last >= PAUSE) queueMicrotask(() => this.refresh());
+    else this.#timer = setTimeout(() => this.refresh(), PAUSE);
     this.#last = now;
   }
 
