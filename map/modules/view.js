@@ -20,7 +20,7 @@ import { Loader, extentOf } from "./loader.js";
 import { Resting } from "./resting.js";
 import { interval } from "./time.js";
 
-/** Of moves that follow each other within this time, in milliseconds, the last one is requested. */
+/** Of further moves within this time, in milliseconds, only the last one is requested. */
 const PAUSE = 40;
 
 export class View {
