@@ -87,6 +87,11 @@ def rows(port: int, query: str) -> list[str]:
     return done.stdout.splitlines()
 
 
+def quietly(words: list[str | Path]) -> subprocess.Popen[bytes]:
+    """A process that prints nothing."""
+    return subprocess.Popen(words, stdout=subprocess.DEVNULL, stderr=subprocess.DEVNULL)
+
+
 def wait_for(database: int, serial: int) -> None:
     """Waits until the mirror has a serial."""
     ends = time.monotonic() + WAIT_SECONDS
@@ -101,13 +106,28 @@ def mirrored(program: Path, file: Path, journal: Path, database: int) -> Iterato
     """A server with a journal, and its transport into a database that has caught up. Gives the
     server's port."""
     port = free_port()
-    served = [program, "serve", file, "--port", str(port), "--warm", "--journal", journal]
+    served: list[str | Path] = [
+        program,
+        "serve",
+        file,
+        "--port",
+        str(port),
+        "--warm",
+        "--journal",
+        journal,
+    ]
     source = f"postgresql://postgres@127.0.0.1:{database}/postgres"
     given = ["--features", "--system", "EPSG:25832", "--shift", f"{EASTING},{NORTHING}"]
-    script = [PYTHON, "-B", ROOT / "deploy" / "journal_to_postgres.py", journal, source, *given]
-    quiet = {"stdout": subprocess.DEVNULL, "stderr": subprocess.DEVNULL}
-    with until_done(subprocess.Popen(served, **quiet), port):
-        transport = subprocess.Popen(script, **quiet)
+    script: list[str | Path] = [
+        PYTHON,
+        "-B",
+        ROOT / "deploy" / "journal_to_postgres.py",
+        journal,
+        source,
+        *given,
+    ]
+    with until_done(quietly(served), port):
+        transport = quietly(script)
         try:
             wait_for(database, FEATURES // 1000 + 1)
             rows(database, "VACUUM ANALYZE streetmap_features")
