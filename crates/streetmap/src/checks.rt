@@ -50,6 +50,9 @@ pub(crate) fn replay<K: Durable + KeepsBatches>(
             report_collection(rt, name.as_str());
             Err(ProgramFault::NotReplayed(None))
         }
-        Err(ReplayFault::Stopped(stop)) => Err(fault::of_replay(stop)),
+        Err(ReplayFault::Kept(stopped) | ReplayFault::Fresh(stopped)) => {
+            Err(fault::of_keeper(stopped))
+        }
+        Err(ReplayFault::Memory) => Err(ProgramFault::Memory),
     }
 }
