@@ -19,6 +19,8 @@ use Rattle.streetmap_checking.specs.declared.check.CheckFault.{CheckFault}
 use Rattle.streetmap_checking.specs.declared.check.CheckFault.TheVariants as checking
 use Rattle.streetmap_web.specs.declared.turns.End.{End}
 use Rattle.streetmap_web.specs.declared.turns.End.TheVariants as stream
+use Rattle.streetmap_replay.specs.declared.fault.ReplayFault.{ReplayFault}
+use Rattle.streetmap_replay.specs.declared.fault.ReplayFault.TheVariants as replay
 use Rattle.streetmap_replay.specs.declared.follower.Followed.{Followed}
 use Rattle.streetmap_replay.specs.declared.follow_fault.FollowFault.{FollowFault}
 use Rattle.streetmap_faults.specs.declared.fault.ProgramFault.{ProgramFault}
@@ -35,6 +37,7 @@ use Rattle.streetmap_faults.specs.declared.fault.ProgramFault.TheVariants.{PortT
 use Rattle.streetmap_faults.specs.declared.fault.ProgramFault.TheVariants.{NoRightToPort}
 use Rattle.streetmap_faults.specs.declared.fault.ProgramFault.TheVariants.{NoJournal, JournalAhead}
 use Rattle.streetmap_faults.specs.declared.fault.ProgramFault.TheVariants.{NotItsJournal}
+use Rattle.streetmap_faults.specs.declared.fault.ProgramFault.TheVariants.{NotReplayed}
 
 -- if a store is not opened
 abbrev pub fault_of_code : ErrorCode → ProgramFault
@@ -94,6 +97,14 @@ fault_of_start (starting.Other serial) = NotItsJournal serial
 fault_of_start (starting.NotOpened error) = fault_of_journal (error_kind error)
 fault_of_start starting.NotRead = ReadFailed
 fault_of_start (starting.Stopped fault) = fault_of_keeper fault
+
+-- if a replay does not end well
+abbrev pub fault_of_replay : ReplayFault → ProgramFault
+fault_of_replay (replay.Kept fault) = fault_of_keeper fault
+fault_of_replay (replay.Fresh fault) = fault_of_keeper fault
+fault_of_replay replay.Memory = Memory
+fault_of_replay (replay.Batch serial) = NotReplayed (Some serial)
+fault_of_replay (replay.Collection name) = NotReplayed None
 
 -- if the rows of a file are not a state's
 abbrev pub fault_of_check : CheckFault → ProgramFault

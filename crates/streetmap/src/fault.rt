@@ -4,6 +4,7 @@ ghost use Rattle.std.specs.IoError.{error_kind};
 ghost use Rattle.streetmap.specs.Faults.{fault_of_create, fault_of_open, fault_of_check};
 ghost use Rattle.streetmap.specs.Faults.{fault_of_text, end_of_stream, end_of_followed};
 ghost use Rattle.streetmap.specs.Faults.{fault_of_keeper, fault_of_journal, fault_of_start};
+ghost use Rattle.streetmap.specs.Faults.{fault_of_replay};
 ghost use Rattle.streetmap.specs.Faults.{fault_of_store, fault_of_file, fault_of_port};
 
 use sqlite::{Error as StoreError, ErrorCode};
@@ -12,7 +13,7 @@ use streetmap_checking::CheckFault;
 use streetmap_faults::ProgramFault;
 use streetmap_journal::StartFault;
 use streetmap_ledger::Fault;
-use streetmap_replay::Followed;
+use streetmap_replay::{Followed, ReplayFault};
 use streetmap_store::{CreateFault, OpenFault};
 use streetmap_web::End;
 
@@ -154,6 +155,18 @@ pub(crate) fn of_check(fault: &CheckFault) -> ProgramFault
         CheckFault::Damaged => ProgramFault::Damaged,
         CheckFault::Device(_) => ProgramFault::Device,
         CheckFault::Memory => ProgramFault::Memory,
+    }
+}
+
+/// The fault of a replay that does not end well.
+pub(crate) fn of_replay(fault: &ReplayFault) -> ProgramFault
+    ensures { result ≡ fault_of_replay fault.now }
+{
+    match fault {
+        ReplayFault::Kept(fault) | ReplayFault::Fresh(fault) => of_keeper(*fault),
+        ReplayFault::Memory => ProgramFault::Memory,
+        ReplayFault::Batch(serial) => ProgramFault::NotReplayed(Some(*serial)),
+        ReplayFault::Collection(_) => ProgramFault::NotReplayed(None),
     }
 }
 
