@@ -118,6 +118,7 @@ end_of_stream stream.Ended = Ok tt
 end_of_stream stream.Truncated = Ok tt
 end_of_stream stream.ReadFailed = Err ReadFailed
 end_of_stream stream.WriteFailed = Err WriteFailed
+end_of_stream stream.FlushFailed = Err WriteFailed
 
 -- if a text cannot be read
 abbrev pub fault_of_text : ErrorKind → ProgramFault

@@ -74,7 +74,7 @@ pub(crate) fn of_stream(end: End) -> Result<(), ProgramFault>
     match end {
         End::Ended | End::Truncated => Ok(()),
         End::ReadFailed => Err(ProgramFault::ReadFailed),
-        End::WriteFailed => Err(ProgramFault::WriteFailed),
+        End::WriteFailed | End::FlushFailed => Err(ProgramFault::WriteFailed),
     }
 }
 

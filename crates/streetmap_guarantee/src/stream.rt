@@ -2,17 +2,19 @@
 ghost use Rattle.streetmap_ledger.specs.State.{State};
 ghost use Rattle.streetmap_routes.specs.BaseView.{root_of};
 ghost use Rattle.streetmap_web.specs.Conditions.{ByCalls};
+ghost use Rattle.streetmap_web.specs.Turns.{IsHandedOn};
 ghost use Rattle.streetmap_guarantee.specs.Streams.{GuaranteeOfStream};
 
 use std::alloc::Global;
-use std::io::{BufRead, Write};
+use std::io::BufRead;
 use streetmap_ledger::Durable;
 use streetmap_routes::Base;
+use streetmap_text_lines::Flush;
 use streetmap_web::{Served, serve};
 
 /// Serves a stream of requests over a keeper: reads them from the reader, and writes their answers
 /// to the writer, in order, up to the first that closes the connection (`streetmap_web::serve`).
-pub fn pipe<K: Durable, R: BufRead, W: Write>(
+pub fn pipe<K: Durable, R: BufRead, W: Flush>(
     alloc: Global,
     keeper: &mut K,
     base: &Base,
@@ -25,6 +27,8 @@ pub fn pipe<K: Durable, R: BufRead, W: Write>(
         (R.remaining reader.old) (R.remaining reader.new)
         (W.contents writer.old) (W.contents writer.new) }
     ensures calls { ByCalls K.model keeper.old keeper.new }
+    ensures flushed { IsHandedOn result.end result.answers
+        (W.is_flushed writer.old) (W.is_flushed writer.new) }
 {
     serve(alloc, keeper, base, reader, writer)
 }

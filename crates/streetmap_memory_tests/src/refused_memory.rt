@@ -8,6 +8,7 @@ use std::io::Write;
 use std::test::Fail;
 use streetmap_memory::PlainKeeper;
 use streetmap_routes::Base;
+use streetmap_text_lines::Flush;
 use streetmap_web::serve;
 
 /// A batch, requests for all collections and for one, and one for a page of it.
@@ -50,6 +51,15 @@ impl Write for Fixed {
 
     fn flush(&mut self) -> io::Result<()> {
         Ok(())
+    }
+}
+
+/// It keeps nothing back.
+impl Flush for Fixed {
+    ghost is_flushed = { λ _. Unit {0} };
+
+    fn hand_on(&mut self) -> io::Result<()> {
+        self.flush()
     }
 }
 

@@ -1,11 +1,11 @@
-//! Answers sent to writers that stop, and to a writer that keeps bytes back until it is flushed.
+//! Answers sent to writers that stop, and to a writer whose flush fails.
 use crate::fakes::Sink;
 use std::io::BufWriter;
 use std::test::Fail;
 use streetmap_http::{Sent, send};
 use streetmap_memory::PlainKeeper;
 use streetmap_routes::Base;
-use streetmap_web::serve;
+use streetmap_web::{End, serve};
 
 /// The result of sending an answer to a writer with this much room, and whether it took the prefix
 /// that fits.
@@ -43,17 +43,24 @@ const STREAM: &[u8] =
     b"GET /conformance HTTP/1.1\r\nHost: a\r\n\r\nGET / HTTP/1.1\r\nHost: a\r\n\r\n";
 
 #[test]
-fn a_served_writer_is_flushed(rt: HostRuntime) -> Result<(), Fail> {
+fn a_failed_flush_ends_a_stream(rt: HostRuntime) -> Result<(), Fail> {
     let Ok(base) = Base::new(rt.alloc(), "http://localhost/") else {
         return Ok(());
     };
-    let Ok(mut writer) = BufWriter::new(rt.alloc(), Vec::new(rt.alloc())) else {
+    let sink = Sink {
+        taken: [0; 8],
+        len: 0,
+        room: 8,
+        fails: true,
+        again: false,
+    };
+    let Ok(mut writer) = BufWriter::new(rt.alloc(), sink) else {
         return Ok(());
     };
     let mut keeper = PlainKeeper::new(rt.alloc());
     let mut reader = STREAM;
     let served = serve(rt.alloc(), &mut keeper, &base, &mut reader, &mut writer);
-    assert!(rt; served.answers > 0);
-    assert!(rt; writer.buffer().is_empty());
+    assert_eq!(rt; served.answers, 1);
+    assert!(rt; served.end == End::FlushFailed);
     Ok(())
 }

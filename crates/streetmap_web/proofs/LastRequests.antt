@@ -18,7 +18,7 @@ use Rattle.streetmap_web.specs.ServedClients.{AnsweredInTurn, IsAnswerTo}
 use Rattle.streetmap_web.specs.declared.turns.End.{End}
 use Rattle.streetmap_web.specs.declared.turns.End.TheVariants as variants
 use Rattle.streetmap_web.specs.declared.turns.Turn.{Turn}
-use Rattle.streetmap_web.specs.declared.turns.Turn.TheVariants.{Open, Closed, Ended, Truncated, ReadFailed, WriteFailed}
+use Rattle.streetmap_web.specs.declared.turns.Turn.TheVariants.{Open, Closed, Ended, Truncated, ReadFailed, WriteFailed, FlushFailed}
 
 -- a request of the web with its answer, as bytes
 abbrev pub exchange_at : Text → Condition → HttpExchange → Exchange
@@ -102,6 +102,9 @@ module _ (root : Text) (y : Condition) (a : Around) where
       let text = web.answer_bytes root y says.0 in
       one variants.WriteFailed says.0 says.1.is says.1.read (take says.2 text) (drop says.2 text) says.5 (sym (take-append-drop says.2 text))
       (more_left says.2 text says.3, refl)
+  is_last model new FlushFailed says shut =
+      one variants.FlushFailed says.0 says.1.is says.1.read (web.answer_bytes root y says.0) [] says.2 (sym (append-nil (web.answer_bytes root y says.0)))
+      (refl, refl)
   is_last model new Ended says shut = none variants.Ended says.0.written (refl, inr (says.1, says.2, says.3, says.4))
   is_last model new Truncated says shut = none variants.Truncated says.0.written (refl, (says.1, says.2, says.3, says.4))
   is_last model new ReadFailed says shut = none variants.ReadFailed says.written refl

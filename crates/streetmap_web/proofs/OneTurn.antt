@@ -17,7 +17,7 @@ use Rattle.streetmap_bodies.specs.declared.request_fault.RequestFault.TheVariant
 use Rattle.streetmap_web.specs.Response.{RequestValue, AnswerSent, request_of, broken_request, fault_response, response_text, sent_so}
 use Rattle.streetmap_web.specs.Conditions.{Condition, no_memory, IsInCondition}
 use Rattle.streetmap_web.specs.Responds.{ComesOut, AnswersOperation}
-use Rattle.streetmap_web.specs.Turns.{turn_after, RefuseSays}
+use Rattle.streetmap_web.specs.Turns.{turn_after, WriteSays, RefuseSays}
 use Rattle.streetmap_web.specs.Exchanges.{HttpExchange, HasRequest, whole, broken, closes, answer_bytes, sent_for}
 use Rattle.streetmap_web.specs.ServedStream.{Around, around, Acted, TurnComes}
 use Rattle.streetmap_web.specs.declared.turns.Turn.{Turn}
@@ -32,70 +32,66 @@ unfinished_body head came h cut framed short =
     let whole : length came + (h.len - length came) ≡ h.len = omega arith in
     in_body (h.len - length came) some (record { head = head; came = came; value = h; parts = refl; cut = cut; framed = framed; len = whole })
 
--- a turn that is known by how its answer was sent
-pub turn_of : {K : Type 0} (model : Model K) (sent : Sent) (closing : Bool) (turn : Turn) (root : Text) (x : Condition) (a : Around) (old new : K)
-    → turn ≡ turn_after sent closing
-    → TurnComes model (turn_after sent closing) root x a old new → TurnComes model turn root x a old new
-turn_of model sent closing turn root x a old new is comes = subst (λ t. TurnComes model t root x a old new) {x = turn_after sent closing} (sym is) comes
-
 module _ {K : Type 0} (model : Model K) (root : Text) (x : Condition) (left rest : Option Text) where
   -- an exchange that was acted on, and how its answer was sent
-  written_turn : (e : HttpExchange) (closing : Bool) (text : Text) (sent : Sent) (held now : Option Text) (old new : K)
+  written_turn : (e : HttpExchange) (closing : Bool) (text : Text) (sent : Sent) (flushed : Bool) (held now : Option Text) (old new : K)
       → Acted model x e (around left rest held now) new → ComesOut model root x e.request e.outcome (sent_for root x e) old new
       → closing ≡ closes root x e → text ≡ answer_bytes root x e → SentSays sent text held now
-      → TurnComes model (turn_after sent closing) root x (around left rest held now) old new
-  written_turn e true text Whole held now old new acted one closed same written =
+      → TurnComes model (turn_after sent flushed closing) root x (around left rest held now) old new
+  written_turn e true text Whole true held now old new acted one closed same written =
       ((e, acted, subst (λ t. SentSays Whole t held now) same written, sym closed), (new, one, refl))
-  written_turn e false text Whole held now old new acted one closed same written =
+  written_turn e false text Whole true held now old new acted one closed same written =
       ((e, acted, subst (λ t. SentSays Whole t held now) same written, sym closed), (new, one, refl))
-  written_turn e closing text (Part begun) held now old new acted one closed same written =
+  written_turn e closing text Whole false held now old new acted one closed same written =
+      ((e, acted, subst (λ t. SentSays Whole t held now) same written), (new, one, refl))
+  written_turn e closing text (Part begun) flushed held now old new acted one closed same written =
       let w : SentSays (Part begun) (answer_bytes root x e) held now = subst (λ t. SentSays (Part begun) t held now) same written in
       ((e, acted, w.0, w.1, w.2, w.3), (new, one, refl))
 
   -- an exchange with this outcome
-  sent_turn : (e : HttpExchange) (text : Text) (closing : Bool) (sent : Sent) (held now : Option Text) (old new : K)
-      → HasRequest e → Consumes left rest e.bytes → ComesOut model root x e.request e.outcome (sent_so text closing) old new → SentSays sent text held now
-      → TurnComes model (turn_after sent closing) root x (around left rest held now) old new
-  sent_turn e text closing sent held now old new has_request read one written =
+  sent_turn : (e : HttpExchange) (text : Text) (closing : Bool) (turn : Turn) (held now : Option Text) (old new : K)
+      → HasRequest e → Consumes left rest e.bytes → ComesOut model root x e.request e.outcome (sent_so text closing) old new
+      → WriteSays turn text closing held now → TurnComes model turn root x (around left rest held now) old new
+  sent_turn e text closing turn held now old new has_request read one (sent, flushed, turned, written) =
       let acted : Acted model x e (around left rest held now) new = record {
         is = record { has_request = has_request; can = one.can };
         read = read;
         in_condition = one.condition;
       } in
-      written_turn e closing text sent held now old new acted (for_answer model root x e.request e.outcome (sent_so text closing) old new one)
-      (ap (λ (s : AnswerSent). s.closes) one.sent_is) (ap (λ (s : AnswerSent). s.text) one.sent_is) written
+      subst (λ t. TurnComes model t root x (around left rest held now) old new) (sym turned)
+      (written_turn e closing text sent flushed held now old new acted (for_answer model root x e.request e.outcome (sent_so text closing) old new one)
+      (ap (λ (s : AnswerSent). s.closes) one.sent_is) (ap (λ (s : AnswerSent). s.text) one.sent_is) written)
 
   -- a whole request that was answered
-  pub answered_turn : (h : HeadValue) (head body text : Text) (closing : Bool) (sent : Sent) (held now : Option Text) (old new : K)
+  pub answered_turn : (h : HeadValue) (head body text : Text) (closing : Bool) (turn : Turn) (held now : Option Text) (old new : K)
       → IsHead head → Frames head (sized h) → length body ≡ h.len → Consumes left rest (head ++ body)
-      → AnswersOperation model root x (request_of h body) (sent_so text closing) old new → SentSays sent text held now
-      → TurnComes model (turn_after sent closing) root x (around left rest held now) old new
-  answered_turn h head body text closing sent held now old new cut framed len read (outcome, one) written =
+      → AnswersOperation model root x (request_of h body) (sent_so text closing) old new → WriteSays turn text closing held now
+      → TurnComes model turn root x (around left rest held now) old new
+  answered_turn h head body text closing turn held now old new cut framed len read (outcome, one) written =
       let e : HttpExchange = record { bytes = head ++ body; request = request_of h body; outcome = outcome } in
       let has_request : HasRequest e = whole h body (record { head = head; parts = refl; cut = cut; framed = framed; len = len }) refl in
-      sent_turn e text closing sent held now old new has_request read one written
+      sent_turn e text closing turn held now old new has_request read one written
 
   module _ (k : K) (in_condition : IsInCondition model k x) where
     -- memory ran out before the request was acted on
-    pub starved_turn : (bytes text : Text) (request : RequestValue) (sent : Sent) (held now : Option Text)
+    pub starved_turn : (bytes text : Text) (request : RequestValue) (turn : Turn) (held now : Option Text)
         → HasRequest (record { bytes = bytes; request = request; outcome = no_memory }) → Consumes left rest bytes
-        → text ≡ response_text true request.bare (fault_response (Keeper Memory)) → SentSays sent text held now
-        → TurnComes model (turn_after sent true) root x (around left rest held now) k k
-    starved_turn bytes text request sent held now has_request read same written =
+        → text ≡ response_text true request.bare (fault_response (Keeper Memory)) → WriteSays turn text true held now
+        → TurnComes model turn root x (around left rest held now) k k
+    starved_turn bytes text request turn held now has_request read same written =
         let e : HttpExchange = record { bytes = bytes; request = request; outcome = no_memory } in
-        sent_turn e text true sent held now k k has_request read
+        sent_turn e text true turn held now k k has_request read
         (starved_comes model root x request (sent_so text true) k (fault_sent request Memory text same) in_condition) written
 
     -- the answer to a broken rule, as it was sent
     pub refuse_says : (bytes : Text) (bare : Bool) (fault : FramingFault) (turn : Turn) (held now : Option Text) → Breaks bytes bare fault
         → Consumes left rest bytes
         → RefuseSays turn bare fault held now → TurnComes model turn root x (around left rest held now) k k
-    refuse_says bytes bare fault turn held now breaks read (answer, why, sent, turned, written) =
+    refuse_says bytes bare fault turn held now breaks read (answer, why, written) =
         let text = response_text true bare (fault_response answer) in
         let (outcome, one) = refused_comes model root x text bare fault k (answer, why, refl) in_condition in
         let e : HttpExchange = record { bytes = bytes; request = broken_request bare fault; outcome = outcome } in
-        subst (λ t. TurnComes model t root x (around left rest held now) k k) (sym turned)
-        (sent_turn e text true sent held now k k (broken bare fault breaks refl) read one written)
+        sent_turn e text true turn held now k k (broken bare fault breaks refl) read one written
 
     -- ---- turns without an answer
 

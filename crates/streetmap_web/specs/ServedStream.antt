@@ -15,7 +15,7 @@ use Rattle.streetmap_web.specs.Turns.{begun_in, end_of}
 use Rattle.streetmap_web.specs.declared.turns.End.{End}
 use Rattle.streetmap_web.specs.declared.turns.Turn.{Turn}
 use Rattle.streetmap_web.specs.declared.turns.Turn.TheVariants.{Open, Closed, Ended, Truncated}
-use Rattle.streetmap_web.specs.declared.turns.Turn.TheVariants.{ReadFailed, WriteFailed}
+use Rattle.streetmap_web.specs.declared.turns.Turn.TheVariants.{ReadFailed, WriteFailed, FlushFailed}
 
 -- what a reader has left and what a writer holds, before and after
 pub record Around : Type 0 where
@@ -57,6 +57,8 @@ TurnSays model (WriteFailed begun) root x a new =
     (e : HttpExchange) × Acted model x e a new × (n : ℕ)
     × (n < length (answer_bytes root x e)) × (begun ≡ nat_lt 0 n)
     × Appends a.output_before a.output_after (take n (answer_bytes root x e))
+TurnSays model FlushFailed root x a new = (e : HttpExchange) × Acted model x e a new
+    × Appends a.output_before a.output_after (answer_bytes root x e)
 TurnSays model Ended root x a new = AnswersNothing model x a new × (bytes : Text) × IsBlank bytes
     × Consumes a.input_before a.input_after bytes × IsAtEnd a.input_after
 TurnSays model Truncated root x a new =
@@ -72,6 +74,7 @@ abbrev pub last_of :
 last_of model Open root x a new says = says.0 ∷ []
 last_of model Closed root x a new says = says.0 ∷ []
 last_of model (WriteFailed begun) root x a new says = says.0 ∷ []
+last_of model FlushFailed root x a new says = says.0 ∷ []
 last_of model Ended root x a new says = []
 last_of model Truncated root x a new says = []
 last_of model ReadFailed root x a new says = []

@@ -1,7 +1,7 @@
 //! A stream of requests, answered in order: a turn reads one and answers it.
 ghost use Rattle.std.specs.Prelude.{◌≡◌, ◌<◌, ◌+◌, ◌-◌, ◌^◌, Option, IfOk, if◌then◌else◌};
-ghost use Rattle.std.specs.Prelude.{length};
-ghost use Rattle.std.specs.Io.KnownBytes.{Consumes, IsAtEnd};
+ghost use Rattle.std.specs.Prelude.{length, true};
+ghost use Rattle.std.specs.Io.KnownBytes.{Consumes, IsAtEnd, Keeps};
 ghost use Rattle.streetmap_http.specs.Head.{IsHead};
 ghost use Rattle.streetmap_http.specs.Framing.{Frames, Breaks, sized};
 ghost use Rattle.streetmap_http.specs.SentAnswers.{SentSays};
@@ -12,11 +12,12 @@ ghost use Rattle.streetmap_connections.specs.Answers.{answer_text};
 ghost use Rattle.streetmap_web.specs.Conditions.{Condition, IsInCondition, ByCalls};
 ghost use Rattle.streetmap_web.specs.ServedStream.{around, TurnComes, ServesExchanges};
 ghost use Rattle.streetmap_web.specs.Turns.{turn_after, end_of, begun_in, FillSays, RefuseSays};
+ghost use Rattle.streetmap_web.specs.Turns.{WriteSays, HandsOn, IsHandedOn};
 
 use crate::answer::{answer_to, fixed, refused};
 use httparse::spans::EMPTY_HEADER_SPAN;
 use std::alloc::{AllocError, Global};
-use std::io::{BufRead, Read, Write};
+use std::io::{BufRead, Read};
 use streetmap_connections::Answer;
 use streetmap_http::{
     BodyEnd, FIELD_LIMIT, Framed, FramingFault, HEAD_LIMIT, HeadEnd, RequestHead, Sent, frame_of,
@@ -24,6 +25,7 @@ use streetmap_http::{
 };
 use streetmap_ledger::{Fault, Keeper};
 use streetmap_routes::Base;
+use streetmap_text_lines::Flush;
 
 /// What one turn of the loop did.
 #[derive(Clone, Copy, PartialEq, Eq)]
@@ -40,6 +42,8 @@ enum Turn {
     ReadFailed,
     /// A write failed or took no byte; whether a byte of the answer was written.
     WriteFailed(bool),
+    /// An answer was written, and the flush after it failed.
+    FlushFailed,
 }
 
 /// How serving ended.
@@ -53,6 +57,9 @@ pub enum End {
     ReadFailed,
     /// A write failed or took no byte.
     WriteFailed,
+    /// The flush after an answer failed: the writer took the whole answer, and may keep some of it
+    /// back.
+    FlushFailed,
 }
 
 /// What was served.
@@ -63,13 +70,14 @@ pub struct Served {
     pub end: End,
 }
 
-/// The turn of an answer that was sent so.
-fn turn_after(sent: Sent, closes: bool) -> Turn
-    ensures { result ≡ turn_after sent closes }
+/// The turn of an answer that was sent so, and flushed or not.
+fn turn_after(sent: Sent, flushed: bool, closes: bool) -> Turn
+    ensures { result ≡ turn_after sent flushed closes }
 {
-    match sent {
-        Sent::Whole => { if closes { Turn::Closed } else { Turn::Open } }
-        Sent::Part(begun) => Turn::WriteFailed(begun),
+    match (sent, flushed) {
+        (Sent::Part(begun), _) => Turn::WriteFailed(begun),
+        (Sent::Whole, false) => Turn::FlushFailed,
+        (Sent::Whole, true) => { if closes { Turn::Closed } else { Turn::Open } }
     }
 }
 
@@ -82,6 +90,7 @@ fn end_of(turn: Turn) -> End
         Turn::Truncated => End::Truncated,
         Turn::ReadFailed => End::ReadFailed,
         Turn::WriteFailed(_) => End::WriteFailed,
+        Turn::FlushFailed => End::FlushFailed,
     }
 }
 
@@ -90,7 +99,7 @@ fn is_begun(turn: Turn) -> bool
     ensures { result ≡ begun_in turn }
 {
     match turn {
-        Turn::Open | Turn::Closed => true,
+        Turn::Open | Turn::Closed | Turn::FlushFailed => true,
         Turn::WriteFailed(begun) => begun,
         _ => false,
     }
@@ -104,14 +113,24 @@ fn count_after(answers: u64, turn: Turn) -> u64
     if is_begun(turn) { answers + 1 } else { answers }
 }
 
-/// Writes an answer, and flushes the writer. A failed flush is ignored.
-fn write_answer<W: Write>(writer: &mut W, answer: &Answer) -> Sent
-    ensures { SentSays result (answer_text answer.now)
+/// Flushes a writer. Returns whether that succeeded.
+fn flush<W: Flush>(writer: &mut W) -> bool
+    ensures bytes { Keeps (W.contents writer.old) (W.contents writer.new) }
+    ensures flushed { result ≡ true → W.is_flushed writer.new }
+{
+    writer.hand_on().is_ok()
+}
+
+/// Writes an answer, and flushes the writer. Returns how that ended, for an answer that closes the
+/// connection or not.
+fn write_answer<W: Flush>(writer: &mut W, answer: &Answer, closes: bool) -> Turn
+    ensures says { WriteSays result (answer_text answer.now) closes
         (W.contents writer.old) (W.contents writer.new) }
+    ensures flushed { HandsOn result (W.is_flushed writer.old) (W.is_flushed writer.new) }
 {
     let sent = send(writer, answer.head(), answer.body());
-    let _ = writer.flush();
-    sent
+    let flushed = flush(writer);
+    turn_after(sent, flushed, closes)
 }
 
 /// Room for a body.
@@ -124,11 +143,12 @@ fn body_room(alloc: Global, len: usize) -> Result<Vec<u8>, AllocError>
 }
 
 /// Answers a request that breaks a rule of framing.
-fn refuse_turn<W: Write>(alloc: Global, writer: &mut W, fault: FramingFault, bare: bool) -> Turn
-    ensures { RefuseSays result bare fault (W.contents writer.old) (W.contents writer.new) }
+fn refuse_turn<W: Flush>(alloc: Global, writer: &mut W, fault: FramingFault, bare: bool) -> Turn
+    ensures says { RefuseSays result bare fault (W.contents writer.old) (W.contents writer.new) }
+    ensures flushed { HandsOn result (W.is_flushed writer.old) (W.is_flushed writer.new) }
 {
     let answer = refused(alloc, fault, bare);
-    turn_after(write_answer(writer, &answer), true)
+    write_answer(writer, &answer, true)
 }
 
 /// Fills the room with a body. Returns how that ended.
@@ -152,7 +172,7 @@ fn read_all<R: Read>(reader: &mut R, room: Vec<u8>) -> (BodyEnd, Vec<u8>)
 }
 
 /// Answers a request whose head was read.
-fn answer_turn<K: Keeper, R: Read, W: Write>(
+fn answer_turn<K: Keeper, R: Read, W: Flush>(
     alloc: Global,
     keeper: &mut K,
     base: &Base,
@@ -168,10 +188,11 @@ fn answer_turn<K: Keeper, R: Read, W: Write>(
         TurnComes K.model result (root_of base.now) x
         (around left (R.remaining reader.new) (W.contents writer.old) (W.contents writer.new))
         keeper.old keeper.new }
+    ensures flushed { HandsOn result (W.is_flushed writer.old) (W.is_flushed writer.new) }
 {
     let Ok(room) = body_room(alloc, head.len) else {
         let bare = is_bare(head.method);
-        return turn_after(write_answer(writer, &fixed(Fault::Memory, bare)), true);
+        return write_answer(writer, &fixed(Fault::Memory, bare), true);
     };
     let (end, body) = read_all(reader, room);
     match end {
@@ -180,11 +201,11 @@ fn answer_turn<K: Keeper, R: Read, W: Write>(
         BodyEnd::Failed => return Turn::ReadFailed,
     }
     let (answer, closes) = answer_to(alloc, keeper, base, head, body.as_slice());
-    turn_after(write_answer(writer, &answer), closes)
+    write_answer(writer, &answer, closes)
 }
 
 /// One turn: a request is read and answered.
-fn take_turn<K: Keeper, R: Read, W: Write>(
+fn take_turn<K: Keeper, R: Read, W: Flush>(
     alloc: Global,
     keeper: &mut K,
     base: &Base,
@@ -199,6 +220,8 @@ fn take_turn<K: Keeper, R: Read, W: Write>(
         TurnComes K.model result (root_of base.now) x
         (around (R.remaining reader.old) (R.remaining reader.new)
         (W.contents writer.old) (W.contents writer.new)) keeper.old keeper.new }
+    // What was written is handed on before the next request is read.
+    ensures flushed { HandsOn result (W.is_flushed writer.old) (W.is_flushed writer.new) }
 {
     let (end, len) = read_head(reader, buf);
     match end {
@@ -219,12 +242,12 @@ fn take_turn<K: Keeper, R: Read, W: Write>(
 
 /// Serves a stream of requests over a keeper: reads them from the reader, and writes their answers
 /// to the writer, in order, up to the first that closes the connection. After each answer the
-/// writer is flushed; a failed flush is ignored.
+/// writer is flushed, before the next request is read.
 ///
 /// It ends if an answer closed the connection or the input ended (`Ended`), if the input ended
-/// within a request (`Truncated`), or if a read or a write failed; of a request that did not arrive
-/// whole nothing is applied.
-pub fn serve<K: Keeper, R: BufRead, W: Write>(
+/// within a request (`Truncated`), or if a read, a write or a flush failed; of a request that did
+/// not arrive whole nothing is applied.
+pub fn serve<K: Keeper, R: BufRead, W: Flush>(
     alloc: Global,
     keeper: &mut K,
     base: &Base,
@@ -246,6 +269,9 @@ pub fn serve<K: Keeper, R: BufRead, W: Write>(
         (W.contents writer.old) (W.contents writer.new)) keeper.old keeper.new }
     // All else that the store has is kept.
     ensures calls { ByCalls K.model keeper.old keeper.new }
+    // No byte of an answer waits in the writer, unless a write or a flush failed.
+    ensures flushed { IsHandedOn result.end result.answers
+        (W.is_flushed writer.old) (W.is_flushed writer.new) }
 {
     let mut buf = [0u8; HEAD_LIMIT];
     for answers in 0..u64::MAX {

@@ -13,7 +13,7 @@ use Rattle.streetmap_web.specs.Turns.{FillSays}
 use Rattle.streetmap_web.specs.Exchanges.{no_room}
 use Rattle.streetmap_web.specs.ServedStream.{around}
 use Rattle.streetmap_bodies.specs.declared.request_fault.RequestFault.TheVariants.{Keeper}
-use Rattle.streetmap_web.proofs.OneTurn.{turn_of, starved_turn, answered_turn, truncated_turn, unread_turn, unfinished_body}
+use Rattle.streetmap_web.proofs.OneTurn.{starved_turn, answered_turn, truncated_turn, unread_turn, unfinished_body}
 use Rattle.streetmap_web.proofs.turns.answer_turn.Goals as goal
 
 pub returns-in_default-clause-says : goal.returns-in_default-clause-says
@@ -26,9 +26,8 @@ returns-in_default-clause-says g c = λ clean bytes left x cut framed read h.
     let held = g.W.Write.contents c.args.writer.now in
     let now = g.W.Write.contents c.write_answer.new.writer in
     let text = c.fixed.ensures ∙ ap (λ bare. response_text true bare (fault_response (Keeper Memory))) c.is_bare-bare.ensures in
-    turn_of model c.write_answer.result true c.turn_after.result root x (around left rest held now) keeper keeper c.turn_after.ensures
-    (starved_turn model root x left rest keeper h bytes (answer_text c.fixed.result) (request_of head []) c.write_answer.result held now
-    (no_room head cut framed refl refl) read text c.write_answer.ensures)
+    starved_turn model root x left rest keeper h bytes (answer_text c.fixed.result) (request_of head []) c.write_answer.result held now
+    (no_room head cut framed refl refl) read text c.write_answer.ensures.says
 
 -- what filling says once it is known how it ended
 filled : (e f : BodyEnd) (bytes : List ℕ) (a b : Option (List ℕ)) → e ≡ f → FillSays e bytes a b → FillSays f bytes a b
@@ -61,7 +60,6 @@ returns-clause-says g c = λ clean bytes left x cut framed read h.
     let said = c.answer_to-answer in
     let old = c.args.keeper.now in
     let came : Consumes before rest body = subst (Consumes before rest) (sym value) (filled _ Whole _ before rest c.in-Whole.is c.read_all-end.ensures.says) in
-    turn_of model c.write_answer-2.result said.result.1 c.turn_after-2.result root x (around left rest held now) old said.new.keeper c.turn_after-2.ensures
-    (answered_turn model root x left rest (head_value c.args.head) bytes body (answer_text said.result.0) said.result.1 c.write_answer-2.result held now old said.new.keeper
+    answered_turn model root x left rest (head_value c.args.head) bytes body (answer_text said.result.0) said.result.1 c.write_answer-2.result held now old said.new.keeper
     cut framed (ap length value ∙ c.read_all-end.ensures.len ∙ c.in-Ok.ensures) (Consumes-trans left before rest bytes body read came)
-    (said.ensures.answered clean x h) c.write_answer-2.ensures)
+    (said.ensures.answered clean x h) c.write_answer-2.ensures.says

@@ -4,6 +4,7 @@ use Rattle.streetmap_web.specs.declared.turns.Turn.TheVariants.{Open, ReadFailed
 use Rattle.streetmap_web.proofs.CallsInARow.{no_calls, calls_then}
 use Rattle.streetmap_web.proofs.OneTurn.{unread_turn}
 use Rattle.streetmap_web.proofs.TurnsInARow.{gone_none, gone_more, gone_ends}
+use Rattle.streetmap_web.proofs.Flushes.{none_flushed, open_flushed, same_flushed, stream_flushed}
 use Rattle.streetmap_web.proofs.turns.serve.Goals as goal
 
 pub loop-answers-preserved : goal.loop-answers-preserved
@@ -18,6 +19,7 @@ loop-answers-preserved g c =
           (g.R.Read.remaining c.args.reader.now) (g.R.Read.remaining c.loop-answers.reader) (g.R.Read.remaining c.take_turn-turn.new.reader)
           (g.W.Write.contents c.args.writer.now) (g.W.Write.contents c.loop-answers.writer) (g.W.Write.contents c.take_turn-turn.new.writer)
           c.args.keeper.now c.loop-answers.keeper c.take_turn-turn.new.keeper (before.gone (says.calls.began_clean clean) x h) (says.says clean) c.in-Open.is;
+      flushed = λ some. open_flushed c.take_turn-turn.result _ _ c.in-Open.is says.flushed;
     }
 
 pub loop-answers-init : goal.loop-answers-init
@@ -27,6 +29,7 @@ loop-answers-init g c =
       room = refl;
       calls = no_calls model _;
       gone = λ clean x h. gone_none model (root_of c.args.base.now) x _ _ c.args.keeper.now h;
+      flushed = none_flushed (g.W.Flush.is_flushed c.args.writer.now);
     }
 
 pub returns-in_default : goal.returns-in_default
@@ -34,11 +37,12 @@ returns-in_default g c =
     let model = g.K.Keeper.model in
     let before = c.loop-answers.invariant in
     let says = c.take_turn-turn.ensures in
+    let closed : c.take_turn-turn.result ≢ Open = search rules in
     record {
       calls = calls_then model _ _ _ before.calls says.calls;
-      serves = λ clean x h.
-          let closed : c.take_turn-turn.result ≢ Open = search rules in
-          gone_ends model (root_of c.args.base.now) x c.loop-answers.answers c.take_turn-turn.result
+      flushed = stream_flushed c.take_turn-turn.result c.loop-answers.answers c.count_after.result c.end_of.result _ _ _
+          closed c.end_of.ensures c.count_after.ensures before.flushed says.flushed;
+      serves = λ clean x h. gone_ends model (root_of c.args.base.now) x c.loop-answers.answers c.take_turn-turn.result
           (g.R.Read.remaining c.args.reader.now) (g.R.Read.remaining c.loop-answers.reader) (g.R.Read.remaining c.take_turn-turn.new.reader)
           (g.W.Write.contents c.args.writer.now) (g.W.Write.contents c.loop-answers.writer) (g.W.Write.contents c.take_turn-turn.new.writer)
           c.args.keeper.now c.loop-answers.keeper c.take_turn-turn.new.keeper (before.gone (says.calls.began_clean clean) x h) (says.says clean)
@@ -56,3 +60,8 @@ returns-clause-serves g c = λ clean x h.
     c.args.keeper.now c.loop-answers.keeper c.loop-answers.keeper (rw last at (c.loop-answers.invariant.gone clean x h))
     (λ y in_condition. unread_turn model root y rest rest c.loop-answers.keeper in_condition held)
     18446744073709551615 _ (λ e. cc) refl refl
+
+pub returns-clause-flushed : goal.returns-clause-flushed
+returns-clause-flushed g c =
+    let last : c.loop-answers.answers ≡ 18446744073709551615 = omega arith in
+    same_flushed c.loop-answers.answers 18446744073709551615 _ _ last c.loop-answers.invariant.flushed

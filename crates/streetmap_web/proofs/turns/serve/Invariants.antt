@@ -1,4 +1,4 @@
-use Rattle.std.proofs.Common.{◌≡◌, length}
+use Rattle.std.proofs.Common.{◌≡◌, ◌<◌, ◌⊎◌, length}
 use Rattle.streetmap_http.specs.declared.limits.TheConstants.{HEAD_LIMIT}
 use Rattle.streetmap_routes.specs.BaseView.{root_of}
 use Rattle.streetmap_web.specs.Conditions.{Condition, IsInCondition, ByCalls}
@@ -14,4 +14,5 @@ invariant-loop-answers g l =
       gone : model.is_clean l.keeper → (x : Condition) → IsInCondition model l.initial.keeper x →
           Gone model (root_of l.base) x l.answers
           (g.R.Read.remaining l.initial.reader) (g.R.Read.remaining l.reader) (g.W.Write.contents l.initial.writer) (g.W.Write.contents l.writer) l.initial.keeper l.keeper;
+      flushed : (0 < l.answers) ⊎ g.W.Flush.is_flushed l.initial.writer → g.W.Flush.is_flushed l.writer;
     }

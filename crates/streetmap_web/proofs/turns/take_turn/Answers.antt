@@ -33,7 +33,7 @@ returns-in-TooLarge-clause-says g c = λ clean x h.
     let bytes : List ℕ = take c.read_head-end.result.1 c.read_head-end.new.buf in
     let (long, none) = known _ TooLarge bytes _ c.in-TooLarge.is c.read_head-end.ensures.says in
     refuse_says model (root_of c.args.base.now) x _ _ c.args.keeper.now h bytes _ _ _ _ _ (no_end long none refl refl) c.read_head-end.ensures.read
-    c.refuse_turn.ensures
+    c.refuse_turn.ensures.says
 
 pub returns-in-Failed-clause-says : goal.returns-in-Failed-clause-says
 returns-in-Failed-clause-says g c = λ clean x h.
@@ -46,7 +46,7 @@ returns-in-Broken-clause-says g c = λ clean x h.
     let bytes : List ℕ = take c.read_head-end.result.1 c.read_head-end.new.buf in
     let cut : IsHead bytes = known _ Whole bytes _ c.in-Whole.is c.read_head-end.ensures.says in
     refuse_says model (root_of c.args.base.now) x _ _ c.args.keeper.now h bytes _ _ _ _ _ (rule cut c.in-Broken.ensures) c.read_head-end.ensures.read
-    c.refuse_turn-in-Broken.ensures
+    c.refuse_turn-in-Broken.ensures.says
 
 pub returns-in-Request-clause-says : goal.returns-in-Request-clause-says
 returns-in-Request-clause-says g c = λ clean x h.
