@@ -68,7 +68,8 @@ fn apply<K: Keeper>(keeper: &mut K, batch: &Batch, body: String) -> Result<Strin
 ///
 /// # Errors
 ///
-/// `Memory` if the room cannot be allocated: the keeper received no request. `Refused` if the batch is refused: nothing changed. `Stopped` with the fault of the keeper.
+/// `Memory` if the room cannot be allocated: the keeper received no request. `Refused` if the batch
+/// is refused: nothing changed. `Stopped` with the fault of the keeper.
 pub fn apply_import<K: Keeper>(
     alloc: Global,
     keeper: &mut K,

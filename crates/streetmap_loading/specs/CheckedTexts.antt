@@ -6,7 +6,8 @@ use Rattle.streetmap_loading.specs.KeeperLoads.{AreRead}
 use Rattle.streetmap_loading.specs.Options.{LoadValue, load_items}
 use Rattle.streetmap_loading.specs.declared.loaded.Loaded.{Loaded}
 use Rattle.streetmap_loading.specs.declared.load_fault.LoadFault.{LoadFault}
-use Rattle.streetmap_loading.specs.declared.load_fault.LoadFault.TheVariants.{AtFault, ReadFailed, Memory}
+use Rattle.streetmap_loading.specs.declared.load_fault.LoadFault.TheVariants.{AtFault, ReadFailed}
+use Rattle.streetmap_loading.specs.declared.load_fault.LoadFault.TheVariants.{Memory}
 
 -- it began, and did not end at a batch
 abbrev pub IsOfText : Option LoadFault → Type 0

@@ -7,8 +7,10 @@ use Rattle.streetmap_packing.specs.Packs.{numbered_key, passes, Packs, PacksFirs
 use Rattle.streetmap_loading.specs.Places.{PlacedValue, edits_of, places_of, text_place}
 use Rattle.streetmap_loading.specs.Sinks.{SinkTakesAll}
 use Rattle.streetmap_loading.specs.declared.load_fault.LoadFault.{LoadFault}
-use Rattle.streetmap_loading.specs.declared.load_fault.LoadFault.TheVariants.{AtFault, ReadFailed, Memory}
-use Rattle.streetmap_loading.specs.declared.load_fault.LoadFault.TheVariants.{Refused, Stopped, WriteFailed}
+use Rattle.streetmap_loading.specs.declared.load_fault.LoadFault.TheVariants.{AtFault, ReadFailed}
+use Rattle.streetmap_loading.specs.declared.load_fault.LoadFault.TheVariants.{Memory}
+use Rattle.streetmap_loading.specs.declared.load_fault.LoadFault.TheVariants.{Refused, Stopped}
+use Rattle.streetmap_loading.specs.declared.load_fault.LoadFault.TheVariants.{WriteFailed}
 
 -- the faults of a batch
 abbrev pub IsOfBatch : LoadFault → Type 0

@@ -12,7 +12,8 @@ use Rattle.streetmap_loading.specs.Sinks.{SinkTakesAll}
 use Rattle.streetmap_loading.specs.Ends.{EndsBy, IsOfBatch, placed_fault}
 use Rattle.streetmap_loading.specs.declared.load_fault.LoadFault.{LoadFault}
 use Rattle.streetmap_loading.specs.declared.load_fault.LoadFault.TheVariants.{Memory}
-use Rattle.streetmap_loading.specs.declared.load_fault.LoadFault.TheVariants.{Refused, Stopped, WriteFailed}
+use Rattle.streetmap_loading.specs.declared.load_fault.LoadFault.TheVariants.{Refused, Stopped}
+use Rattle.streetmap_loading.specs.declared.load_fault.LoadFault.TheVariants.{WriteFailed}
 use Rattle.streetmap_loading.specs.declared.loaded.Loaded.{Loaded}
 use Rattle.streetmap_loading.specs.declared.progress.Sending.{Sending}
 
@@ -67,9 +68,8 @@ module _ {S : Type 0} (takes : S → BatchValue → Result (Option ℕ) LoadFaul
     pub all : SinkTakesAll takes first None (numbered_all key 1 sent) now l.serial
 
   -- a batch was counted if it was taken, and otherwise the load ended at it
-  abbrev pub Sends : Sending → S → BatchValue → List (Option ℕ) → Result (Unit {0}) LoadFault → Sending
-      →
-      S → Type 0
+  abbrev pub Sends : Sending → S → BatchValue → List (Option ℕ) → Result (Unit {0}) LoadFault
+      → Sending → S → Type 0
   Sends l old b places (Ok done) m new =
       (serial : Option ℕ) × takes old b (Ok serial) new
       × (m ≡ record l

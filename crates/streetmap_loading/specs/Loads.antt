@@ -8,7 +8,8 @@ use Rattle.streetmap_loading.specs.Sources.{Item, TakesOff, HasNoItem}
 use Rattle.streetmap_loading.specs.Ends.{EndsBy}
 use Rattle.streetmap_loading.specs.declared.loaded.Loaded.{Loaded}
 use Rattle.streetmap_loading.specs.declared.load_fault.LoadFault.{LoadFault}
-use Rattle.streetmap_loading.specs.declared.load_fault.LoadFault.TheVariants.{AtFault, ReadFailed, Memory}
+use Rattle.streetmap_loading.specs.declared.load_fault.LoadFault.TheVariants.{AtFault, ReadFailed}
+use Rattle.streetmap_loading.specs.declared.load_fault.LoadFault.TheVariants.{Memory}
 
 -- edits as items
 abbrev pub items_of : List PlacedValue → List Item
@@ -25,7 +26,8 @@ ItemsBeginWith (Some items) read = (rest : List Item) × (items ≡ read ++ rest
 abbrev pub AreTakenOff : Option (List Item) → Option (List Item) → List PlacedValue
     → Option LoadFault → Type 0
 AreTakenOff old new read None = TakesOff old new (items_of read) × HasNoItem old new
-AreTakenOff old new read (Some (AtFault fault)) = ItemsBeginWith old (items_of read ++ Err fault ∷ [])
+AreTakenOff old new read (Some (AtFault fault)) =
+    ItemsBeginWith old (items_of read ++ Err fault ∷ [])
 AreTakenOff old new read (Some ReadFailed) = ItemsBeginWith old (items_of read)
 AreTakenOff old new read (Some Memory) = ItemsBeginWith old (items_of read)
 AreTakenOff old new read why = TakesOff old new (items_of read)

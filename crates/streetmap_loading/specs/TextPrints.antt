@@ -12,7 +12,8 @@ use Rattle.streetmap_loading.specs.Options.{LoadValue, load_items}
 use Rattle.streetmap_loading.specs.Prints.{line_of}
 use Rattle.streetmap_loading.specs.declared.loaded.Loaded.{Loaded}
 use Rattle.streetmap_loading.specs.declared.load_fault.LoadFault.{LoadFault}
-use Rattle.streetmap_loading.specs.declared.load_fault.LoadFault.TheVariants.{AtFault, ReadFailed, Memory}
+use Rattle.streetmap_loading.specs.declared.load_fault.LoadFault.TheVariants.{AtFault, ReadFailed}
+use Rattle.streetmap_loading.specs.declared.load_fault.LoadFault.TheVariants.{Memory}
 use Rattle.streetmap_loading.specs.declared.load_fault.LoadFault.TheVariants.{Stopped, WriteFailed}
 
 -- the lines of batches

@@ -10,7 +10,8 @@ use Rattle.streetmap_loading.specs.Sources.{StaysKnown, AreAll, AreWithin}
 use Rattle.streetmap_loading.specs.Texts.{Rules}
 use Rattle.streetmap_loading.specs.declared.source.PlacedEdit.{PlacedEdit}
 use Rattle.streetmap_loading.specs.declared.load_fault.LoadFault.{LoadFault}
-use Rattle.streetmap_loading.specs.declared.load_fault.LoadFault.TheVariants.{AtFault, ReadFailed, Memory}
+use Rattle.streetmap_loading.specs.declared.load_fault.LoadFault.TheVariants.{AtFault, ReadFailed}
+use Rattle.streetmap_loading.specs.declared.load_fault.LoadFault.TheVariants.{Memory}
 use Rattle.streetmap_loading.specs.declared.rules.FeatureRules.{FeatureRules}
 use Rattle.streetmap_loading.specs.declared.rules.HeldTimes.{HeldTimes}
 use Rattle.streetmap_loading.specs.declared.text_edits.Step.{Step}

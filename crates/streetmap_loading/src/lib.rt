@@ -11,7 +11,8 @@
 //!
 //! Modules, in the order of reading: `text_fault`, `load_fault`, `source`, `sink`, `loaded`,
 //! `progress`, `whole`; `rules`, `listener`, `edit_length`, `feature_line`, `text_edits`; `load`,
-//! `opened_collection`; `keeper_sink`, `text_load`, `times`, `check`, `line_sink`, `prints`, `laws`.
+//! `opened_collection`; `keeper_sink`, `text_load`, `times`, `check`, `line_sink`, `prints`,
+//! `laws`.
 #![tactic(auto)]
 
 mod check;

@@ -13,7 +13,8 @@ use Rattle.streetmap_ledger.specs.declared.summary.Summary.{Summary}
 use Rattle.streetmap_query.specs.QueryValue.{QueryValue}
 use Rattle.streetmap_replay.specs.declared.fault.ReplayFault.{ReplayFault}
 use Rattle.streetmap_replay.specs.declared.fault.ReplayFault.TheVariants.{Kept, Fresh, Memory}
-use Rattle.streetmap_replay.specs.declared.fault.ReplayFault.TheVariants.{Batch, Collection as Other}
+use Rattle.streetmap_replay.specs.declared.fault.ReplayFault.TheVariants.{Batch}
+use Rattle.streetmap_replay.specs.declared.fault.ReplayFault.TheVariants.{Collection as Other}
 use Rattle.streetmap_replay.specs.declared.features.PageEnd.{PageEnd}
 use Rattle.streetmap_replay.specs.declared.features.PageEnd.TheVariants.{Unlike, Last, Next}
 
