@@ -8,7 +8,7 @@ use Rattle.streetmap_batch.specs.BatchValue.{BatchValue}
 use Rattle.streetmap_loading.specs.Places.{places_of}
 use Rattle.streetmap_loading.specs.Sources.{Item}
 use Rattle.streetmap_loading.specs.Sinks.{SinkTakesAll}
-use Rattle.streetmap_loading.specs.Ends.{ByEnd, EndsAt, EndsWithinBatch, placed_fault}
+use Rattle.streetmap_loading.specs.Ends.{ByEnd, EndsAt, EndsWithinBatch, IsOfBatch, placed_fault}
 use Rattle.streetmap_loading.specs.Loads.{Loads}
 use Rattle.streetmap_loading.specs.CheckedTexts.{IsOfText}
 use Rattle.streetmap_loading.specs.Prints.{line_of, IsOfWrite, Prints}
@@ -17,6 +17,18 @@ use Rattle.streetmap_loading.specs.declared.loaded.Loaded.{Loaded}
 use Rattle.streetmap_loading.specs.declared.load_fault.LoadFault.{LoadFault}
 use Rattle.streetmap_loading.specs.declared.load_fault.LoadFault.TheVariants.{BadKey, BadCount, BadBatch, AtFault, ReadFailed, Memory, Refused, Stopped, WriteFailed}
 use Rattle.streetmap_text_lines.proofs.WriteLemmas.{beginning_after}
+
+-- a write that failed
+pub write_of_batch : (fault : LoadFault) → IsOfWrite fault → IsOfBatch fault
+write_of_batch (Stopped fault) is = tt
+write_of_batch WriteFailed is = tt
+write_of_batch (Refused why place) is = absurd is
+write_of_batch (AtFault fault) is = absurd is
+write_of_batch ReadFailed is = absurd is
+write_of_batch Memory is = absurd is
+write_of_batch BadKey is = absurd is
+write_of_batch BadCount is = absurd is
+write_of_batch BadBatch is = absurd is
 
 module _ {S : Type 0} (contents : S → Option (List ℕ)) where
   abbrev pub prints : S → BatchValue → Result (Option ℕ) LoadFault → S → Type 0
