@@ -147,6 +147,11 @@ found_by s requested after a b found first kept h = record {
   matches = matches_kept s after a b found kept h;
 }
 
+-- a store without a cause is not shut
+not_shut : {A : Type 0} (cause : Option Cause) → cause ≡ None → IsSome cause → A
+not_shut None none shut = absurd cc
+not_shut (Some why) none shut = absurd cc
+
 module _ {K : Type 0} {model : Model K} {a b : K} where
   -- a call that was answered, and then calls that were no fault
   pub answered_then : {c : K} → AreReads model a b (Some (Ok tt)) → AreReads model b c None → AreReads model a c (Some (Ok tt))
@@ -155,9 +160,7 @@ module _ {K : Type 0} {model : Model K} {a b : K} where
       preserved = model.preserves_then a b c one.calls.preserved two.calls.preserved;
       began_clean = λ h. one.calls.began_clean (two.calls.began_clean h);
       faults = (one.calls.faults.0, two.calls.faults ∙ one.calls.faults.1);
-      shut = λ shut.
-          (let none : IsSome None = subst (λ (o : Option Cause). IsSome o) one.calls.faults.0 shut in
-          absurd cc);
+      shut = λ shut. not_shut (model.cause a) one.calls.faults.0 shut;
     };
     stays = λ h s e. two.stays h s (one.stays (two.calls.began_clean h) s e);
   }

@@ -19,9 +19,9 @@ use Rattle.streetmap_web.specs.Conditions.{Condition, no_memory, IsInCondition}
 use Rattle.streetmap_web.specs.Responds.{ComesOut, AnswersOperation}
 use Rattle.streetmap_web.specs.Turns.{turn_after, WriteSays, RefuseSays}
 use Rattle.streetmap_web.specs.Exchanges.{HttpExchange, HasRequest, whole, broken, closes, answer_bytes, sent_for}
-use Rattle.streetmap_web.specs.ServedStream.{Around, around, Acted, TurnComes}
+use Rattle.streetmap_web.specs.ServedStream.{around, Acted, TurnComes}
 use Rattle.streetmap_web.specs.declared.turns.Turn.{Turn}
-use Rattle.streetmap_web.specs.declared.turns.Turn.TheVariants.{Open, Closed, Ended, Truncated, ReadFailed, WriteFailed}
+use Rattle.streetmap_web.specs.declared.turns.Turn.TheVariants.{Ended, Truncated, ReadFailed}
 use Rattle.streetmap_web.proofs.Standings.{fault_sent}
 use Rattle.streetmap_web.proofs.Transitions.{for_answer, starved_comes, refused_comes}
 

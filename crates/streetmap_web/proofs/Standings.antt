@@ -2,15 +2,13 @@
 use Rattle.std.proofs.Common.{◌≡◌, inl, inr, Bool, true, false, refl, sym, ap, subst, ◌∙◌, Option, Some, IsSome, Result, Ok, Err}
 use Rattle.std.specs.Prelude.{◌||◌}
 use Rattle.streetmap_batch.specs.Text.{Text}
-use Rattle.streetmap_batch.specs.BatchValue.{BatchValue}
-use Rattle.streetmap_ledger.specs.State.{State}
 use Rattle.streetmap_ledger.specs.Model.{Model}
 use Rattle.streetmap_ledger.specs.declared.reply.Cause.{Cause}
 use Rattle.streetmap_ledger.specs.declared.reply.Cause.TheVariants as causes
 use Rattle.streetmap_ledger.specs.declared.reply.Fault.{Fault}
 use Rattle.streetmap_ledger.specs.declared.reply.Fault.TheVariants as faults
 use Rattle.streetmap_routes.specs.Operations.{OperationValue}
-use Rattle.streetmap_web.specs.Response.{ResponseValue, RequestValue, needs_state, fault_response, closes_with, response_text, response_in, sent_so, sent_as}
+use Rattle.streetmap_web.specs.Response.{ResponseValue, RequestValue, needs_state, fault_response, closes_with, response_text, sent_so, sent_as}
 use Rattle.streetmap_web.specs.Conditions.{Condition, of_state, shut, unknown, as_requested, no_memory, device_failed, of_keeper, IsInCondition}
 use Rattle.streetmap_web.specs.Responds.{AnswersOperation, Answers, Responds, Sends, IsResponse, response_value, AnswersBatch, by_reply, by_fault, by_none}
 use Rattle.streetmap_web.specs.declared.response.Response.{Response}

@@ -11,7 +11,6 @@ use Rattle.streetmap_web.specs.Response.{request_of, response_text, fault_respon
 use Rattle.streetmap_connections.specs.Answers.{answer_text}
 use Rattle.streetmap_web.specs.Turns.{FillSays}
 use Rattle.streetmap_web.specs.Exchanges.{no_room}
-use Rattle.streetmap_web.specs.ServedStream.{around}
 use Rattle.streetmap_bodies.specs.declared.request_fault.RequestFault.TheVariants.{Keeper}
 use Rattle.streetmap_web.proofs.OneTurn.{starved_turn, answered_turn, truncated_turn, unread_turn, unfinished_body}
 use Rattle.streetmap_web.proofs.turns.answer_turn.Goals as goal
