@@ -1,5 +1,5 @@
 -- What following the bytes of a line does to a keeper.
-use Rattle.std.specs.Prelude.{◌≡◌, ℕ, List, Option, Result, Ok, Err, IfOk}
+use Rattle.std.specs.Prelude.{◌≡◌, ℕ, List, Result, Ok, Err, IfOk}
 use Rattle.streetmap_batch.specs.ParsedBatches.{batch_of}
 use Rattle.streetmap_batch.specs.BatchView.{batch_value}
 use Rattle.streetmap_batch.specs.Text.{Text}

@@ -1,4 +1,4 @@
-use Rattle.std.proofs.Common.{◌≡◌, ℕ, ◌+◌, ◌<◌, length, ap, ◌∙◌, arith}
+use Rattle.std.proofs.Common.{◌≡◌, ℕ, ◌+◌, ◌<◌, length, ap, arith}
 use Rattle.streetmap_ledger.specs.KeptView.{keyed_batch}
 use Rattle.streetmap_ledger.proofs.Serials.{found_under}
 use Rattle.streetmap_replay.proofs.CallsInTurn.{no_calls, calls_then}

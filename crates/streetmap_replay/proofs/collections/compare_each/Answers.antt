@@ -2,7 +2,7 @@ use Rattle.std.proofs.Common.{◌≡◌, ◌<◌, ℕ, true, false, length, take
 use Rattle.std.specs.FinMap.{entries}
 use Rattle.streetmap_replay.specs.Alike.{AreSame}
 use Rattle.streetmap_replay.specs.Calls.{AreReads}
-use Rattle.streetmap_replay.proofs.CallsInTurn.{no_reads, reads_then}
+use Rattle.streetmap_replay.proofs.CallsInTurn.{reads_then}
 use Rattle.streetmap_replay.proofs.SameCollections.{place_of, differs_at, unlike_kept, unlike_fresh, unlike_compares, stop_compares}
 use Rattle.streetmap_replay.proofs.SameCollections.{one_more, all_places}
 use Rattle.streetmap_replay.proofs.collections.compare_each.Goals as goal

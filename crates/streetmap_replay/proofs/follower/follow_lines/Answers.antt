@@ -1,7 +1,6 @@
-use Rattle.std.proofs.Common.{◌≡◌, ℕ, List, None, Some, Ok, Err, sym, ap, subst, arith}
-use Rattle.streetmap_replay.specs.Calls.{AreCalls}
+use Rattle.std.proofs.Common.{◌≡◌, ℕ, List, Some, Ok, Err, ap, subst, arith}
 use Rattle.streetmap_replay.specs.FollowedLines.{follower}
-use Rattle.streetmap_replay.specs.Ends.{FollowsLines, end_answer}
+use Rattle.streetmap_replay.specs.Ends.{FollowsLines}
 use Rattle.streetmap_replay.specs.ParsedLines.{FollowsLine}
 use Rattle.streetmap_replay.specs.declared.follow_fault.FollowFault.TheVariants as ends
 use Rattle.streetmap_text_lines.specs.declared.fault.LineFault.TheVariants.{ReadFailed}
