@@ -22,7 +22,6 @@ use Rattle.streetmap_loading.specs.declared.load_fault.LoadFault.{LoadFault}
 use Rattle.streetmap_loading.specs.declared.load_fault.LoadFault.TheVariants.{AtFault, ReadFailed}
 use Rattle.streetmap_loading.specs.declared.load_fault.LoadFault.TheVariants.{Memory}
 use Rattle.streetmap_loading.specs.declared.load_fault.LoadFault.TheVariants.{Refused, Stopped}
-use Rattle.streetmap_loading.specs.declared.load_fault.LoadFault.TheVariants.{WriteFailed}
 
 -- the fault of the keeper that ended it, if one did
 abbrev pub keeper_fault : Option LoadFault → Option Fault

@@ -1,4 +1,4 @@
-use Rattle.std.proofs.Common.{◌≡◌, ℕ, string_bytes, Some, refl, sym, subst, ap, ◌∙◌, arith}
+use Rattle.std.proofs.Common.{◌≡◌, ℕ, string_bytes, Some, refl, sym, subst, ap, arith}
 use Rattle.streetmap_loading.specs.Loads.{Loads}
 use Rattle.streetmap_loading.specs.Sources.{placed_value}
 use Rattle.streetmap_loading.specs.declared.loaded.Loaded.{Loaded}
