@@ -1,10 +1,9 @@
 -- What an import into a keeper does, by its parts.
-use Rattle.std.proofs.Common.{◌≡◌, Bool, true, false, Option, None, Result, Ok, Err, String, refl, subst, sym}
+use Rattle.std.proofs.Common.{◌≡◌, Bool, true, false, None, Result, Ok, Err, String, refl, subst, sym}
 use Rattle.std.specs.declared.alloc.Global.{Global}
 use Rattle.streetmap_batch.specs.Text.{Text}
 use Rattle.streetmap_batch.specs.BatchValue.{BatchValue}
 use Rattle.streetmap_ledger.specs.State.{State}
-use Rattle.streetmap_ledger.specs.Batches.{act}
 use Rattle.streetmap_ledger.specs.Model.{Model}
 use Rattle.streetmap_ledger.specs.Keep.{Writes, IsCall}
 use Rattle.streetmap_ledger.specs.declared.reply.Fault.{Fault}
@@ -20,7 +19,7 @@ use Rattle.streetmap_replay.proofs.CallsInTurn.{answered}
 -- ---- a reply is returned as its body or as its refusal
 
 -- the faults that come before the keeper receives a request
-pub is_unread : ImportFault → Bool
+abbrev pub is_unread : ImportFault → Bool
 is_unread (Refused why place) = false
 is_unread (Stopped fault) = false
 is_unread fault = true
@@ -35,7 +34,7 @@ never_unread key (replies.Refused why place) BadBatch is h = cc
 never_unread key (replies.Refused why place) TextTooLarge is h = cc
 never_unread key (replies.Refused why place) NotJson is h = cc
 never_unread key (replies.Refused why place) WrongType is h = cc
-never_unread key (replies.Refused why place) (BadFeature place cause) is h = cc
+never_unread key (replies.Refused why place) (BadFeature at cause) is h = cc
 never_unread key (replies.Refused why place) TooManyEdits is h = cc
 never_unread key (replies.Refused why place) Memory is h = cc
 

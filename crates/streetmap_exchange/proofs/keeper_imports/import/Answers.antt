@@ -12,7 +12,7 @@ returns-in_err-batch-clause-reported g c = λ b e.
     let k = c.args.keeper.now in
     let p = err_from_is_err_and c.from_residual.result c.from_residual.ensures.1 in
     subst (λ r. IsOfReply b.key (λ x. g.K.Keeper.model.applies k b x k) (k ≡ k) r) (sym (p.1 ∙ ap (λ x. Err x) p.2))
-    (unread_reply b.key _ _ c.in_err-batch.field-0.0 _ c.in_err-batch.ensures.exact refl)
+    (unread_reply b.key (λ x. g.K.Keeper.model.applies k b x k) (k ≡ k) c.in_err-batch.field-0.0 _ c.in_err-batch.ensures.exact refl)
 
 pub returns-in_err-batch-clause-calls : goal.returns-in_err-batch-clause-calls
 returns-in_err-batch-clause-calls g c =
