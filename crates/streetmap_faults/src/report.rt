@@ -53,21 +53,21 @@ pub(crate) fn of_row(row: Row) -> Report
 
 /// The same of the feature or the edit at a place.
 fn at_place(report: Report, place: Option<u64>) -> Report
-    ensures { report_value result ≡ at_place (report_value report.entry) place }
+    ensures { report_value result ≡ at_place (report_value report) place }
 {
     Report { place, ..report }
 }
 
 /// The same of the line or the batch with a number.
 pub(crate) fn on_line(report: Report, line: Option<u64>) -> Report
-    ensures { report_value result ≡ on_line (report_value report.entry) line }
+    ensures { report_value result ≡ on_line (report_value report) line }
 {
     Report { line, ..report }
 }
 
 /// The same of a port.
 pub(crate) fn at_port(report: Report, port: u16) -> Report
-    ensures { report_value result ≡ at_port (report_value report.entry) port }
+    ensures { report_value result ≡ at_port (report_value report) port }
 {
     Report {
         port: Some(port),
