@@ -16,8 +16,8 @@ use Rattle.streetmap_ledger.specs.declared.reply.Fault.{Fault}
 use Rattle.streetmap_ledger.specs.declared.reply.Fault.TheVariants as keeper
 use Rattle.streetmap_ledger.specs.declared.reply.Reply.{Reply}
 use Rattle.streetmap_ledger.specs.declared.reply.Reply.TheVariants as replies
-use Rattle.streetmap_exchange.specs.declared.fault.ImportStop.{ImportStop}
-use Rattle.streetmap_exchange.specs.declared.fault.ImportStop.TheVariants as imports
+use Rattle.streetmap_exchange.specs.declared.fault.ImportFault.{ImportFault}
+use Rattle.streetmap_exchange.specs.declared.fault.ImportFault.TheVariants as imports
 use Rattle.streetmap_exchange.specs.KeeperImports.{Imports, ImportsBatch, IsReported}
 use Rattle.streetmap_text_lines.specs.LineReads.{WhereKnown}
 use Rattle.streetmap_text_lines.specs.declared.fault.LineFault.TheVariants as lines
@@ -28,19 +28,17 @@ use Rattle.streetmap_replay.specs.JournalText.{text_of_lines}
 use Rattle.streetmap_replay.specs.FollowedLines.{LineFault, follow, line_outcome}
 use Rattle.streetmap_replay.specs.LineEffects.{Follows}
 use Rattle.streetmap_replay.specs.Ends.{IsInputLine, FollowsLines, FollowingEndsBy}
-use Rattle.streetmap_replay.specs.declared.line_stop.LineStop.{LineStop}
-use Rattle.streetmap_replay.specs.declared.line_stop.LineStop.TheVariants as stops
+use Rattle.streetmap_replay.specs.declared.follow_fault.FollowFault.{FollowFault}
+use Rattle.streetmap_replay.specs.declared.follow_fault.FollowFault.TheVariants as ends
 use Rattle.streetmap_replay.specs.declared.follower.Followed.{Followed}
-use Rattle.streetmap_replay.specs.declared.follower.End.{End as FollowEnd}
-use Rattle.streetmap_replay.specs.declared.follower.End.TheVariants as ends
 use Rattle.streetmap_loading.specs.Places.{PlacedValue, edits_of}
 use Rattle.streetmap_loading.specs.Sources.{Item}
 use Rattle.streetmap_loading.specs.Loads.{items_of, Skips, SkippedAt}
 use Rattle.streetmap_loading.specs.Ends.{AreLeft, IsNext}
 use Rattle.streetmap_loading.specs.KeeperLoads.{AreRead, LoadsTo, EndsIn, LeavesUnanswered}
-use Rattle.streetmap_loading.specs.declared.end.Loaded.{Loaded as LoadResult}
-use Rattle.streetmap_loading.specs.declared.end.End.{End as LoadEnd}
-use Rattle.streetmap_loading.specs.declared.end.End.TheVariants as loads
+use Rattle.streetmap_loading.specs.declared.loaded.Loaded.{Loaded as LoadResult}
+use Rattle.streetmap_loading.specs.declared.load_fault.LoadFault.{LoadFault}
+use Rattle.streetmap_loading.specs.declared.load_fault.LoadFault.TheVariants as loads
 use Rattle.streetmap_faults.specs.declared.fault.ProgramFault.{ProgramFault}
 use Rattle.streetmap_faults.specs.declared.fault.ProgramFault.TheVariants.{Import, WriteFailed}
 use Rattle.streetmap.specs.Faults.{end_of_lines}
@@ -135,9 +133,16 @@ module _ {K : Type 0} (model : Model K) where
   is_refusal key (replies.Repeated counts serial) why place reported = absurd reported
   is_refusal key (replies.Refused reason inner) why place reported = cc
 
-  pub by_stop : (old new : K) (s t : State) (b : BatchValue) (stop : ImportStop) → Imports model old new s (Ok b) (Err stop) → model.may_leave new (Some t)
-      → Imported s b (Err (Import stop)) t
-  by_stop old new s t b (imports.NotRead fault) it left = leaves_one new s t it.1 left
+  pub by_stop : (old new : K) (s t : State) (b : BatchValue) (fault : ImportFault) → Imports model old new s (Ok b) (Err fault) → model.may_leave new (Some t)
+      → Imported s b (Err (Import fault)) t
+  by_stop old new s t b imports.BadKey it left = leaves_one new s t it.1 left
+  by_stop old new s t b imports.BadBatch it left = leaves_one new s t it.1 left
+  by_stop old new s t b imports.TextTooLarge it left = leaves_one new s t it.1 left
+  by_stop old new s t b imports.NotJson it left = leaves_one new s t it.1 left
+  by_stop old new s t b imports.WrongType it left = leaves_one new s t it.1 left
+  by_stop old new s t b (imports.BadFeature place cause) it left = leaves_one new s t it.1 left
+  by_stop old new s t b imports.TooManyEdits it left = leaves_one new s t it.1 left
+  by_stop old new s t b imports.Memory it left = leaves_one new s t it.1 left
   by_stop old new s t b (imports.Refused why place) it left =
       let same : b ≡ it.0 = (let e : ◌≡◌ {A = Result BatchValue _} (Ok b) (Ok it.0) = it.1 in cc) in
       let batch = subst (λ (x : BatchValue). ImportsBatch model old new s x (Err (imports.Refused why place))) (sym same) it.2 in
@@ -169,7 +174,7 @@ module _ {K : Type 0} (model : Model K) where
       × (line_outcome (follow s read).state line ≡ Ok o) × (t ≡ o.state))
 
   after_stopped : (old new : K) (t u : State) (line : Line) (outcome : Result Outcome LineFault) → line_outcome u line ≡ outcome → (fault : Fault)
-      → Follows model old new u outcome (Err (stops.Stopped fault)) → model.may_leave new (Some t)
+      → Follows model old new u outcome (Err (ends.Stopped fault)) → model.may_leave new (Some t)
       → (t ≡ u) ⊎ ((o : Outcome) × (line_outcome u line ≡ Ok o) × (t ≡ o.state))
   after_stopped old new t u line outcome is keeper.Memory follows left = inl (leaves_one new u t follows left)
   after_stopped old new t u line (Ok o) is keeper.Device follows left = elim (leaves_either new u o.state t follows.1 left) [
@@ -183,29 +188,25 @@ module _ {K : Type 0} (model : Model K) where
   after_stopped old new t u line outcome is keeper.Damaged follows left = absurd follows
   after_stopped old new t u line outcome is keeper.Reopen follows left = absurd follows
 
-  after_stop : (old new : K) (t u : State) (line : Line) (stop : LineStop) → Follows model old new u (line_outcome u line) (Err stop) → model.may_leave new (Some t)
-      → (t ≡ u) ⊎ ((o : Outcome) × (line_outcome u line ≡ Ok o) × (t ≡ o.state))
-  after_stop old new t u line (stops.Unread batches.Memory) follows left = inl (leaves_one new u t follows left)
-  after_stop old new t u line (stops.Unread (batches.BadBatch place)) follows left = inl (leaves_one new u t follows.1 left)
-  after_stop old new t u line (stops.Unread batches.BadKey) follows left = inl (leaves_one new u t follows.1 left)
-  after_stop old new t u line (stops.Unread batches.TooManyEdits) follows left = inl (leaves_one new u t follows.1 left)
-  after_stop old new t u line (stops.Unread (batches.BadFeature place cause)) follows left = inl (leaves_one new u t follows.1 left)
-  after_stop old new t u line stops.NotNext follows left = inl (leaves_one new u t follows.1 left)
-  after_stop old new t u line (stops.Refused why place) follows left = inl (leaves_one new u t follows.1 left)
-  after_stop old new t u line (stops.Stopped fault) follows left = after_stopped old new t u line (line_outcome u line) refl fault follows left
-
   module _ (old new : K) (s t : State) (input rest : Option Text) (left : model.may_leave new (Some t)) where
-    after_end : (read : List Line) (end : FollowEnd) → FollowingEndsBy model old new (follow s read).state read input rest end → AfterLines s read t
-    after_end read ends.All it = inl (leaves_one new (follow s read).state t it.1 left)
-    after_end read ends.CutLine it = inl (leaves_one new (follow s read).state t it.1 left)
-    after_end read (ends.NotRead lines.LineTooLong) it = inl (leaves_one new (follow s read).state t it.1 left)
-    after_end read (ends.NotRead lines.ReadFailed) it = inl (leaves_one new (follow s read).state t it left)
-    after_end read (ends.NotRead lines.Memory) it = inl (leaves_one new (follow s read).state t it left)
-    after_end read (ends.Stopped stop) it = elim (after_stop old new t (follow s read).state it.0 stop it.3 left) [
+    after_end : (read : List Line) (why : Option FollowFault) → FollowingEndsBy model old new (follow s read).state read input rest why → AfterLines s read t
+    after_end read None it = inl (leaves_one new (follow s read).state t it.1 left)
+    after_end read (Some (ends.Unread batches.Memory)) it = inl (leaves_one new (follow s read).state t it.3 left)
+    after_end read (Some (ends.Unread (batches.BadBatch place))) it = inl (leaves_one new (follow s read).state t it.3.1 left)
+    after_end read (Some (ends.Unread batches.BadKey)) it = inl (leaves_one new (follow s read).state t it.3.1 left)
+    after_end read (Some (ends.Unread batches.TooManyEdits)) it = inl (leaves_one new (follow s read).state t it.3.1 left)
+    after_end read (Some (ends.Unread (batches.BadFeature place cause))) it = inl (leaves_one new (follow s read).state t it.3.1 left)
+    after_end read (Some ends.NotNext) it = inl (leaves_one new (follow s read).state t it.3.1 left)
+    after_end read (Some (ends.Refused why place)) it = inl (leaves_one new (follow s read).state t it.3.1 left)
+    after_end read (Some (ends.Stopped fault)) it = elim (after_stopped old new t (follow s read).state it.0 (line_outcome (follow s read).state it.0) refl fault it.3 left) [
       | inl e ↦ inl e
       | inr more ↦ inr (it.0, more.0, more.1, more.2)
     ]
-    after_end read ends.NotReported it = inr (it.0, it.3.0, it.3.1, leaves_one new it.3.0.state t it.3.2 left)
+    after_end read (Some ends.CutLine) it = inl (leaves_one new (follow s read).state t it.1 left)
+    after_end read (Some (ends.NotRead lines.LineTooLong)) it = inl (leaves_one new (follow s read).state t it.1 left)
+    after_end read (Some (ends.NotRead lines.ReadFailed)) it = inl (leaves_one new (follow s read).state t it left)
+    after_end read (Some (ends.NotRead lines.Memory)) it = inl (leaves_one new (follow s read).state t it left)
+    after_end read (Some ends.NotReported) it = inr (it.0, it.3.0, it.3.1, leaves_one new it.3.0.state t it.3.2 left)
 
     -- all lines were read
     all_known : (read : List Line) (text rest : Option Text) → WhereKnown text rest (λ bytes remaining. (bytes ≡ text_of_lines read) × (remaining ≡ [])) → IfSome text (λ bytes. bytes ≡ text_of_lines read)
@@ -213,23 +214,20 @@ module _ {K : Type 0} (model : Model K) where
     all_known read (Some bytes) None known = absurd known
     all_known read (Some bytes) (Some remaining) known = known.0
 
-    all_lines : (it : Followed) (read : List Line) (end : FollowEnd) → FollowingEndsBy model old new (follow s read).state read input rest end → IsOk (end_of_lines it end)
+    all_lines : (count : ℕ) (read : List Line) (why : Option FollowFault) → FollowingEndsBy model old new (follow s read).state read input rest why → IsOk (end_of_lines count why)
         → (t ≡ (follow s read).state) × IfSome input (λ bytes. bytes ≡ text_of_lines read)
-    all_lines it read ends.All by ok = (leaves_one new (follow s read).state t by.1 left, all_known read input rest by.0)
-    all_lines it read ends.CutLine by ok = absurd cc
-    all_lines it read (ends.NotRead fault) by ok = absurd cc
-    all_lines it read (ends.Stopped stop) by ok = absurd cc
-    all_lines it read ends.NotReported by ok = absurd cc
+    all_lines count read None by ok = (leaves_one new (follow s read).state t by.1 left, all_known read input rest by.0)
+    all_lines count read (Some fault) by ok = absurd cc
 
     pub applied : {T : Type 0} {reports : T → Text → Reply → T → Type 0} {first last : T} (it : Followed) → FollowsLines model old new s input rest reports first last it
-        → Applied s input (end_of_lines it it.end) t
+        → Applied s input (end_of_lines it.count it.fault) t
     applied it by = record {
       read = by.read;
       lines = by.lines;
       first = by.front;
       followed = by.followed;
-      state = after_end by.read it.end by.ends;
-      all = all_lines it by.read it.end by.ends;
+      state = after_end by.read it.fault by.ends;
+      all = all_lines it.count by.read it.fault by.ends;
     }
 
   -- less holds if the text is not known
@@ -260,30 +258,33 @@ module _ {K : Type 0} (model : Model K) where
       first_of None = tt
       first_of (Some items) = (items, refl)
 
-  first_read : (text : Option (List Item)) (read : List PlacedValue) (end : LoadEnd) → AreRead text read end → AreFirst text read
-  first_read None read end is = tt
-  first_read (Some items) read loads.All is = ([], is ∙ sym (append-nil (items_of read)))
-  first_read (Some items) read (loads.AtFault fault) is = (Err fault ∷ is.0, is.1)
-  first_read (Some items) read loads.ReadFailed is = is
-  first_read (Some items) read loads.Memory is = is
-  first_read (Some items) read (loads.Refused why place) is = is
-  first_read (Some items) read (loads.Stopped fault) is = is
-  first_read (Some items) read loads.WriteFailed is = is
+  first_read : (text : Option (List Item)) (read : List PlacedValue) (why : Option LoadFault) → AreRead text read why → AreFirst text read
+  first_read None read why is = tt
+  first_read (Some items) read None is = ([], is ∙ sym (append-nil (items_of read)))
+  first_read (Some items) read (Some (loads.AtFault fault)) is = (Err fault ∷ is.0, is.1)
+  first_read (Some items) read (Some loads.ReadFailed) is = is
+  first_read (Some items) read (Some loads.Memory) is = is
+  first_read (Some items) read (Some (loads.Refused why place)) is = is
+  first_read (Some items) read (Some (loads.Stopped fault)) is = is
+  first_read (Some items) read (Some loads.WriteFailed) is = is
+  first_read (Some items) read (Some loads.BadKey) is = is
+  first_read (Some items) read (Some loads.BadCount) is = is
+  first_read (Some items) read (Some loads.BadBatch) is = is
 
-  all_read : (text : Option (List Item)) (read : List PlacedValue) → AreRead text read loads.All → AreAll text read
+  all_read : (text : Option (List Item)) (read : List PlacedValue) → AreRead text read None → AreAll text read
   all_read None read is = tt
   all_read (Some items) read is = is
 
   module _ (old new : K) (s t : State) (each : ℕ) (key : Text) (text : Option (List Item)) where
     -- the load reached its end, and then nothing else was changed
-    pub loaded_all : (it : LoadResult) (done : Done) → it.end ≡ loads.All → LoadsTo model old new s each key text it → ((u : State) → model.represents new u → t ≡ u) → Loaded s each key text done t
+    pub loaded_all : (it : LoadResult) (done : Done) → it.fault ≡ None → LoadsTo model old new s each key text it → ((u : State) → model.represents new u → t ≡ u) → Loaded s each key text done t
     loaded_all it done is load same =
         let ends = subst (EndsIn model old new each key load.read load.sent (after_all s load.sent)) is load.ends in
         let all = subst (AreRead text load.read) is load.is in
         let here = same (after_all s load.sent) ends.1 in
         record {
           read = load.read;
-          first = first_read text load.read loads.All all;
+          first = first_read text load.read None all;
           sent = load.sent;
           packed = inl ends.0;
           acknowledged = load.acknowledged;
@@ -301,34 +302,40 @@ module _ {K : Type 0} (model : Model K) where
     stopped_at read rest sent b keeper.Damaged are next by left = absurd by
     stopped_at read rest sent b keeper.Reopen are next by left = absurd by
 
-    state_of : (read : List PlacedValue) (sent : List BatchValue) (end : LoadEnd) → EndsIn model old new each key read sent (after_all s sent) end → model.may_leave new (Some t)
+    state_of : (read : List PlacedValue) (sent : List BatchValue) (why : Option LoadFault) → EndsIn model old new each key read sent (after_all s sent) why → model.may_leave new (Some t)
         → (t ≡ after_all s sent) ⊎ IsAfterNext s each key read sent t
-    state_of read sent loads.All by left = inl (leaves_one new (after_all s sent) t by.1 left)
-    state_of read sent (loads.AtFault fault) by left = inl (leaves_one new (after_all s sent) t by.0.represents left)
-    state_of read sent loads.ReadFailed by left = inl (leaves_one new (after_all s sent) t by.represents left)
-    state_of read sent loads.Memory by left = inl (leaves_one new (after_all s sent) t by.represents left)
-    state_of read sent (loads.Refused why place) by left = inl (leaves_one new (after_all s sent) t by.stops.3 left)
-    state_of read sent (loads.Stopped fault) by left = stopped_at read by.rest sent by.batch fault by.are_left by.next by.stops left
-    state_of read sent loads.WriteFailed by left = absurd by
+    state_of read sent None by left = inl (leaves_one new (after_all s sent) t by.1 left)
+    state_of read sent (Some (loads.AtFault fault)) by left = inl (leaves_one new (after_all s sent) t by.0.represents left)
+    state_of read sent (Some loads.ReadFailed) by left = inl (leaves_one new (after_all s sent) t by.represents left)
+    state_of read sent (Some loads.Memory) by left = inl (leaves_one new (after_all s sent) t by.represents left)
+    state_of read sent (Some (loads.Refused why place)) by left = inl (leaves_one new (after_all s sent) t by.stops.3 left)
+    state_of read sent (Some (loads.Stopped fault)) by left = stopped_at read by.rest sent by.batch fault by.are_left by.next by.stops left
+    state_of read sent (Some loads.WriteFailed) by left = absurd by
+    state_of read sent (Some loads.BadKey) by left = absurd by
+    state_of read sent (Some loads.BadCount) by left = absurd by
+    state_of read sent (Some loads.BadBatch) by left = absurd by
 
-    packed_of : (read : List PlacedValue) (sent : List BatchValue) (end : LoadEnd) → EndsIn model old new each key read sent (after_all s sent) end → ArePacked each key read sent
-    packed_of read sent loads.All by = inl by.0
-    packed_of read sent (loads.AtFault fault) by = inr (by.0.rest, by.0.are_left)
-    packed_of read sent loads.ReadFailed by = inr (by.rest, by.are_left)
-    packed_of read sent loads.Memory by = inr (by.rest, by.are_left)
-    packed_of read sent (loads.Refused why place) by = inr (by.rest, by.are_left)
-    packed_of read sent (loads.Stopped fault) by = inr (by.rest, by.are_left)
-    packed_of read sent loads.WriteFailed by = absurd by
+    packed_of : (read : List PlacedValue) (sent : List BatchValue) (why : Option LoadFault) → EndsIn model old new each key read sent (after_all s sent) why → ArePacked each key read sent
+    packed_of read sent None by = inl by.0
+    packed_of read sent (Some (loads.AtFault fault)) by = inr (by.0.rest, by.0.are_left)
+    packed_of read sent (Some loads.ReadFailed) by = inr (by.rest, by.are_left)
+    packed_of read sent (Some loads.Memory) by = inr (by.rest, by.are_left)
+    packed_of read sent (Some (loads.Refused why place)) by = inr (by.rest, by.are_left)
+    packed_of read sent (Some (loads.Stopped fault)) by = inr (by.rest, by.are_left)
+    packed_of read sent (Some loads.WriteFailed) by = absurd by
+    packed_of read sent (Some loads.BadKey) by = absurd by
+    packed_of read sent (Some loads.BadCount) by = absurd by
+    packed_of read sent (Some loads.BadBatch) by = absurd by
 
     -- and the keeper was not called after it
-    pub loaded_as : (it : LoadResult) (done : Done) → (IsOk done → it.end ≡ loads.All) → LoadsTo model old new s each key text it → model.may_leave new (Some t) → Loaded s each key text done t
+    pub loaded_as : (it : LoadResult) (done : Done) → (IsOk done → it.fault ≡ None) → LoadsTo model old new s each key text it → model.may_leave new (Some t) → Loaded s each key text done t
     loaded_as it done whole load left = record {
       read = load.read;
-      first = first_read text load.read it.end load.is;
+      first = first_read text load.read it.fault load.is;
       sent = load.sent;
-      packed = packed_of load.read load.sent it.end load.ends;
+      packed = packed_of load.read load.sent it.fault load.ends;
       acknowledged = load.acknowledged;
-      state = state_of load.read load.sent it.end load.ends left;
+      state = state_of load.read load.sent it.fault load.ends left;
       all = λ ok.
           let ends = subst (EndsIn model old new each key load.read load.sent (after_all s load.sent)) (whole ok) load.ends in (
             leaves_one new (after_all s load.sent) t ends.1 left,
@@ -372,7 +379,7 @@ module _ {K : Type 0} (model : Model K) where
 -- ---- features at fault
 
 -- none was skipped
-pub skips_none : (all : Option ℕ) (loaded : LoadResult) → loaded.end ≡ loads.All → loaded.skipped ≡ 0 → Skips all loaded → SkipsNone all
+pub skips_none : (all : Option ℕ) (loaded : LoadResult) → loaded.fault ≡ None → loaded.skipped ≡ 0 → Skips all loaded → SkipsNone all
 skips_none None loaded is none skips = tt
 skips_none (Some n) loaded is none skips = sym (subst (SkippedAt n loaded.skipped) is skips) ∙ none
 

@@ -9,7 +9,7 @@ use Rattle.streetmap_ledger.specs.Batches.{Outcome, act, after_all}
 use Rattle.streetmap_ledger.specs.Laws.{IsAcknowledged}
 use Rattle.streetmap_ledger.specs.declared.reply.Fault.TheVariants as keeper
 use Rattle.streetmap_ledger.specs.declared.reply.Reply.TheVariants as replies
-use Rattle.streetmap_exchange.specs.declared.fault.ImportStop.TheVariants as imports
+use Rattle.streetmap_exchange.specs.declared.fault.ImportFault.TheVariants as imports
 use Rattle.streetmap_replay.specs.Lines.{Line}
 use Rattle.streetmap_replay.specs.JournalText.{text_of_lines}
 use Rattle.streetmap_replay.specs.FollowedLines.{follow, line_outcome}

@@ -1,5 +1,5 @@
 -- What the program ends with if a file, a text or a stream fails.
-use Rattle.std.specs.Prelude.{Result, Ok, Err}
+use Rattle.std.specs.Prelude.{ℕ, Option, None, Some, Result, Ok, Err}
 use Rattle.std.specs.declared.io.ErrorKind.{ErrorKind}
 use Rattle.std.specs.declared.io.ErrorKind.TheVariants as kinds
 use Rattle.std.specs.IoError.{error_kind}
@@ -7,10 +7,6 @@ use Rattle.sqlite.specs.declared.error.Error.{Error as StoreError}
 use Rattle.sqlite.specs.declared.error.Error.TheVariants as errors
 use Rattle.sqlite.specs.declared.error.ErrorCode.{ErrorCode}
 use Rattle.sqlite.specs.declared.error.ErrorCode.TheVariants as codes
-use Rattle.streetmap_faults.specs.declared.cause.OpenCause.{OpenCause}
-use Rattle.streetmap_faults.specs.declared.cause.OpenCause.TheVariants as causes
-use Rattle.streetmap_faults.specs.declared.cause.PortCause.{PortCause}
-use Rattle.streetmap_faults.specs.declared.cause.PortCause.TheVariants as ports
 use Rattle.streetmap_ledger.specs.declared.reply.Fault.{Fault as KeeperFault}
 use Rattle.streetmap_ledger.specs.declared.reply.Fault.TheVariants as keeper
 use Rattle.streetmap_journal.specs.declared.starts.StartFault.{StartFault}
@@ -21,13 +17,12 @@ use Rattle.streetmap_store.specs.declared.fault.OpenFault.{OpenFault}
 use Rattle.streetmap_store.specs.declared.fault.OpenFault.TheVariants as opening
 use Rattle.streetmap_checking.specs.declared.check.CheckFault.{CheckFault}
 use Rattle.streetmap_checking.specs.declared.check.CheckFault.TheVariants as checking
-use Rattle.streetmap_replay.specs.declared.fault.ReplayStop.{ReplayStop}
-use Rattle.streetmap_replay.specs.declared.fault.ReplayStop.TheVariants as replay
 use Rattle.streetmap_web.specs.declared.turns.End.{End}
 use Rattle.streetmap_web.specs.declared.turns.End.TheVariants as stream
+use Rattle.streetmap_replay.specs.declared.fault.ReplayFault.{ReplayFault}
+use Rattle.streetmap_replay.specs.declared.fault.ReplayFault.TheVariants as replay
 use Rattle.streetmap_replay.specs.declared.follower.Followed.{Followed}
-use Rattle.streetmap_replay.specs.declared.follower.End.{End as FollowEnd}
-use Rattle.streetmap_replay.specs.declared.follower.End.TheVariants as following
+use Rattle.streetmap_replay.specs.declared.follow_fault.FollowFault.{FollowFault}
 use Rattle.streetmap_faults.specs.declared.fault.ProgramFault.{ProgramFault}
 use Rattle.streetmap_faults.specs.declared.fault.ProgramFault.TheVariants.{Follow}
 use Rattle.streetmap_faults.specs.declared.fault.ProgramFault.TheVariants.{NotOurs, NewFormat}
@@ -35,39 +30,44 @@ use Rattle.streetmap_faults.specs.declared.fault.ProgramFault.TheVariants.{Taken
 use Rattle.streetmap_faults.specs.declared.fault.ProgramFault.TheVariants.{NoText, ReadFailed}
 use Rattle.streetmap_faults.specs.declared.fault.ProgramFault.TheVariants.{WriteFailed, Damaged}
 use Rattle.streetmap_faults.specs.declared.fault.ProgramFault.TheVariants.{Device, Memory}
-use Rattle.streetmap_faults.specs.declared.fault.ProgramFault.TheVariants.{NotOpened}
+use Rattle.streetmap_faults.specs.declared.fault.ProgramFault.TheVariants.{InUse, NoFolder}
+use Rattle.streetmap_faults.specs.declared.fault.ProgramFault.TheVariants.{NoRight, NotOpened}
+use Rattle.streetmap_faults.specs.declared.fault.ProgramFault.TheVariants.{DamagedDatabase}
+use Rattle.streetmap_faults.specs.declared.fault.ProgramFault.TheVariants.{PortTaken, NotBound}
+use Rattle.streetmap_faults.specs.declared.fault.ProgramFault.TheVariants.{NoRightToPort}
 use Rattle.streetmap_faults.specs.declared.fault.ProgramFault.TheVariants.{NoJournal, JournalAhead}
 use Rattle.streetmap_faults.specs.declared.fault.ProgramFault.TheVariants.{NotItsJournal}
+use Rattle.streetmap_faults.specs.declared.fault.ProgramFault.TheVariants.{NotReplayed}
 
--- why a store is not opened, by its error
-abbrev pub cause_of_code : ErrorCode → OpenCause
-cause_of_code codes.DatabaseBusy = causes.InUse
-cause_of_code codes.DatabaseCorrupt = causes.Damaged
-cause_of_code _ = causes.Other
+-- if a store is not opened
+abbrev pub fault_of_code : ErrorCode → ProgramFault
+fault_of_code codes.DatabaseBusy = InUse
+fault_of_code codes.DatabaseCorrupt = DamagedDatabase
+fault_of_code _ = NotOpened
 
-abbrev pub cause_of_store : StoreError → OpenCause
-cause_of_store (errors.SqliteFailure code) = cause_of_code code
-cause_of_store _ = causes.Other
+abbrev pub fault_of_store : StoreError → ProgramFault
+fault_of_store (errors.SqliteFailure code) = fault_of_code code
+fault_of_store _ = NotOpened
 
--- why a file is not opened, by the error of opening it or its folder
-abbrev pub cause_of_file : ErrorKind → OpenCause
-cause_of_file kinds.NotFound = causes.NoFolder
-cause_of_file kinds.NotADirectory = causes.NoFolder
-cause_of_file kinds.PermissionDenied = causes.NoRight
-cause_of_file kinds.ReadOnlyFilesystem = causes.NoRight
-cause_of_file _ = causes.Other
+-- if a file is not opened, by the error of opening it or its folder
+abbrev pub fault_of_file : ErrorKind → ProgramFault
+fault_of_file kinds.NotFound = NoFolder
+fault_of_file kinds.NotADirectory = NoFolder
+fault_of_file kinds.PermissionDenied = NoRight
+fault_of_file kinds.ReadOnlyFilesystem = NoRight
+fault_of_file _ = NotOpened
 
--- why nothing listens at a port
-abbrev pub cause_of_port : ErrorKind → PortCause
-cause_of_port kinds.AddrInUse = ports.Taken
-cause_of_port kinds.PermissionDenied = ports.NoRight
-cause_of_port _ = ports.Other
+-- if nothing listens at a port
+abbrev pub fault_of_port : ℕ → ErrorKind → ProgramFault
+fault_of_port port kinds.AddrInUse = PortTaken port
+fault_of_port port kinds.PermissionDenied = NoRightToPort port
+fault_of_port port _ = NotBound port
 
 -- if no file is made
 abbrev pub fault_of_create : CreateFault → ProgramFault
 fault_of_create creation.NotOurs = NotOurs
 fault_of_create creation.Taken = Taken
-fault_of_create (creation.Device error) = NotOpened (cause_of_store error)
+fault_of_create (creation.Device error) = fault_of_store error
 fault_of_create creation.Memory = Memory
 
 -- if a file is not opened
@@ -75,7 +75,7 @@ abbrev pub fault_of_open : OpenFault → ProgramFault
 fault_of_open opening.NotOurs = NotOurs
 fault_of_open opening.NewFormat = NewFormat
 fault_of_open opening.Damaged = Damaged
-fault_of_open (opening.Device error) = NotOpened (cause_of_store error)
+fault_of_open (opening.Device error) = fault_of_store error
 fault_of_open opening.Memory = Memory
 
 -- if a keeper does not answer
@@ -99,10 +99,12 @@ fault_of_start starting.NotRead = ReadFailed
 fault_of_start (starting.Stopped fault) = fault_of_keeper fault
 
 -- if a replay does not end well
-abbrev pub fault_of_replay : ReplayStop → ProgramFault
+abbrev pub fault_of_replay : ReplayFault → ProgramFault
 fault_of_replay (replay.Kept fault) = fault_of_keeper fault
 fault_of_replay (replay.Fresh fault) = fault_of_keeper fault
 fault_of_replay replay.Memory = Memory
+fault_of_replay (replay.Batch serial) = NotReplayed (Some serial)
+fault_of_replay (replay.Collection name) = NotReplayed None
 
 -- if the rows of a file are not a state's
 abbrev pub fault_of_check : CheckFault → ProgramFault
@@ -125,9 +127,9 @@ fault_of_text kinds.OutOfMemory = Memory
 fault_of_text _ = ReadFailed
 
 -- after lines of batches were followed
-abbrev pub end_of_lines : Followed → FollowEnd → Result (Unit {0}) ProgramFault
-end_of_lines it following.All = Ok tt
-end_of_lines it _ = Err (Follow it)
+abbrev pub end_of_lines : ℕ → Option FollowFault → Result (Unit {0}) ProgramFault
+end_of_lines count None = Ok tt
+end_of_lines count (Some fault) = Err (Follow count fault)
 
 abbrev pub end_of_followed : Followed → Result (Unit {0}) ProgramFault
-end_of_followed it = end_of_lines it it.end
+end_of_followed it = end_of_lines it.count it.fault

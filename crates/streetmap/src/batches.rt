@@ -26,7 +26,7 @@ pub(crate) fn print<K: Durable + KeepsBatches>(
     };
     match write_batches(rt.alloc(), keeper, after as u64, &mut output) {
         Ok(_) => output.flush().map_err(|_| ProgramFault::WriteFailed),
-        Err(stop) => Err(ProgramFault::Batches(stop)),
+        Err(fault) => Err(ProgramFault::Export(fault)),
     }
 }
 

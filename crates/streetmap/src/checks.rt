@@ -28,9 +28,13 @@ pub(crate) fn check<S: Alter + Drop>(
     .map_err(|_| ProgramFault::WriteFailed)
 }
 
-/// Reports which collection differs in the replay. A line that cannot be written is left out.
-fn report_collection(rt: &HostRuntime, name: &str) {
-    let _ = eprintln!(rt; "streetmap: not_replayed {name}");
+/// Reports which collection differs in a replay, if one does. A line that cannot be written is left
+/// out.
+fn report_collection(rt: &HostRuntime, fault: &ReplayFault) {
+    if let ReplayFault::Collection(name) = fault {
+        let name = name.as_str();
+        let _ = eprintln!(rt; "streetmap: not_replayed {name}");
+    }
 }
 
 /// Replays the kept batches in memory, and compares what they give with what the keeper shows.
@@ -45,11 +49,9 @@ pub(crate) fn replay<K: Durable + KeepsBatches>(
     let mut fresh = IndexedKeeper::new(rt.alloc(), PlainKeeper::new(rt.alloc()));
     match check_replay(rt.alloc(), keeper, &mut fresh) {
         Ok(()) => Ok(()),
-        Err(ReplayFault::Batch(serial)) => Err(ProgramFault::NotReplayed(Some(serial))),
-        Err(ReplayFault::Collection(name)) => {
-            report_collection(rt, name.as_str());
-            Err(ProgramFault::NotReplayed(None))
+        Err(refused) => {
+            report_collection(rt, &refused);
+            Err(fault::of_replay(&refused))
         }
-        Err(ReplayFault::Stopped(stop)) => Err(fault::of_replay(stop)),
     }
 }

@@ -9,7 +9,7 @@ use crate::{progress, texts};
 use std::io::writer;
 use streetmap_batch::Batch;
 use streetmap_command::Import;
-use streetmap_exchange::{ImportStop, apply_import, export, import_batch};
+use streetmap_exchange::{apply_import, export, import_batch};
 use streetmap_faults::ProgramFault;
 use streetmap_ledger::Durable;
 
@@ -28,7 +28,7 @@ pub(crate) fn read_batch(rt: &HostRuntime, requested: Import<'_>) -> Result<Batc
         &mut lines,
     );
     lines.clear();
-    batch.map_err(|fault| ProgramFault::from(ImportStop::from(fault)))
+    batch.map_err(ProgramFault::Import)
 }
 
 /// Prints a reply.
@@ -53,7 +53,7 @@ pub(crate) fn apply_batch<K: Durable>(
 {
     match apply_import(rt.alloc(), keeper, batch) {
         Ok(reply) => print_reply(rt, reply.as_str()),
-        Err(stop) => Err(ProgramFault::Import(stop)),
+        Err(fault) => Err(ProgramFault::Import(fault)),
     }
 }
 

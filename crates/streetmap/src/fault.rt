@@ -3,17 +3,17 @@ ghost use Rattle.std.specs.Prelude.{◌≡◌, ◌≢◌};
 ghost use Rattle.std.specs.IoError.{error_kind};
 ghost use Rattle.streetmap.specs.Faults.{fault_of_create, fault_of_open, fault_of_check};
 ghost use Rattle.streetmap.specs.Faults.{fault_of_text, end_of_stream, end_of_followed};
-ghost use Rattle.streetmap.specs.Faults.{fault_of_keeper, fault_of_replay, fault_of_journal};
-ghost use Rattle.streetmap.specs.Faults.{fault_of_start, cause_of_store, cause_of_file};
-ghost use Rattle.streetmap.specs.Faults.{cause_of_port};
+ghost use Rattle.streetmap.specs.Faults.{fault_of_keeper, fault_of_journal, fault_of_start};
+ghost use Rattle.streetmap.specs.Faults.{fault_of_replay};
+ghost use Rattle.streetmap.specs.Faults.{fault_of_store, fault_of_file, fault_of_port};
 
 use sqlite::{Error as StoreError, ErrorCode};
 use std::io::{Error, ErrorKind};
 use streetmap_checking::CheckFault;
-use streetmap_faults::{OpenCause, PortCause, ProgramFault};
+use streetmap_faults::ProgramFault;
 use streetmap_journal::StartFault;
 use streetmap_ledger::Fault;
-use streetmap_replay::{End as FollowEnd, Followed, ReplayStop};
+use streetmap_replay::{Followed, ReplayFault};
 use streetmap_store::{CreateFault, OpenFault};
 use streetmap_web::End;
 
@@ -78,36 +78,36 @@ pub(crate) fn of_stream(end: End) -> Result<(), ProgramFault>
     }
 }
 
-/// Why a store is not opened, by its error.
-fn of_store(error: &StoreError) -> OpenCause
-    ensures { result ≡ cause_of_store error.now }
+/// The fault of a store that is not opened.
+fn of_store(error: &StoreError) -> ProgramFault
+    ensures { result ≡ fault_of_store error.now }
 {
     match error {
-        StoreError::SqliteFailure(ErrorCode::DatabaseBusy) => OpenCause::InUse,
-        StoreError::SqliteFailure(ErrorCode::DatabaseCorrupt) => OpenCause::Damaged,
-        _ => OpenCause::Other,
+        StoreError::SqliteFailure(ErrorCode::DatabaseBusy) => ProgramFault::InUse,
+        StoreError::SqliteFailure(ErrorCode::DatabaseCorrupt) => ProgramFault::DamagedDatabase,
+        _ => ProgramFault::NotOpened,
     }
 }
 
-/// Why a file is not opened, by the error of opening it or its folder.
-pub(crate) fn of_file(error: &Error) -> OpenCause
-    ensures { result ≡ cause_of_file (error_kind error.now) }
+/// The fault of a file that is not opened, by the error of opening it or its folder.
+pub(crate) fn of_file(error: &Error) -> ProgramFault
+    ensures { result ≡ fault_of_file (error_kind error.now) }
 {
     match error.kind() {
-        ErrorKind::NotFound | ErrorKind::NotADirectory => OpenCause::NoFolder,
-        ErrorKind::PermissionDenied | ErrorKind::ReadOnlyFilesystem => OpenCause::NoRight,
-        _ => OpenCause::Other,
+        ErrorKind::NotFound | ErrorKind::NotADirectory => ProgramFault::NoFolder,
+        ErrorKind::PermissionDenied | ErrorKind::ReadOnlyFilesystem => ProgramFault::NoRight,
+        _ => ProgramFault::NotOpened,
     }
 }
 
-/// Why nothing listens at a port.
-pub(crate) fn of_port(error: &Error) -> PortCause
-    ensures { result ≡ cause_of_port (error_kind error.now) }
+/// The fault of a port at which nothing listens.
+pub(crate) fn of_port(port: u16, error: &Error) -> ProgramFault
+    ensures { result ≡ fault_of_port port (error_kind error.now) }
 {
     match error.kind() {
-        ErrorKind::AddrInUse => PortCause::Taken,
-        ErrorKind::PermissionDenied => PortCause::NoRight,
-        _ => PortCause::Other,
+        ErrorKind::AddrInUse => ProgramFault::PortTaken(port),
+        ErrorKind::PermissionDenied => ProgramFault::NoRightToPort(port),
+        _ => ProgramFault::NotBound(port),
     }
 }
 
@@ -118,7 +118,7 @@ pub(crate) fn of_create(fault: &CreateFault) -> ProgramFault
     match fault {
         CreateFault::NotOurs => ProgramFault::NotOurs,
         CreateFault::Taken => ProgramFault::Taken,
-        CreateFault::Device(error) => ProgramFault::NotOpened(of_store(error)),
+        CreateFault::Device(error) => of_store(error),
         CreateFault::Memory => ProgramFault::Memory,
     }
 }
@@ -131,7 +131,7 @@ pub(crate) fn of_open(fault: &OpenFault) -> ProgramFault
         OpenFault::NotOurs => ProgramFault::NotOurs,
         OpenFault::NewFormat => ProgramFault::NewFormat,
         OpenFault::Damaged => ProgramFault::Damaged,
-        OpenFault::Device(error) => ProgramFault::NotOpened(of_store(error)),
+        OpenFault::Device(error) => of_store(error),
         OpenFault::Memory => ProgramFault::Memory,
     }
 }
@@ -159,13 +159,14 @@ pub(crate) fn of_check(fault: &CheckFault) -> ProgramFault
 }
 
 /// The fault of a replay that does not end well.
-pub(crate) fn of_replay(stop: ReplayStop) -> ProgramFault
-    ensures { result ≡ fault_of_replay stop }
+pub(crate) fn of_replay(fault: &ReplayFault) -> ProgramFault
+    ensures { result ≡ fault_of_replay fault.now }
 {
-    match stop {
-        ReplayStop::Kept(fault) => of_keeper(fault),
-        ReplayStop::Fresh(fault) => of_keeper(fault),
-        ReplayStop::Memory => ProgramFault::Memory,
+    match fault {
+        ReplayFault::Kept(fault) | ReplayFault::Fresh(fault) => of_keeper(*fault),
+        ReplayFault::Memory => ProgramFault::Memory,
+        ReplayFault::Batch(serial) => ProgramFault::NotReplayed(Some(*serial)),
+        ReplayFault::Collection(_) => ProgramFault::NotReplayed(None),
     }
 }
 
@@ -173,8 +174,8 @@ pub(crate) fn of_replay(stop: ReplayStop) -> ProgramFault
 pub(crate) fn of_followed(followed: Followed) -> Result<(), ProgramFault>
     ensures { result ≡ end_of_followed followed }
 {
-    match followed.end {
-        FollowEnd::All => Ok(()),
-        _ => Err(ProgramFault::Follow(followed)),
+    match followed.fault {
+        None => Ok(()),
+        Some(fault) => Err(ProgramFault::Follow(followed.count, fault)),
     }
 }

@@ -10,13 +10,13 @@ use sqlite::Unknown;
 use std::fs::{OpenOptions, exists, metadata};
 use std::io::ErrorKind;
 use streetmap_command::{Connections, Import, JournalArguments, LoadArguments};
-use streetmap_faults::{OpenCause, ProgramFault};
+use streetmap_faults::ProgramFault;
 use streetmap_placing::Numbers;
 use streetmap_routes::Base;
 
 /// Whether a file of that name exists.
 fn is_there(rt: &HostRuntime, path: &str) -> Result<bool, ProgramFault> {
-    exists(rt, path).map_err(|error| ProgramFault::NotOpened(fault::of_file(&error)))
+    exists(rt, path).map_err(|error| fault::of_file(&error))
 }
 
 /// Refuses a file that does not exist.
@@ -29,11 +29,11 @@ fn refuse_missing(rt: &HostRuntime, path: &str) -> Result<(), ProgramFault> {
 }
 
 /// Why a file is not opened: the file is examined, or its folder if it does not exist.
-fn cause_at(rt: &HostRuntime, path: &str) -> OpenCause {
+fn fault_at(rt: &HostRuntime, path: &str) -> ProgramFault {
     match OpenOptions::new().read(true).write(true).open(rt, path) {
-        Ok(_) => OpenCause::Other,
+        Ok(_) => ProgramFault::NotOpened,
         Err(error) if error.kind() == ErrorKind::NotFound => match metadata(rt, parts(path).0) {
-            Ok(_) => OpenCause::NoRight,
+            Ok(_) => ProgramFault::NoRight,
             Err(error) => fault::of_file(&error),
         },
         Err(error) => fault::of_file(&error),
@@ -43,7 +43,7 @@ fn cause_at(rt: &HostRuntime, path: &str) -> OpenCause {
 /// The fault of a file that is not opened, with its cause if the store does not know it.
 pub(crate) fn with_cause(rt: &HostRuntime, path: &str, fault: ProgramFault) -> ProgramFault {
     match fault {
-        ProgramFault::NotOpened(OpenCause::Other) => ProgramFault::NotOpened(cause_at(rt, path)),
+        ProgramFault::NotOpened => fault_at(rt, path),
         fault => fault,
     }
 }

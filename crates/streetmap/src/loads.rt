@@ -15,8 +15,8 @@ use streetmap_decimal::{Rounding, Scale, Shift};
 use streetmap_faults::ProgramFault;
 use streetmap_ledger::{Durable, Keeper};
 use streetmap_loading::{
-    End, HeldTimes, KeeperSink, LineSink, Listener, Load, LoadOptions, Loaded, Opening, TextFault,
-    check_text, load_text, print_text, read_times,
+    HeldTimes, KeeperSink, LineSink, Listener, Load, LoadFault, LoadOptions, Loaded, Opening,
+    TextFault, check_text, load_text, print_text, read_times,
 };
 use streetmap_placing::{Fractions, Numbers};
 
@@ -59,7 +59,7 @@ impl<W: Write> Listener for LoadLines<'_, W> {
 
     /// A line that cannot be written is left out.
     fn passed_over(&mut self, fault: TextFault) {
-        let fault = ProgramFault::Load(End::AtFault(fault));
+        let fault = ProgramFault::Load(LoadFault::AtFault(fault));
         if let Some(output) = &mut self.progress {
             output.clear();
         }
@@ -132,7 +132,7 @@ pub(crate) fn read(
         numbers,
         opening,
     };
-    Load::new(rt.alloc(), options).map_err(ProgramFault::NotLoaded)
+    Load::new(rt.alloc(), options).map_err(ProgramFault::Load)
 }
 
 /// The property of the times of the collection that is opened.
@@ -158,7 +158,7 @@ fn times_of<K: Keeper>(
     }
     match read_times(sink, requested.collection) {
         Ok(times) => Ok(times),
-        Err(fault) => Err(ProgramFault::Load(End::Stopped(fault))),
+        Err(fault) => Err(ProgramFault::Load(LoadFault::Stopped(fault))),
     }
 }
 
@@ -207,19 +207,19 @@ fn print_loaded(
 /// Prints the result of a load if it reached its end, and returns whether features were skipped;
 /// else returns why it ended before.
 fn end(rt: &HostRuntime, requested: LoadArguments<'_>, loaded: Loaded) -> Result<(), ProgramFault>
-    ensures whole { IsOk result → loaded.end ≡ End.All }
+    ensures whole { IsOk result → loaded.fault ≡ None }
     ensures none_skipped { IsOk result → loaded.skipped ≡ 0 }
 {
     if let Some(mut output) = progress::output(rt, requested.progress, requested.print) {
         output.clear();
     }
-    match loaded.end {
-        End::All => match print_loaded(rt, requested, loaded) {
+    match loaded.fault {
+        None => match print_loaded(rt, requested, loaded) {
             Ok(()) if loaded.skipped == 0 => Ok(()),
             Ok(()) => Err(ProgramFault::PassedOver),
             Err(fault) => Err(fault),
         },
-        stopped => Err(ProgramFault::Load(stopped)),
+        Some(fault) => Err(ProgramFault::Load(fault)),
     }
 }
 
@@ -292,7 +292,7 @@ fn load_from<K: Durable, R: Read + Drop>(
         LoadLines::new(rt, requested),
     );
     let done = end(rt, requested, loaded);
-    if let End::All = loaded.end {
+    if loaded.fault.is_none() {
         warn_of_degrees(rt, &mut sink.keeper, requested);
     }
     done

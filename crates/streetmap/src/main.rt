@@ -95,7 +95,7 @@ fn end(rt: &HostRuntime, words: &[String], done: Result<(), ProgramFault>) -> Ex
         Ok(()) => ExitCode::SUCCESS,
         Err(fault) => {
             report::print(rt, words, fault);
-            ExitCode::from(fault.status())
+            ExitCode::from(fault.report().status)
         }
     }
 }

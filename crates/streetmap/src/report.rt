@@ -3,7 +3,7 @@
 use std::io::IsTerminal;
 use streetmap_command::{is_explained, usage_sentence};
 use streetmap_faults::{ProgramFault, Sentence};
-use streetmap_loading::{End, TextFault};
+use streetmap_loading::{LoadFault, TextFault};
 
 /// Prints the line of a fault. A sentence on it follows if that is requested, if standard error is
 /// a terminal, and always for a text that is not a sequence of features. Features that were
@@ -18,7 +18,7 @@ pub(crate) fn print(rt: &HostRuntime, words: &[String], fault: ProgramFault) {
     }
     let is_always = matches!(
         fault,
-        ProgramFault::Load(End::AtFault(TextFault::NotASequence))
+        ProgramFault::Load(LoadFault::AtFault(TextFault::NotASequence))
     );
     if is_always || is_explained(words) || rt.stderr().is_terminal() {
         print_sentence(rt, words, fault);

@@ -73,7 +73,7 @@ pub(crate) fn service_of<K: KeepsBatches>(
 /// Listens at a port of this host, and reports it.
 fn listen(rt: &HostRuntime, port: u16) -> Result<TcpListener, ProgramFault> {
     let listener = TcpListener::bind(rt, (Ipv4Addr::LOCALHOST, port)).map_err(
-        |error| ProgramFault::NotBound(port, fault::of_port(&error)),
+        |error| fault::of_port(port, &error),
     )?;
     println!(rt; "listening 127.0.0.1:{port}").map_err(|_| ProgramFault::WriteFailed)?;
     Ok(listener)

@@ -16,11 +16,11 @@ use Rattle.streetmap_ledger.specs.Kept.{batches_after, AreNext}
 use Rattle.streetmap_ledger.proofs.Nexts.{nexts_split, last_next}
 use Rattle.streetmap_ledger.proofs.Serials.{found_under}
 use Rattle.streetmap_exchange.specs.Printed.{lines_text}
-use Rattle.streetmap_exchange.specs.Stops.{IsWriteStop, lines_answer}
+use Rattle.streetmap_exchange.specs.ExportFaults.{IsWriteFault, IsLinesFault, lines_answer}
 use Rattle.streetmap_replay.specs.Calls.{AreReads}
 use Rattle.streetmap_replay.proofs.CallsInTurn.{no_fault_read, then_lost}
-use Rattle.streetmap_exchange.specs.declared.lines_stop.LinesStop.{LinesStop}
-use Rattle.streetmap_exchange.specs.declared.lines_stop.LinesStop.TheVariants.{Stopped, WriteFailed}
+use Rattle.streetmap_exchange.specs.declared.fault.ExportFault.{ExportFault}
+use Rattle.streetmap_exchange.specs.declared.fault.ExportFault.TheVariants.{NoCollection, Stopped, WriteFailed, FlushFailed}
 use Rattle.streetmap_exchange.proofs.LineLemmas.{lines_append}
 
 pub record Underway (s : State) (after last : ℕ) (old now : Option (List ℕ)) : Type 0 where
@@ -134,9 +134,17 @@ module _ (s : State) (sound : IsState s) (after last : ℕ) (old now : Option (L
 -- ---- the keeper
 
 -- a write that failed
-pub write_reads : {K : Type 0} {model : Model K} {a b : K} (stop : LinesStop) → IsWriteStop stop → AreReads model a b (Some (Ok tt)) → AreReads model a b (lines_answer {T = ℕ} (Err stop))
+pub write_reads : {K : Type 0} {model : Model K} {a b : K} (fault : ExportFault) → IsWriteFault fault → AreReads model a b (Some (Ok tt)) → AreReads model a b (lines_answer {T = ℕ} (Err fault))
 write_reads (Stopped Memory) is reads = then_lost reads
 write_reads (Stopped Device) is reads = absurd is
 write_reads (Stopped Damaged) is reads = absurd is
 write_reads (Stopped Reopen) is reads = absurd is
 write_reads WriteFailed is reads = no_fault_read reads
+write_reads NoCollection is reads = absurd is
+write_reads FlushFailed is reads = absurd is
+
+pub write_fault : (fault : ExportFault) → IsWriteFault fault → IsLinesFault fault
+write_fault (Stopped fault) is = tt
+write_fault WriteFailed is = tt
+write_fault NoCollection is = is
+write_fault FlushFailed is = is

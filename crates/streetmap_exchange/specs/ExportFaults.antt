@@ -1,26 +1,12 @@
--- Why an export ends early: the names and sentences of the refusals, and the faults of its parts.
-use Rattle.std.specs.Prelude.{◌⊎◌, Some, Result, Ok, Err, codes, ⊤}
-use Rattle.streetmap_batch.specs.Text.{Text}
-use Rattle.streetmap_ledger.specs.Refusals.{fault_code, fault_description}
+-- Why an export, or the writing of lines, ends early: the faults of its parts, and whether it was
+-- the keeper.
+use Rattle.std.specs.Prelude.{◌⊎◌, None, Some, Result, Ok, Err, ⊤}
 use Rattle.streetmap_ledger.specs.declared.reply.Fault.TheVariants.{Memory}
 use Rattle.streetmap_replay.specs.Calls.{LastAnswer, fails_by}
 use Rattle.streetmap_exchange.specs.declared.fault.ExportFault.{ExportFault}
 use Rattle.streetmap_exchange.specs.declared.fault.ExportFault.TheVariants.{NoCollection, Stopped}
 use Rattle.streetmap_exchange.specs.declared.fault.ExportFault.TheVariants.{WriteFailed}
 use Rattle.streetmap_exchange.specs.declared.fault.ExportFault.TheVariants.{FlushFailed}
-
-unfoldable pub export_code_of : ExportFault → Text
-export_code_of NoCollection = codes "no_collection"
-export_code_of (Stopped fault) = fault_code fault
-export_code_of WriteFailed = codes "write_failed"
-export_code_of FlushFailed = codes "write_failed"
-
--- the sentence of a refusal
-unfoldable pub export_description_of : ExportFault → Text
-export_description_of NoCollection = codes "The collection is not there."
-export_description_of (Stopped fault) = fault_description fault
-export_description_of WriteFailed = codes "The text could not be written."
-export_description_of FlushFailed = codes "The text could not be written."
 
 -- the faults of a write: memory runs out, or the write fails
 abbrev pub IsWriteFault : ExportFault → Type 0
@@ -49,3 +35,16 @@ export_answer (Err NoCollection) = Some (Ok tt)
 export_answer (Err (Stopped fault)) = fails_by fault
 export_answer (Err WriteFailed) = Some (Ok tt)
 export_answer (Err FlushFailed) = Some (Ok tt)
+
+-- the faults of writing the lines of kept batches
+abbrev pub IsLinesFault : ExportFault → Type 0
+IsLinesFault NoCollection = ⊥
+IsLinesFault (Stopped fault) = ⊤
+IsLinesFault WriteFailed = ⊤
+IsLinesFault FlushFailed = ⊥
+
+-- the keeper's answer then: its fault, or `Memory`, or no fault; none if too many rounds were made
+abbrev pub lines_answer : {T : Type 0} → Result T ExportFault → LastAnswer
+lines_answer (Ok x) = Some (Ok tt)
+lines_answer (Err (Stopped fault)) = fails_by fault
+lines_answer (Err fault) = None

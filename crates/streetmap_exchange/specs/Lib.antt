@@ -1,11 +1,9 @@
 pub mod ImportFaults
 pub mod Imports
 pub mod ImportMeaning
-pub mod ImportStops
 pub mod KeeperImports
 pub mod ExportFaults
 pub mod Exports
 pub mod Laws
-pub mod Stops
 pub mod Printed
 pub mod LineLaws

@@ -4,32 +4,20 @@ ghost use Rattle.std.specs.Io.KnownBytes.{Appends};
 ghost use Rattle.streetmap_ledger.specs.KeptView.{keyed_batch, keyed_batches};
 ghost use Rattle.streetmap_text_lines.specs.Written.{AppendsBeginning};
 ghost use Rattle.streetmap_exchange.specs.Printed.{line_text, lines_text};
-ghost use Rattle.streetmap_exchange.specs.Stops.{IsWriteStop};
+ghost use Rattle.streetmap_exchange.specs.ExportFaults.{IsWriteFault};
 
-use crate::lines_stop::{LinesStop, of_write};
+use crate::fault::ExportFault;
+use crate::part::write_bytes;
 use std::io::Write;
 use streetmap_ledger::KeptBatch;
 
-/// Writes bytes.
-fn write_bytes<W: Write>(writer: &mut W, bytes: &[u8]) -> Result<(), LinesStop>
-    ensures ok { OnOk result (Appends (W.contents writer.old) (W.contents writer.new) bytes.now) }
-    ensures err { OnErr result
-        (AppendsBeginning (W.contents writer.old) (W.contents writer.new) bytes.now) }
-    ensures stop { IfErr result IsWriteStop }
-{
-    match streetmap_text_lines::write_bytes(writer, bytes) {
-        Ok(()) => Ok(()),
-        Err(stopped) => Err(of_write(stopped.why)),
-    }
-}
-
 /// Writes the line of a batch: its serial in decimal, a tab, its text and a line feed.
-fn write_line<W: Write>(writer: &mut W, batch: &KeptBatch) -> Result<(), LinesStop>
+fn write_line<W: Write>(writer: &mut W, batch: &KeptBatch) -> Result<(), ExportFault>
     ensures ok { OnOk result (Appends (W.contents writer.old) (W.contents writer.new)
         (line_text (keyed_batch batch.now))) }
     ensures err { OnErr result (AppendsBeginning (W.contents writer.old) (W.contents writer.new)
         (line_text (keyed_batch batch.now))) }
-    ensures stop { IfErr result IsWriteStop }
+    ensures fault { IfErr result IsWriteFault }
 {
     let mut digits = itoa::Buffer::new();
     write_bytes(writer, digits.format(batch.serial).as_bytes())?;
@@ -39,12 +27,15 @@ fn write_line<W: Write>(writer: &mut W, batch: &KeptBatch) -> Result<(), LinesSt
 }
 
 /// Writes the lines of batches, in their order.
-pub(crate) fn write_lines<W: Write>(writer: &mut W, batches: &[KeptBatch]) -> Result<(), LinesStop>
+pub(crate) fn write_lines<W: Write>(
+    writer: &mut W,
+    batches: &[KeptBatch],
+) -> Result<(), ExportFault>
     ensures ok { OnOk result (Appends (W.contents writer.old) (W.contents writer.new)
         (lines_text (keyed_batches batches.now))) }
     ensures err { OnErr result (AppendsBeginning (W.contents writer.old) (W.contents writer.new)
         (lines_text (keyed_batches batches.now))) }
-    ensures stop { IfErr result IsWriteStop }
+    ensures fault { IfErr result IsWriteFault }
 {
     for batch in batches {
         write_line(writer, batch)?;

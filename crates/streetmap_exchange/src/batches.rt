@@ -1,11 +1,12 @@
 //! The lines of the batches after a serial.
+ghost use Rattle.std.specs.Prelude.{IfErr};
 ghost use Rattle.streetmap_ledger.specs.State.{State};
 ghost use Rattle.streetmap_replay.specs.Calls.{AreReads};
 ghost use Rattle.streetmap_exchange.specs.Printed.{WritesLines};
-ghost use Rattle.streetmap_exchange.specs.Stops.{lines_answer};
+ghost use Rattle.streetmap_exchange.specs.ExportFaults.{IsLinesFault, lines_answer};
 
 use crate::batch_lines::write_lines;
-use crate::lines_stop::LinesStop;
+use crate::fault::ExportFault;
 use std::alloc::Global;
 use std::io::Write;
 use streetmap_ledger::KeepsBatches;
@@ -27,8 +28,9 @@ pub fn write_batches<K: KeepsBatches, W: Write>(
     keeper: &mut K,
     after: u64,
     writer: &mut W,
-) -> Result<u64, LinesStop>
+) -> Result<u64, ExportFault>
     ensures reads { AreReads K.model keeper.old keeper.new (lines_answer result) }
+    ensures fault { IfErr result IsLinesFault }
     ensures writes { K.model.is_clean keeper.new → (s : State) → K.model.represents keeper.old s →
         WritesLines s after result (W.contents writer.old) (W.contents writer.new) }
 {
@@ -36,7 +38,7 @@ pub fn write_batches<K: KeepsBatches, W: Write>(
     for _turn in 0..u64::MAX {
         let batches = match keeper.batches(alloc, last, ROOM) {
             Ok(batches) => batches,
-            Err(fault) => return Err(LinesStop::Stopped(fault)),
+            Err(fault) => return Err(ExportFault::Stopped(fault)),
         };
         let Some(latest) = batches.last() else {
             return Ok(last);
@@ -44,5 +46,5 @@ pub fn write_batches<K: KeepsBatches, W: Write>(
         last = latest.serial;
         write_lines(writer, batches.as_slice())?;
     }
-    Err(LinesStop::WriteFailed)
+    Err(ExportFault::WriteFailed)
 }

@@ -1,4 +1,4 @@
-//! Why a text is not read, not imported, or not written.
+//! Why a text is not imported, and why a collection or kept batches are not written.
 ghost use Rattle.std.specs.Prelude.{◌≡◌};
 
 use std::alloc::{AllocError, AllocFailed};
@@ -7,7 +7,7 @@ use streetmap_geojson::Fault;
 use streetmap_ledger::{Fault as KeeperFault, Refusal};
 use streetmap_text_lines::WriteFault;
 
-/// Why a text is not read into a batch.
+/// Why a text is not read into a batch, or its batch is not applied.
 #[derive(Clone, Copy, PartialEq, Drop)]
 pub enum ImportFault {
     /// The key is not valid.
@@ -24,68 +24,17 @@ pub enum ImportFault {
     BadFeature { place: u64, cause: Fault },
     /// The text has more than 10,000 features.
     TooManyEdits,
-    /// Out of memory. The caller may try again.
+    /// Out of memory: the keeper received no request. The caller may try again.
     Memory,
+    /// The batch is refused, and nothing changed; with the place of the feature at fault, counted
+    /// from 1, if any.
+    Refused(Refusal, Option<u64>),
+    /// The keeper gave no reply.
+    Stopped(KeeperFault),
 }
 
 impl ImportFault {
-    ghost use Rattle.streetmap_exchange.specs.ImportFaults.{code_of, description_of};
-    ghost use Rattle.streetmap_exchange.specs.ImportFaults.{place_of, cause_of, of_batch};
-
-    /// The name of the refusal.
-    #[tactic(auto, unfolding(crate::specs::ImportFaults::code_of))]
-    pub fn code(&self) -> &'static str
-        ensures { result.now ≡ code_of self.now }
-    {
-        match self {
-            ImportFault::BadKey => "bad_key",
-            ImportFault::BadBatch => "bad_batch",
-            ImportFault::TextTooLarge => "text_too_large",
-            ImportFault::NotJson => "not_json",
-            ImportFault::WrongType => "wrong_type",
-            ImportFault::BadFeature { place: _, cause: _ } => "bad_feature",
-            ImportFault::TooManyEdits => "too_many_edits",
-            ImportFault::Memory => "memory",
-        }
-    }
-
-    /// The sentence of the refusal.
-    #[tactic(auto, unfolding(crate::specs::ImportFaults::description_of))]
-    pub fn description(&self) -> &'static str
-        ensures { result.now ≡ description_of self.now }
-    {
-        match self {
-            ImportFault::BadKey => "The key of the batch cannot be read.",
-            ImportFault::BadBatch => "The batch cannot be read.",
-            ImportFault::TextTooLarge => "The text has more than 8388608 bytes.",
-            ImportFault::NotJson => "The text is no JSON.",
-            ImportFault::WrongType => "The text is no FeatureCollection.",
-            ImportFault::BadFeature { place: _, cause: _ } =>
-                "A feature of the batch cannot be read.",
-            ImportFault::TooManyEdits => "The batch has more than 10000 edits.",
-            ImportFault::Memory => "Memory was refused; the call may be made again.",
-        }
-    }
-
-    /// The place of the feature at fault, counted from 1.
-    pub fn place(&self) -> Option<u64>
-        ensures { result ≡ place_of self.now }
-    {
-        match self {
-            ImportFault::BadFeature { place, cause: _ } => Some(*place),
-            _ => None,
-        }
-    }
-
-    /// What is wrong with that feature.
-    pub fn cause(&self) -> Option<Fault>
-        ensures { result ≡ cause_of self.now }
-    {
-        match self {
-            ImportFault::BadFeature { place: _, cause } => Some(*cause),
-            _ => None,
-        }
-    }
+    ghost use Rattle.streetmap_exchange.specs.ImportFaults.{of_batch};
 
     /// The refusal of the batch, as a refusal of the text that it is made of.
     pub(crate) fn of_batch(fault: BatchFault) -> ImportFault
@@ -121,118 +70,21 @@ impl<T: Drop> From<AllocFailed<T>> for ImportFault {
     }
 }
 
-/// Why a text is not imported into a keeper.
-#[derive(Clone, Copy, PartialEq, Drop)]
-pub enum ImportStop {
-    /// The text is not read into a batch, or memory ran out: the keeper received no request.
-    NotRead(ImportFault),
-    /// The batch is refused, and nothing changed; with the place of the feature at fault, counted
-    /// from 1, if any.
-    Refused(Refusal, Option<u64>),
-    /// The keeper gave no reply.
-    Stopped(KeeperFault),
-}
-
-impl ImportStop {
-    ghost use Rattle.streetmap_exchange.specs.ImportStops.{stop_code_of, stop_description_of};
-    ghost use Rattle.streetmap_exchange.specs.ImportStops.{stop_place_of, stop_cause_of};
-
-    /// Its name.
-    #[tactic(auto, unfolding(crate::specs::ImportStops::stop_code_of))]
-    pub fn code(&self) -> &'static str
-        ensures { result.now ≡ stop_code_of self.now }
-    {
-        match self {
-            ImportStop::NotRead(fault) => fault.code(),
-            ImportStop::Refused(refusal, _) => refusal.code(),
-            ImportStop::Stopped(fault) => fault.code(),
-        }
-    }
-
-    /// A sentence that describes it.
-    #[tactic(auto, unfolding(crate::specs::ImportStops::stop_description_of))]
-    pub fn description(&self) -> &'static str
-        ensures { result.now ≡ stop_description_of self.now }
-    {
-        match self {
-            ImportStop::NotRead(fault) => fault.description(),
-            ImportStop::Refused(refusal, _) => refusal.description(),
-            ImportStop::Stopped(fault) => fault.description(),
-        }
-    }
-
-    /// The place of the feature at fault, counted from 1.
-    pub fn place(&self) -> Option<u64>
-        ensures { result ≡ stop_place_of self.now }
-    {
-        match self {
-            ImportStop::NotRead(fault) => fault.place(),
-            ImportStop::Refused(_, place) => *place,
-            ImportStop::Stopped(_) => None,
-        }
-    }
-
-    /// What is wrong with that feature, if it cannot be read.
-    pub fn cause(&self) -> Option<Fault>
-        ensures { result ≡ stop_cause_of self.now }
-    {
-        match self {
-            ImportStop::NotRead(fault) => fault.cause(),
-            _ => None,
-        }
-    }
-}
-
-impl From<ImportFault> for ImportStop {
-    ghost use Rattle.streetmap_exchange.specs.declared.fault.ImportStop.TheVariants.{NotRead};
-
-    ghost from_gives = { λ fault stop. stop ≡ NotRead fault };
-
-    fn from(fault: ImportFault) -> ImportStop {
-        ImportStop::NotRead(fault)
-    }
-}
-
-/// Why a collection is not exported to its end.
+/// Why a collection, or the lines of kept batches, are not written to the end.
 #[derive(Clone, Copy, PartialEq, Drop)]
 pub enum ExportFault {
     /// The collection does not exist.
     NoCollection,
     /// The keeper gave no reply, or memory ran out.
     Stopped(KeeperFault),
-    /// The text could not be written to its end.
+    /// The text, or a line, could not be written to its end.
     WriteFailed,
     /// The text was written, and a flush of the writer failed.
     FlushFailed,
 }
 
 impl ExportFault {
-    ghost use Rattle.streetmap_exchange.specs.ExportFaults.{export_code_of, export_description_of};
     ghost use Rattle.streetmap_exchange.specs.ExportFaults.{IsWriteFault, IsFlushFault};
-
-    /// The name of the refusal.
-    #[tactic(auto, unfolding(crate::specs::ExportFaults::export_code_of))]
-    pub fn code(&self) -> &'static str
-        ensures { result.now ≡ export_code_of self.now }
-    {
-        match self {
-            ExportFault::NoCollection => "no_collection",
-            ExportFault::Stopped(fault) => fault.code(),
-            ExportFault::WriteFailed | ExportFault::FlushFailed => "write_failed",
-        }
-    }
-
-    /// The sentence of the refusal.
-    #[tactic(auto, unfolding(crate::specs::ExportFaults::export_description_of))]
-    pub fn description(&self) -> &'static str
-        ensures { result.now ≡ export_description_of self.now }
-    {
-        match self {
-            ExportFault::NoCollection => "The collection is not there.",
-            ExportFault::Stopped(fault) => fault.description(),
-            ExportFault::WriteFailed | ExportFault::FlushFailed => "The text could not be written.",
-        }
-    }
 
     /// The fault of bytes that were not written.
     pub(crate) fn of_write(fault: WriteFault) -> ExportFault

@@ -9,7 +9,7 @@ ghost use Rattle.streetmap_exchange.specs.Imports.{import_of};
 ghost use Rattle.streetmap_exchange.specs.KeeperImports.{IsReported, IsOfReply, ImportsBatch};
 ghost use Rattle.streetmap_exchange.specs.KeeperImports.{Imports, import_answer};
 
-use crate::fault::{ImportFault, ImportStop};
+use crate::fault::ImportFault;
 use crate::imports::import_batch;
 use crate::progress::Progress;
 use std::alloc::Global;
@@ -30,7 +30,7 @@ fn room(alloc: Global) -> Result<String, ImportFault>
 }
 
 /// The result for the keeper's reply to a batch, in room that was allocated before.
-fn report(body: String, batch: &Batch, reply: Reply) -> Result<String, ImportStop>
+fn report(body: String, batch: &Batch, reply: Reply) -> Result<String, ImportFault>
     requires empty { string_bytes body ≡ [] }
     requires wide { string_len body + 320 ≤ string_capacity body }
     ensures { IsReported (batch_value batch.now).key reply result }
@@ -41,12 +41,12 @@ fn report(body: String, batch: &Batch, reply: Reply) -> Result<String, ImportSto
             push_reply_body(&mut body, batch, reply);
             Ok(body)
         }
-        Reply::Refused(refusal, place) => Err(ImportStop::Refused(refusal, place)),
+        Reply::Refused(refusal, place) => Err(ImportFault::Refused(refusal, place)),
     }
 }
 
 /// Has the keeper act on a batch, and returns its reply in room that was allocated before.
-fn apply<K: Keeper>(keeper: &mut K, batch: &Batch, body: String) -> Result<String, ImportStop>
+fn apply<K: Keeper>(keeper: &mut K, batch: &Batch, body: String) -> Result<String, ImportFault>
     requires empty { string_bytes body ≡ [] }
     requires wide { string_len body + 320 ≤ string_capacity body }
     ensures reported { IsOfReply (batch_value batch.now).key
@@ -58,7 +58,7 @@ fn apply<K: Keeper>(keeper: &mut K, batch: &Batch, body: String) -> Result<Strin
 {
     match keeper.apply(batch) {
         Ok(reply) => report(body, batch, reply),
-        Err(fault) => Err(ImportStop::Stopped(fault)),
+        Err(fault) => Err(ImportFault::Stopped(fault)),
     }
 }
 
@@ -68,13 +68,13 @@ fn apply<K: Keeper>(keeper: &mut K, batch: &Batch, body: String) -> Result<Strin
 ///
 /// # Errors
 ///
-/// `NotRead` with `Memory` if the room cannot be allocated: the keeper received no request.
-/// `Refused` if the batch is refused: nothing changed. `Stopped` with the fault of the keeper.
+/// `Memory` if the room cannot be allocated: the keeper received no request. `Refused` if the batch
+/// is refused: nothing changed. `Stopped` with the fault of the keeper.
 pub fn apply_import<K: Keeper>(
     alloc: Global,
     keeper: &mut K,
     batch: &Batch,
-) -> Result<String, ImportStop>
+) -> Result<String, ImportFault>
     // The keeper received no request and is as it was, or what is returned is what it replied.
     ensures reported { IsOfReply (batch_value batch.now).key
         (λ r. K.model.applies keeper.old (batch_value batch.now) r keeper.new)
@@ -93,8 +93,8 @@ pub fn apply_import<K: Keeper>(
 ///
 /// # Errors
 ///
-/// `NotRead` with the first refusal of `import_batch`, and `Refused` if the batch is refused:
-/// nothing changed. `Stopped` with the fault of the keeper.
+/// The first refusal of `import_batch`, and `Refused` if the batch is refused: nothing changed.
+/// `Stopped` with the fault of the keeper.
 pub fn import<K: Keeper, P: Progress>(
     alloc: Global,
     keeper: &mut K,
@@ -103,7 +103,7 @@ pub fn import<K: Keeper, P: Progress>(
     collection: &str,
     replace: bool,
     progress: &mut P,
-) -> Result<String, ImportStop>
+) -> Result<String, ImportFault>
     // The keeper received no request and is as it was, or what is returned is what it replied to
     // the batch that the text means.
     ensures reported { (b : BatchValue) → import_of replace key.now collection.now text.now ≡ Ok b →

@@ -17,7 +17,7 @@
 //! their number. These lines are those of the state's journal (`line_laws`).
 //!
 //! Modules, in the order of reading: `fault`, `progress`, `imports`, `keeper_imports`, `part`,
-//! `exports`, `laws`; `lines_stop`, `batch_lines`, `batches`, `line_laws`.
+//! `exports`, `laws`; `batch_lines`, `batches`, `line_laws`.
 #![tactic(auto)]
 
 mod batch_lines;
@@ -28,14 +28,12 @@ mod imports;
 mod keeper_imports;
 pub mod laws;
 pub mod line_laws;
-mod lines_stop;
 mod part;
 mod progress;
 
 pub use batches::write_batches;
 pub use exports::export;
-pub use fault::{ExportFault, ImportFault, ImportStop};
+pub use fault::{ExportFault, ImportFault};
 pub use imports::{MAX_TEXT, import_batch};
 pub use keeper_imports::{apply_import, import};
-pub use lines_stop::LinesStop;
 pub use progress::Progress;

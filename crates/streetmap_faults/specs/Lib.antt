@@ -1,2 +1,2 @@
+pub mod Reports
 pub mod ProgramFaults
-pub mod Sentences

@@ -1,24 +1,9 @@
--- The faults that may end the answering of lines: their names and sentences, and those
--- of each part.
-use Rattle.std.specs.Prelude.{◌⊎◌, ⊤, ℕ, List, codes}
+-- The faults that may end the answering of lines, by its parts.
+use Rattle.std.specs.Prelude.{◌⊎◌, ⊤}
 use Rattle.streetmap_lines.specs.declared.fault.LinesFault.{LinesFault}
 use Rattle.streetmap_lines.specs.declared.fault.LinesFault.TheVariants.{LineTooLong, ReadFailed}
 use Rattle.streetmap_lines.specs.declared.fault.LinesFault.TheVariants.{WriteFailed}
 use Rattle.streetmap_lines.specs.declared.fault.LinesFault.TheVariants.{FlushFailed, Memory}
-
-unfoldable pub code_of : LinesFault → List ℕ
-code_of LineTooLong = codes "line_too_long"
-code_of ReadFailed = codes "read_failed"
-code_of WriteFailed = codes "write_failed"
-code_of FlushFailed = codes "write_failed"
-code_of Memory = codes "memory"
-
-unfoldable pub description_of : LinesFault → List ℕ
-description_of LineTooLong = codes "A line has more than 8388608 bytes."
-description_of ReadFailed = codes "The input could not be read."
-description_of WriteFailed = codes "An answer could not be written."
-description_of FlushFailed = codes "An answer could not be written."
-description_of Memory = codes "Memory was refused; the call may be made again."
 
 -- the faults of a write: memory runs out, or the write fails
 abbrev pub IsWriteFault : LinesFault → Type 0

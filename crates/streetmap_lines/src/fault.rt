@@ -1,6 +1,5 @@
 //! Why lines are not answered to the end.
 ghost use Rattle.std.specs.Prelude.{◌≡◌, ◌≢◌};
-ghost use Rattle.streetmap_lines.specs.Faults.{code_of, description_of};
 ghost use Rattle.streetmap_lines.specs.Faults.{IsLineFault, IsWriteFault, IsFlushFault};
 
 use std::alloc::AllocError;
@@ -22,32 +21,6 @@ pub enum LinesFault {
 }
 
 impl LinesFault {
-    /// Its name.
-    #[tactic(auto, unfolding(crate::specs::Faults::code_of))]
-    pub fn code(&self) -> &'static str
-        ensures { result.now ≡ code_of self.now }
-    {
-        match self {
-            LinesFault::LineTooLong => "line_too_long",
-            LinesFault::ReadFailed => "read_failed",
-            LinesFault::WriteFailed | LinesFault::FlushFailed => "write_failed",
-            LinesFault::Memory => "memory",
-        }
-    }
-
-    /// A sentence on it.
-    #[tactic(auto, unfolding(crate::specs::Faults::description_of))]
-    pub fn description(&self) -> &'static str
-        ensures { result.now ≡ description_of self.now }
-    {
-        match self {
-            LinesFault::LineTooLong => "A line has more than 8388608 bytes.",
-            LinesFault::ReadFailed => "The input could not be read.",
-            LinesFault::WriteFailed | LinesFault::FlushFailed => "An answer could not be written.",
-            LinesFault::Memory => "Memory was refused; the call may be made again.",
-        }
-    }
-
     /// The fault of a line that was not read.
     pub(crate) fn of_line(fault: LineFault) -> LinesFault
         ensures fault { IsLineFault result }

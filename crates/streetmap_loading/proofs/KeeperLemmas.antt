@@ -17,22 +17,19 @@ use Rattle.streetmap_ledger.specs.declared.reply.Fault.{Fault}
 use Rattle.streetmap_ledger.specs.declared.reply.Fault.TheVariants as faults
 use Rattle.streetmap_ledger.specs.declared.reply.Reply.{Reply}
 use Rattle.streetmap_ledger.specs.declared.reply.Reply.TheVariants as replies
-use Rattle.streetmap_loading.specs.Places.{PlacedValue, places_of}
+use Rattle.streetmap_loading.specs.Places.{PlacedValue, places_of, text_place}
 use Rattle.streetmap_loading.specs.Sources.{Item, TakesOff, HasNoItem}
 use Rattle.streetmap_loading.specs.Sinks.{SinkTakesAll}
-use Rattle.streetmap_loading.specs.Ends.{EndsAt, EndsWithinBatch, ByEnd, end_of_stop}
+use Rattle.streetmap_loading.specs.Ends.{EndsAt, EndsWithinBatch, ByEnd, placed_fault}
 use Rattle.streetmap_loading.specs.Loads.{Loads, AreTakenOff, ItemsBeginWith, items_of}
 use Rattle.streetmap_loading.specs.AppliedBatches.{Applies, taken_of}
 use Rattle.streetmap_loading.specs.KeeperLoads.{keeper_fault, AreRead, AreAcknowledged, serial_of}
 use Rattle.streetmap_loading.specs.KeeperLoads.{last_serial, StopsAt, EndsAtBatch}
 use Rattle.streetmap_loading.specs.KeeperLoads.{LeavesUnsent, EndsIn, LoadsTo}
 use Rattle.streetmap_loading.specs.declared.keeper_sink.KeeperSink.{KeeperSink}
-use Rattle.streetmap_loading.specs.declared.sink.Stop.{Stop}
-use Rattle.streetmap_loading.specs.declared.sink.Stop.TheVariants as stops
-use Rattle.streetmap_loading.specs.declared.end.Loaded.{Loaded}
-use Rattle.streetmap_loading.specs.declared.end.End.{End}
-use Rattle.streetmap_loading.specs.declared.end.End.TheVariants.{All, AtFault, ReadFailed, Memory}
-use Rattle.streetmap_loading.specs.declared.end.End.TheVariants.{Refused, Stopped, WriteFailed}
+use Rattle.streetmap_loading.specs.declared.loaded.Loaded.{Loaded}
+use Rattle.streetmap_loading.specs.declared.load_fault.LoadFault.{LoadFault}
+use Rattle.streetmap_loading.specs.declared.load_fault.LoadFault.TheVariants.{BadKey, BadCount, BadBatch, AtFault, ReadFailed, Memory, Refused, Stopped, WriteFailed}
 
 -- the items that were read, without what is left of the source
 begins_known : (items : List Item) (xs : List Item) → ItemsBeginWith (Some items) xs →
@@ -53,20 +50,23 @@ fault_known : (items : List Item) (xs : List Item) (e : Item) →
     ItemsBeginWith (Some items) (xs ++ e ∷ []) → (rest : List Item) × (items ≡ xs ++ e ∷ rest)
 fault_known items xs e h = (h.0, h.1 ∙ append_assoc xs (e ∷ []) h.0)
 
-pub is_read : (old new : Option (List Item)) (read : List PlacedValue) (end : End) →
-    AreTakenOff old new read end → AreRead old read end
-is_read None new read end are = tt
-is_read (Some items) new read All are = all_known items new (items_of read) are.0 are.1
-is_read (Some items) new read (AtFault fault) are = fault_known items (items_of read) (Err fault)
+pub is_read : (old new : Option (List Item)) (read : List PlacedValue) (why : Option LoadFault) →
+    AreTakenOff old new read why → AreRead old read why
+is_read None new read why are = tt
+is_read (Some items) new read None are = all_known items new (items_of read) are.0 are.1
+is_read (Some items) new read (Some (AtFault fault)) are = fault_known items (items_of read) (Err fault)
     are
-is_read (Some items) new read ReadFailed are = are
-is_read (Some items) new read Memory are = are
-is_read (Some items) new read (Refused why place) are = off_known items new (items_of read) are
-is_read (Some items) new read (Stopped fault) are = off_known items new (items_of read) are
-is_read (Some items) new read WriteFailed are = off_known items new (items_of read) are
+is_read (Some items) new read (Some ReadFailed) are = are
+is_read (Some items) new read (Some Memory) are = are
+is_read (Some items) new read (Some (Refused why place)) are = off_known items new (items_of read) are
+is_read (Some items) new read (Some (Stopped fault)) are = off_known items new (items_of read) are
+is_read (Some items) new read (Some WriteFailed) are = off_known items new (items_of read) are
+is_read (Some items) new read (Some BadKey) are = off_known items new (items_of read) are
+is_read (Some items) new read (Some BadCount) are = off_known items new (items_of read) are
+is_read (Some items) new read (Some BadBatch) are = off_known items new (items_of read) are
 
 module _ {S K : Type 0} (keeper : S → K) (model : Model K) where
-  abbrev pub takes : S → BatchValue → Result (Option ℕ) Stop → S → Type 0
+  abbrev pub takes : S → BatchValue → Result (Option ℕ) LoadFault → S → Type 0
   takes old b result new = Applies model (keeper old) b result (keeper new)
 
   -- ---- one batch
@@ -157,30 +157,37 @@ module _ {S K : Type 0} (keeper : S → K) (model : Model K) where
   fault_shuts faults.Reopen old new shuts = shuts
 
   stop_shuts :
-      (placed : List (Option ℕ)) (stop : Stop) (reply : Result Reply Fault)
+      (placed : List (Option ℕ)) (stop : LoadFault) (reply : Result Reply Fault)
       (old new : Option Cause) →
       Err stop ≡ taken_of reply → ShutsBy reply old new →
-      RunShuts (keeper_fault (end_of_stop placed stop)) old new
+      RunShuts (keeper_fault (Some (placed_fault placed stop))) old new
   stop_shuts placed stop (Ok (replies.Accepted counts n)) old new is shuts = cc
   stop_shuts placed stop (Ok (replies.Repeated counts n)) old new is shuts = cc
   stop_shuts placed stop (Ok (replies.Refused why place)) old new is shuts =
-      let e : stop ≡ stops.Refused why place = cc in
-      subst (λ (x : Stop). RunShuts (keeper_fault (end_of_stop placed x)) old new) (sym e)
+      let e : stop ≡ Refused why place = cc in
+      subst (λ (x : LoadFault). RunShuts (keeper_fault (Some (placed_fault placed x))) old new) (sym e)
       (shuts.1 ∙ sym shuts.0)
   stop_shuts placed stop (Err fault) old new is shuts =
-      let e : stop ≡ stops.Stopped fault = cc in
-      subst (λ (x : Stop). RunShuts (keeper_fault (end_of_stop placed x)) old new) (sym e)
+      let e : stop ≡ Stopped fault = cc in
+      subst (λ (x : LoadFault). RunShuts (keeper_fault (Some (placed_fault placed x))) old new) (sym e)
       (fault_shuts fault old new shuts)
 
+  same_fault : (f g : Fault) → Stopped f ≡ Stopped g → g ≡ f
+  same_fault f g e = cc
+
   reply_is :
-      (placed : List (Option ℕ)) (stop : Stop) (reply : Result Reply Fault) (fault : Fault) →
-      Stopped fault ≡ end_of_stop placed stop → Err stop ≡ taken_of reply → reply ≡ Err fault
-  reply_is placed (stops.Refused why place) reply fault e is = cc
-  reply_is placed (stops.Stopped f) (Ok (replies.Accepted counts n)) fault e is = cc
-  reply_is placed (stops.Stopped f) (Ok (replies.Repeated counts n)) fault e is = cc
-  reply_is placed (stops.Stopped f) (Ok (replies.Refused why place)) fault e is = cc
-  reply_is placed (stops.Stopped f) (Err g) fault e is = let same : g ≡ fault = cc in ap Err same
-  reply_is placed stops.WriteFailed reply fault e is = cc
+      (placed : List (Option ℕ)) (stop : LoadFault) (reply : Result Reply Fault) (fault : Fault) →
+      Stopped fault ≡ placed_fault placed stop → Err stop ≡ taken_of reply → reply ≡ Err fault
+  reply_is placed stop (Ok (replies.Accepted counts n)) fault e is = cc
+  reply_is placed stop (Ok (replies.Repeated counts n)) fault e is = cc
+  reply_is placed stop (Ok (replies.Refused why place)) fault e is =
+      let same : stop ≡ Refused why place = cc in
+      let other : Stopped fault ≡ Refused why (text_place placed place) =
+      e ∙ ap (placed_fault placed) same in
+      cc
+  reply_is placed stop (Err g) fault e is =
+      let same : stop ≡ Stopped g = cc in
+      ap Err (same_fault fault g (e ∙ ap (placed_fault placed) same))
 
   none_some : {P : Type 0} (c : Option Cause) → c ≡ None → IsSome c → P
   none_some None none some = cc
@@ -208,16 +215,19 @@ module _ {S K : Type 0} (keeper : S → K) (model : Model K) where
 
     -- ---- the keeper after the batches that were taken was clean
 
-    clean_mid : model.is_clean (keeper last) → (end : End) →
-        ByEnd takes each key it.read it.ends.sent it.ends.mid last end →
+    clean_mid : model.is_clean (keeper last) → (why : Option LoadFault) →
+        ByEnd takes each key it.read it.ends.sent it.ends.mid last why →
         model.is_clean (keeper it.ends.mid)
-    clean_mid clean All e = subst (λ (x : S). model.is_clean (keeper x)) e.1 clean
-    clean_mid clean (AtFault fault) e = subst (λ (x : S). model.is_clean (keeper x)) e.0.still clean
-    clean_mid clean ReadFailed e = subst (λ (x : S). model.is_clean (keeper x)) e.still clean
-    clean_mid clean Memory e = subst (λ (x : S). model.is_clean (keeper x)) e.still clean
-    clean_mid clean (Refused why place) e = e.refused.write.call.began_clean clean
-    clean_mid clean (Stopped fault) e = e.refused.write.call.began_clean clean
-    clean_mid clean WriteFailed e = e.refused.write.call.began_clean clean
+    clean_mid clean None e = subst (λ (x : S). model.is_clean (keeper x)) e.1 clean
+    clean_mid clean (Some (AtFault fault)) e = subst (λ (x : S). model.is_clean (keeper x)) e.0.still clean
+    clean_mid clean (Some ReadFailed) e = subst (λ (x : S). model.is_clean (keeper x)) e.still clean
+    clean_mid clean (Some Memory) e = subst (λ (x : S). model.is_clean (keeper x)) e.still clean
+    clean_mid clean (Some (Refused why place)) e = e.refused.write.call.began_clean clean
+    clean_mid clean (Some (Stopped fault)) e = e.refused.write.call.began_clean clean
+    clean_mid clean (Some WriteFailed) e = e.refused.write.call.began_clean clean
+    clean_mid clean (Some BadKey) e = absurd e
+    clean_mid clean (Some BadCount) e = absurd e
+    clean_mid clean (Some BadBatch) e = absurd e
 
     -- ---- a keeper that represented a state
 
@@ -227,7 +237,7 @@ module _ {S K : Type 0} (keeper : S → K) (model : Model K) where
       t = after_all s it.ends.sent
 
       all : TookAll s it.ends.mid None it.ends.sent loaded.serial
-      all = took_all s first None it.ends.sent it.ends.mid loaded.serial it.ends.all (clean_mid clean loaded.end it.ends.ends) h
+      all = took_all s first None it.ends.sent it.ends.mid loaded.serial it.ends.all (clean_mid clean loaded.fault it.ends.ends) h
 
       still_represents : last ≡ it.ends.mid → model.represents (keeper last) t
       still_represents still = subst (λ (x : S). model.represents (keeper x) t) (sym still) all.represents
@@ -244,39 +254,29 @@ module _ {S K : Type 0} (keeper : S → K) (model : Model K) where
 
       -- a batch was refused or not answered
       stops_by :
-          (placed : List PlacedValue) (b : BatchValue) (stop : Stop) (reply : Result Reply Fault)
+          (placed : List PlacedValue) (b : BatchValue) (stop : LoadFault) (reply : Result Reply Fault)
           → Err stop ≡ taken_of reply → model.preserves (keeper it.ends.mid) (keeper last) →
           Writes model (keeper it.ends.mid) (keeper last) t b reply →
           ((why : Refusal) (place : Option ℕ) → reply ≡ Ok (replies.Refused why place) →
           (act t b).state ≡ t) →
           StopsAt model (keeper first) (keeper last) t placed b
-          (end_of_stop (take (length b.edits) (places_of placed)) stop)
-      stops_by placed b (stops.Refused why place) (Ok (replies.Accepted counts n)) is preserved w same = cc
-      stops_by placed b (stops.Refused why place) (Ok (replies.Repeated counts n)) is preserved w same = cc
-      stops_by placed b (stops.Refused why place) (Ok (replies.Refused reason inner)) is preserved w same =
-          let why_is : why ≡ reason = cc in
-          let place_is : place ≡ inner = cc in (
-            place,
-            sym w.0 ∙ (ap (λ x. replies.Refused x inner) (sym why_is) ∙ ap (λ x. replies.Refused why x) (sym place_is)),
-            refl,
-            subst (λ (x : State). model.represents (keeper last) x) (same reason inner refl) w.1,
-          )
-      stops_by placed b (stops.Refused why place) (Err fault) is preserved w same = cc
-      stops_by placed b (stops.Stopped fault) (Ok (replies.Accepted counts n)) is preserved w same = cc
-      stops_by placed b (stops.Stopped fault) (Ok (replies.Repeated counts n)) is preserved w same = cc
-      stops_by placed b (stops.Stopped fault) (Ok (replies.Refused why place)) is preserved w same = cc
-      stops_by placed b (stops.Stopped fault) (Err found) is preserved w same =
-          let e : found ≡ fault = cc in
-          by_fault placed b fault preserved
-          (subst (λ (x : Fault). Writes model (keeper it.ends.mid) (keeper last) t b (Err x)) e w)
-      stops_by placed b stops.WriteFailed (Ok (replies.Accepted counts n)) is preserved w same = cc
-      stops_by placed b stops.WriteFailed (Ok (replies.Repeated counts n)) is preserved w same = cc
-      stops_by placed b stops.WriteFailed (Ok (replies.Refused why place)) is preserved w same = cc
-      stops_by placed b stops.WriteFailed (Err found) is preserved w same = cc
+          (placed_fault (take (length b.edits) (places_of placed)) stop)
+      stops_by placed b stop (Ok (replies.Accepted counts n)) is preserved w same = cc
+      stops_by placed b stop (Ok (replies.Repeated counts n)) is preserved w same = cc
+      stops_by placed b stop (Ok (replies.Refused why place)) is preserved w same =
+          let e : stop ≡ Refused why place = cc in
+          subst (λ (x : LoadFault). StopsAt model (keeper first) (keeper last) t placed b
+          (placed_fault (take (length b.edits) (places_of placed)) x)) (sym e)
+          (place, sym w.0, refl, subst (λ (x : State). model.represents (keeper last) x) (same why place refl) w.1)
+      stops_by placed b stop (Err found) is preserved w same =
+          let e : stop ≡ Stopped found = cc in
+          subst (λ (x : LoadFault). StopsAt model (keeper first) (keeper last) t placed b
+          (placed_fault (take (length b.edits) (places_of placed)) x)) (sym e)
+          (by_fault placed b found preserved w)
 
-      ends_at : (end : End) → EndsAt takes each key it.read it.ends.sent it.ends.mid last end →
-          EndsAtBatch model (keeper first) (keeper last) each key it.read it.ends.sent t end
-      ends_at end e =
+      ends_at : (fault : LoadFault) → EndsAt takes each key it.read it.ends.sent it.ends.mid last fault →
+          EndsAtBatch model (keeper first) (keeper last) each key it.read it.ends.sent t fault
+      ends_at fault e =
           let w = e.refused.write.writes clean t all.represents in
           record {
             rest = e.left;
@@ -284,7 +284,7 @@ module _ {S K : Type 0} (keeper : S → K) (model : Model K) where
             batch = e.batch;
             next = e.next;
             stops = subst
-                (λ (x : End). StopsAt model (keeper first) (keeper last) t e.left e.batch x) (sym e.reported)
+                (λ (x : LoadFault). StopsAt model (keeper first) (keeper last) t e.left e.batch x) (sym e.reported)
                 (stops_by e.left e.batch e.stop e.refused.reply e.refused.is e.refused.write.call.preserved w
                 (λ why place is.
                 (refused_changes_nothing t e.batch why place
@@ -295,27 +295,30 @@ module _ {S K : Type 0} (keeper : S → K) (model : Model K) where
           LeavesUnsent model (keeper first) (keeper last) each key it.read it.ends.sent t
       within e = record { rest = e.left; are_left = e.are_left; represents = still_represents e.still }
 
-      ends_in : (end : End) → ByEnd takes each key it.read it.ends.sent it.ends.mid last end →
-          EndsIn model (keeper first) (keeper last) each key it.read it.ends.sent t end
-      ends_in All e = (e.0, still_represents e.1)
-      ends_in (AtFault fault) e = (within e.0, e.1)
-      ends_in ReadFailed e = within e
-      ends_in Memory e = within e
-      ends_in (Refused why place) e = ends_at (Refused why place) e
-      ends_in (Stopped fault) e = ends_at (Stopped fault) e
-      ends_in WriteFailed e = (ends_at WriteFailed e).stops
+      ends_in : (why : Option LoadFault) → ByEnd takes each key it.read it.ends.sent it.ends.mid last why →
+          EndsIn model (keeper first) (keeper last) each key it.read it.ends.sent t why
+      ends_in None e = (e.0, still_represents e.1)
+      ends_in (Some (AtFault fault)) e = (within e.0, e.1)
+      ends_in (Some ReadFailed) e = within e
+      ends_in (Some Memory) e = within e
+      ends_in (Some (Refused why place)) e = ends_at (Refused why place) e
+      ends_in (Some (Stopped fault)) e = ends_at (Stopped fault) e
+      ends_in (Some WriteFailed) e = (ends_at WriteFailed e).stops
+      ends_in (Some BadKey) e = e
+      ends_in (Some BadCount) e = e
+      ends_in (Some BadBatch) e = e
 
       pub loads_to : LoadsTo model (keeper first) (keeper last) s each key old loaded
       loads_to = record {
         read = it.read;
         counted = it.counted;
-        is = is_read old new it.read loaded.end it.are;
+        is = is_read old new it.read loaded.fault it.are;
         sent = it.ends.sent;
         batches = it.ends.counted;
         taken = it.ends.held;
         acknowledged = all.acknowledged;
         serial = all.serial_is;
-        ends = ends_in loaded.end it.ends.ends;
+        ends = ends_in loaded.fault it.ends.ends;
       }
 
     -- ---- any keeper
@@ -326,33 +329,39 @@ module _ {S K : Type 0} (keeper : S → K) (model : Model K) where
     still_shuts : last ≡ it.ends.mid → model.cause (keeper last) ≡ model.cause (keeper first)
     still_shuts still = ap (λ (x : S). model.cause (keeper x)) still ∙ kept
 
-    at_shuts : (end : End) → EndsAt takes each key it.read it.ends.sent it.ends.mid last end →
-        RunShuts (keeper_fault end) (model.cause (keeper first)) (model.cause (keeper last))
-    at_shuts end e =
-        subst (λ (x : Option Cause). RunShuts (keeper_fault end) x (model.cause (keeper last))) kept
-        (subst (λ (x : End). RunShuts (keeper_fault x) (model.cause (keeper it.ends.mid)) (model.cause (keeper last))) (sym e.reported)
+    at_shuts : (fault : LoadFault) → EndsAt takes each key it.read it.ends.sent it.ends.mid last fault →
+        RunShuts (keeper_fault (Some fault)) (model.cause (keeper first)) (model.cause (keeper last))
+    at_shuts fault e =
+        subst (λ (x : Option Cause). RunShuts (keeper_fault (Some fault)) x (model.cause (keeper last))) kept
+        (subst (λ (x : LoadFault). RunShuts (keeper_fault (Some x)) (model.cause (keeper it.ends.mid)) (model.cause (keeper last))) (sym e.reported)
         (stop_shuts (take (length e.batch.edits) (places_of e.left)) e.stop e.refused.reply
         (model.cause (keeper it.ends.mid)) (model.cause (keeper last)) e.refused.is e.refused.write.call.faults))
 
-    shuts_by : (end : End) → ByEnd takes each key it.read it.ends.sent it.ends.mid last end →
-        RunShuts (keeper_fault end) (model.cause (keeper first)) (model.cause (keeper last))
-    shuts_by All e = still_shuts e.1
-    shuts_by (AtFault fault) e = still_shuts e.0.still
-    shuts_by ReadFailed e = still_shuts e.still
-    shuts_by Memory e = still_shuts e.still
-    shuts_by (Refused why place) e = at_shuts (Refused why place) e
-    shuts_by (Stopped fault) e = at_shuts (Stopped fault) e
-    shuts_by WriteFailed e = at_shuts WriteFailed e
+    shuts_by : (why : Option LoadFault) → ByEnd takes each key it.read it.ends.sent it.ends.mid last why →
+        RunShuts (keeper_fault why) (model.cause (keeper first)) (model.cause (keeper last))
+    shuts_by None e = still_shuts e.1
+    shuts_by (Some (AtFault fault)) e = still_shuts e.0.still
+    shuts_by (Some ReadFailed) e = still_shuts e.still
+    shuts_by (Some Memory) e = still_shuts e.still
+    shuts_by (Some (Refused why place)) e = at_shuts (Refused why place) e
+    shuts_by (Some (Stopped fault)) e = at_shuts (Stopped fault) e
+    shuts_by (Some WriteFailed) e = at_shuts WriteFailed e
+    shuts_by (Some BadKey) e = absurd e
+    shuts_by (Some BadCount) e = absurd e
+    shuts_by (Some BadBatch) e = absurd e
 
-    preserves_by : (end : End) → ByEnd takes each key it.read it.ends.sent it.ends.mid last end →
+    preserves_by : (why : Option LoadFault) → ByEnd takes each key it.read it.ends.sent it.ends.mid last why →
         model.preserves (keeper first) (keeper last)
-    preserves_by All e = preserves_still e.1
-    preserves_by (AtFault fault) e = preserves_still e.0.still
-    preserves_by ReadFailed e = preserves_still e.still
-    preserves_by Memory e = preserves_still e.still
-    preserves_by (Refused why place) e = model.preserves_then (keeper first) (keeper it.ends.mid) (keeper last) preserves_mid e.refused.write.call.preserved
-    preserves_by (Stopped fault) e = model.preserves_then (keeper first) (keeper it.ends.mid) (keeper last) preserves_mid e.refused.write.call.preserved
-    preserves_by WriteFailed e = model.preserves_then (keeper first) (keeper it.ends.mid) (keeper last) preserves_mid e.refused.write.call.preserved
+    preserves_by None e = preserves_still e.1
+    preserves_by (Some (AtFault fault)) e = preserves_still e.0.still
+    preserves_by (Some ReadFailed) e = preserves_still e.still
+    preserves_by (Some Memory) e = preserves_still e.still
+    preserves_by (Some (Refused why place)) e = model.preserves_then (keeper first) (keeper it.ends.mid) (keeper last) preserves_mid e.refused.write.call.preserved
+    preserves_by (Some (Stopped fault)) e = model.preserves_then (keeper first) (keeper it.ends.mid) (keeper last) preserves_mid e.refused.write.call.preserved
+    preserves_by (Some WriteFailed) e = model.preserves_then (keeper first) (keeper it.ends.mid) (keeper last) preserves_mid e.refused.write.call.preserved
+    preserves_by (Some BadKey) e = absurd e
+    preserves_by (Some BadCount) e = absurd e
+    preserves_by (Some BadBatch) e = absurd e
 
     -- a keeper that was shut before took no batch
     reopened : (sent : List BatchValue) (mid : S) (serial : Option ℕ) →
@@ -365,32 +374,35 @@ module _ {S K : Type 0} (keeper : S → K) (model : Model K) where
         let one = open_one b first all.0 all.1 all.2 in
         none_some (model.cause (keeper mid)) (cause_kept all.0 all.1 bs mid serial all.3 ∙ one.1) some
 
-    reopen_at : (end : End) → end ≡ Stopped faults.Reopen →
-        EndsAt takes each key it.read it.ends.sent it.ends.mid last end →
+    reopen_at : (fault : LoadFault) → fault ≡ Stopped faults.Reopen →
+        EndsAt takes each key it.read it.ends.sent it.ends.mid last fault →
         LeavesSame (model.may_leave (keeper first)) (model.may_leave (keeper last))
-    reopen_at end is e =
+    reopen_at fault is e =
         let reply = reply_is (take (length e.batch.edits) (places_of e.left)) e.stop e.refused.reply faults.Reopen (sym is ∙ e.reported) e.refused.is in
         let shut = subst (λ (x : Result Reply Fault). ShutsBy x (model.cause (keeper it.ends.mid)) (model.cause (keeper last))) reply e.refused.write.call.faults in
         reopened it.ends.sent it.ends.mid loaded.serial it.ends.all shut.0
         (e.refused.write.call.reopen
         (subst (λ (x : Result Reply Fault). IsErrOf x faults.Reopen) (sym reply) refl))
 
-    end_is : (end : End) (fault : Fault) → keeper_fault end ≡ Some fault → end ≡ Stopped fault
-    end_is All fault is = cc
-    end_is (AtFault f) fault is = cc
-    end_is ReadFailed fault is = cc
-    end_is Memory fault is = cc
-    end_is (Refused why place) fault is = cc
-    end_is (Stopped f) fault is = let same : f ≡ fault = cc in ap Stopped same
-    end_is WriteFailed fault is = cc
+    end_is : (why : Option LoadFault) (fault : Fault) → keeper_fault why ≡ Some fault → why ≡ Some (Stopped fault)
+    end_is (Some (Stopped f)) fault is = let same : f ≡ fault = cc in ap (λ x. Some (Stopped x)) same
+    end_is None fault is = cc
+    end_is (Some (AtFault f)) fault is = cc
+    end_is (Some ReadFailed) fault is = cc
+    end_is (Some Memory) fault is = cc
+    end_is (Some (Refused why place)) fault is = cc
+    end_is (Some WriteFailed) fault is = cc
+    end_is (Some BadKey) fault is = cc
+    end_is (Some BadCount) fault is = cc
+    end_is (Some BadBatch) fault is = cc
 
-    pub are_calls : AreCalls model (keeper first) (keeper last) (keeper_fault loaded.end)
+    pub are_calls : AreCalls model (keeper first) (keeper last) (keeper_fault loaded.fault)
     are_calls = record {
-      preserved = preserves_by loaded.end it.ends.ends;
-      began_clean = λ clean. clean_all first None it.ends.sent it.ends.mid loaded.serial it.ends.all (clean_mid clean loaded.end it.ends.ends);
-      faults = shuts_by loaded.end it.ends.ends;
+      preserved = preserves_by loaded.fault it.ends.ends;
+      began_clean = λ clean. clean_all first None it.ends.sent it.ends.mid loaded.serial it.ends.all (clean_mid clean loaded.fault it.ends.ends);
+      faults = shuts_by loaded.fault it.ends.ends;
       reopen = λ is. reopen_at (Stopped faults.Reopen) refl
-          (subst (λ (x : End). ByEnd takes each key it.read it.ends.sent it.ends.mid last x) (end_is loaded.end faults.Reopen is) it.ends.ends);
+          (subst (λ (x : Option LoadFault). ByEnd takes each key it.read it.ends.sent it.ends.mid last x) (end_is loaded.fault faults.Reopen is) it.ends.ends);
     }
 
 -- the keeper of a sink

@@ -1,5 +1,5 @@
 -- Batches that were written, or dropped.
-use Rattle.std.proofs.Common.{◌≡◌, ℕ, List, [], ◌∷◌, Option, None, Result, Ok, Err, length}
+use Rattle.std.proofs.Common.{◌≡◌, ℕ, List, [], ◌∷◌, Option, None, Some, Result, Ok, Err, length}
 use Rattle.std.proofs.Common.{take, refl, sym, subst}
 use Rattle.std.proofs.KnownBytes.{Appends-nil, Appends-trans}
 use Rattle.std.specs.Io.KnownBytes.{Appends}
@@ -8,21 +8,30 @@ use Rattle.streetmap_batch.specs.BatchValue.{BatchValue}
 use Rattle.streetmap_loading.specs.Places.{places_of}
 use Rattle.streetmap_loading.specs.Sources.{Item}
 use Rattle.streetmap_loading.specs.Sinks.{SinkTakesAll}
-use Rattle.streetmap_loading.specs.Ends.{ByEnd, EndsAt, EndsWithinBatch, end_of_stop}
+use Rattle.streetmap_loading.specs.Ends.{ByEnd, EndsAt, EndsWithinBatch, IsOfBatch, placed_fault}
 use Rattle.streetmap_loading.specs.Loads.{Loads}
 use Rattle.streetmap_loading.specs.CheckedTexts.{IsOfText}
-use Rattle.streetmap_loading.specs.Prints.{line_of, IsWriteStop, Prints}
+use Rattle.streetmap_loading.specs.Prints.{line_of, IsOfWrite, Prints}
 use Rattle.streetmap_loading.specs.TextPrints.{lines_of, PrintsBefore, PrintsInto, PrintsBy}
-use Rattle.streetmap_loading.specs.declared.sink.Stop.{Stop}
-use Rattle.streetmap_loading.specs.declared.sink.Stop.TheVariants as stops
-use Rattle.streetmap_loading.specs.declared.end.Loaded.{Loaded}
-use Rattle.streetmap_loading.specs.declared.end.End.{End}
-use Rattle.streetmap_loading.specs.declared.end.End.TheVariants.{All, AtFault, ReadFailed, Memory}
-use Rattle.streetmap_loading.specs.declared.end.End.TheVariants.{Refused, Stopped, WriteFailed}
+use Rattle.streetmap_loading.specs.declared.loaded.Loaded.{Loaded}
+use Rattle.streetmap_loading.specs.declared.load_fault.LoadFault.{LoadFault}
+use Rattle.streetmap_loading.specs.declared.load_fault.LoadFault.TheVariants.{BadKey, BadCount, BadBatch, AtFault, ReadFailed, Memory, Refused, Stopped, WriteFailed}
 use Rattle.streetmap_text_lines.proofs.WriteLemmas.{beginning_after}
 
+-- a write that failed
+pub write_of_batch : (fault : LoadFault) → IsOfWrite fault → IsOfBatch fault
+write_of_batch (Stopped fault) is = tt
+write_of_batch WriteFailed is = tt
+write_of_batch (Refused why place) is = absurd is
+write_of_batch (AtFault fault) is = absurd is
+write_of_batch ReadFailed is = absurd is
+write_of_batch Memory is = absurd is
+write_of_batch BadKey is = absurd is
+write_of_batch BadCount is = absurd is
+write_of_batch BadBatch is = absurd is
+
 module _ {S : Type 0} (contents : S → Option (List ℕ)) where
-  abbrev pub prints : S → BatchValue → Result (Option ℕ) Stop → S → Type 0
+  abbrev pub prints : S → BatchValue → Result (Option ℕ) LoadFault → S → Type 0
   prints old b result new = Prints b result (contents old) (contents new)
 
   written_all :
@@ -50,9 +59,9 @@ module _ {S : Type 0} (contents : S → Option (List ℕ)) where
         PrintsBefore each key it.read it.ends.sent (contents first) (contents last)
     within e = record { rest = e.left; are_left = e.are_left; written = still e.still }
 
-    at_batch : (end : End) → EndsAt prints each key it.read it.ends.sent it.ends.mid last end →
+    at_batch : (fault : LoadFault) → EndsAt prints each key it.read it.ends.sent it.ends.mid last fault →
         PrintsInto each key it.read it.ends.sent (contents first) (contents last)
-    at_batch end e = record {
+    at_batch fault e = record {
       rest = e.left;
       are_left = e.are_left;
       batch = e.batch;
@@ -61,45 +70,57 @@ module _ {S : Type 0} (contents : S → Option (List ℕ)) where
           (lines_of it.ends.sent) (line_of e.batch) written e.refused.1;
     }
 
-    by_end : (end : End) → ByEnd prints each key it.read it.ends.sent it.ends.mid last end →
-        PrintsBy each key it.read it.ends.sent (contents first) (contents last) end
-    by_end All e = (e.0, still e.1)
-    by_end (AtFault fault) e = within e.0
-    by_end ReadFailed e = within e
-    by_end Memory e = within e
-    by_end (Refused why place) e = refused (take (length e.batch.edits) (places_of e.left)) e.stop
+    by_end : (why : Option LoadFault) → ByEnd prints each key it.read it.ends.sent it.ends.mid last why →
+        PrintsBy each key it.read it.ends.sent (contents first) (contents last) why
+    by_end None e = (e.0, still e.1)
+    by_end (Some (AtFault fault)) e = within e.0
+    by_end (Some ReadFailed) e = within e
+    by_end (Some Memory) e = within e
+    by_end (Some (Refused why place)) e = refused (take (length e.batch.edits) (places_of e.left)) e.stop
         e.refused.0 e.reported where
-          refused : {P : Type 0} (placed : List (Option ℕ)) (stop : Stop) → IsWriteStop stop →
-              Refused why place ≡ end_of_stop placed stop → P
-          refused placed (stops.Refused reason inner) h reported = absurd h
-          refused placed (stops.Stopped fault) h reported = cc
-          refused placed stops.WriteFailed h reported = cc
-    by_end (Stopped fault) e = at_batch (Stopped fault) e
-    by_end WriteFailed e = at_batch WriteFailed e
+          refused : {P : Type 0} (placed : List (Option ℕ)) (stop : LoadFault) → IsOfWrite stop →
+              Refused why place ≡ placed_fault placed stop → P
+          refused placed (Stopped fault) h reported = cc
+          refused placed WriteFailed h reported = cc
+          refused placed (Refused reason inner) h reported = absurd h
+          refused placed (AtFault fault) h reported = absurd h
+          refused placed ReadFailed h reported = absurd h
+          refused placed Memory h reported = absurd h
+          refused placed BadKey h reported = absurd h
+          refused placed BadCount h reported = absurd h
+          refused placed BadBatch h reported = absurd h
+    by_end (Some (Stopped fault)) e = at_batch (Stopped fault) e
+    by_end (Some WriteFailed) e = at_batch WriteFailed e
+    by_end (Some BadKey) e = e
+    by_end (Some BadCount) e = e
+    by_end (Some BadBatch) e = e
 
     pub prints_by :
-        PrintsBy each key it.read it.ends.sent (contents first) (contents last) loaded.end
-    prints_by = by_end loaded.end it.ends.ends
+        PrintsBy each key it.read it.ends.sent (contents first) (contents last) loaded.fault
+    prints_by = by_end loaded.fault it.ends.ends
 
-never : {P : Type 0} (stop : Stop) (result : Result (Option ℕ) Stop) → result ≡ Err stop →
+never : {P : Type 0} (stop : LoadFault) (result : Result (Option ℕ) LoadFault) → result ≡ Err stop →
     result ≡ Ok None → P
 never stop result e f = cc
 
 -- a load whose batches are all dropped does not end at a batch
 module _ {S : Type 0} where
-  abbrev pub lets_go : S → BatchValue → Result (Option ℕ) Stop → S → Type 0
+  abbrev pub lets_go : S → BatchValue → Result (Option ℕ) LoadFault → S → Type 0
   lets_go old b result new = result ≡ Ok None
 
   pub of_text :
       (each : ℕ) (key : Text) (first last : S) (old new : Option (List Item)) (loaded : Loaded) →
-      Loads lets_go each key first last old new loaded → IsOfText loaded.end
-  of_text each key first last old new loaded it = by loaded.end it.ends.ends where
-    by : (end : End) → ByEnd lets_go each key it.read it.ends.sent it.ends.mid last end →
-        IsOfText end
-    by All e = tt
-    by (AtFault fault) e = tt
-    by ReadFailed e = tt
-    by Memory e = tt
-    by (Refused why place) e = never e.stop (Err e.stop) refl e.refused
-    by (Stopped fault) e = never e.stop (Err e.stop) refl e.refused
-    by WriteFailed e = never e.stop (Err e.stop) refl e.refused
+      Loads lets_go each key first last old new loaded → IsOfText loaded.fault
+  of_text each key first last old new loaded it = by loaded.fault it.ends.ends where
+    by : (why : Option LoadFault) → ByEnd lets_go each key it.read it.ends.sent it.ends.mid last why →
+        IsOfText why
+    by None e = tt
+    by (Some (AtFault fault)) e = tt
+    by (Some ReadFailed) e = tt
+    by (Some Memory) e = tt
+    by (Some (Refused why place)) e = never e.stop (Err e.stop) refl e.refused
+    by (Some (Stopped fault)) e = never e.stop (Err e.stop) refl e.refused
+    by (Some WriteFailed) e = never e.stop (Err e.stop) refl e.refused
+    by (Some BadKey) e = e
+    by (Some BadCount) e = e
+    by (Some BadBatch) e = e

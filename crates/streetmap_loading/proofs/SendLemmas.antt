@@ -18,28 +18,16 @@ use Rattle.streetmap_packing.proofs.RunLemmas.{one_more}
 use Rattle.streetmap_packing.proofs.PackLemmas.{shorter}
 use Rattle.streetmap_loading.specs.Places.{PlacedValue, edits_of, places_of, text_place}
 use Rattle.streetmap_loading.specs.Sinks.{SinkTakesAll}
-use Rattle.streetmap_loading.specs.Ends.{AreLeft, IsNext, ByEnd, EndsBy, end_of_stop}
-use Rattle.streetmap_loading.specs.LoadProgress.{IsSending, Sends, SendsWhenFull, TakesEdit, EndsAtEdit, EndsAtOrAfterEdit}
+use Rattle.streetmap_loading.specs.Ends.{AreLeft, IsNext, ByEnd, EndsBy, IsOfBatch, placed_fault}
+use Rattle.streetmap_loading.specs.LoadProgress.{IsSending, Sends, SendsWhenFull, TakesEdit, EndsAtEdit}
 use Rattle.streetmap_loading.specs.declared.progress.Sending.{Sending}
-use Rattle.streetmap_loading.specs.declared.sink.Stop.{Stop}
-use Rattle.streetmap_loading.specs.declared.sink.Stop.TheVariants as stops
 use Rattle.streetmap_loading.specs.declared.text_fault.TextFault.{TextFault}
-use Rattle.streetmap_loading.specs.declared.end.End.{End}
-use Rattle.streetmap_loading.specs.declared.end.End.TheVariants.{All, AtFault, ReadFailed, Memory}
-use Rattle.streetmap_loading.specs.declared.end.End.TheVariants.{Refused, Stopped, WriteFailed}
+use Rattle.streetmap_loading.specs.declared.load_fault.LoadFault.{LoadFault}
+use Rattle.streetmap_loading.specs.declared.load_fault.LoadFault.TheVariants.{BadKey, BadCount, BadBatch, AtFault, ReadFailed, Memory, Refused, Stopped, WriteFailed}
 use Rattle.streetmap_loading.proofs.Sent.{length-numbered, edits-numbered, edits_more, one_numbered}
 use Rattle.streetmap_loading.proofs.Sent.{edits_of_more, places_of_more, first_places, takes_more}
 
-within_after : (end : End) → EndsAtEdit end → EndsAtOrAfterEdit end
-within_after All h = tt
-within_after (AtFault fault) h = h
-within_after ReadFailed h = h
-within_after Memory h = h
-within_after (Refused why place) h = h
-within_after (Stopped fault) h = h
-within_after WriteFailed h = h
-
-module _ {S : Type 0} (takes : S → BatchValue → Result (Option ℕ) Stop → S → Type 0) (each : ℕ)
+module _ {S : Type 0} (takes : S → BatchValue → Result (Option ℕ) LoadFault → S → Type 0) (each : ℕ)
     (key : Text) (first : S) (read : List PlacedValue) (l : Sending) (now : S)
     (it : IsSending takes each key first read l now) where
   abbrev here : Packing
@@ -77,10 +65,10 @@ module _ {S : Type 0} (takes : S → BatchValue → Result (Option ℕ) Stop →
       }
 
   -- it ends with the batches that were sent
-  ends_here : (es : List PlacedValue) (last : S) (end : End) →
-      ByEnd takes each key es sent now last end →
-      EndsBy takes each key first last es l.batches l.taken l.serial end
-  ends_here es last end how = record {
+  ends_here : (es : List PlacedValue) (last : S) (why : Option LoadFault) →
+      ByEnd takes each key es sent now last why →
+      EndsBy takes each key first last es l.batches l.taken l.serial why
+  ends_here es last why how = record {
     sent = sent;
     mid = now;
     counted = long ∙ it.counted;
@@ -90,28 +78,28 @@ module _ {S : Type 0} (takes : S → BatchValue → Result (Option ℕ) Stop →
   }
 
   -- out of memory
-  pub ends_memory : EndsBy takes each key first now read l.batches l.taken l.serial Memory
-  ends_memory = ends_here read now Memory
+  pub ends_memory : EndsBy takes each key first now read l.batches l.taken l.serial (Some Memory)
+  ends_memory = ends_here read now (Some Memory)
       (record { left = it.left; are_left = left_now; still = refl })
 
   ends_memory_more : (p : PlacedValue) →
-      EndsBy takes each key first now (read ++ p ∷ []) l.batches l.taken l.serial Memory
-  ends_memory_more p = ends_here (read ++ p ∷ []) now Memory
+      EndsBy takes each key first now (read ++ p ∷ []) l.batches l.taken l.serial (Some Memory)
+  ends_memory_more p = ends_here (read ++ p ∷ []) now (Some Memory)
       (record { left = it.left ++ p ∷ []; are_left = left_more p; still = refl })
 
-  pub ends_unread : EndsBy takes each key first now read l.batches l.taken l.serial ReadFailed
-  ends_unread = ends_here read now ReadFailed
+  pub ends_unread : EndsBy takes each key first now read l.batches l.taken l.serial (Some ReadFailed)
+  ends_unread = ends_here read now (Some ReadFailed)
       (record { left = it.left; are_left = left_now; still = refl })
 
   -- at a fault, if the current batch is not full
   pub ends_at_fault : (fault : TextFault) → length (packing l.packer).edits < each →
-      EndsBy takes each key first now read l.batches l.taken l.serial (AtFault fault)
+      EndsBy takes each key first now read l.batches l.taken l.serial (Some (AtFault fault))
   ends_at_fault fault few =
       let short : length (edits_of it.left) < each = subst
       (λ (p : Packing). length p.edits < each)
       it.is few in
       let passing = it.underway.passing in
-      ends_here read now (AtFault fault) (
+      ends_here read now (Some (AtFault fault)) (
         record { left = it.left; are_left = left_now; still = refl },
         record {
           few = short;
@@ -129,66 +117,72 @@ module _ {S : Type 0} (takes : S → BatchValue → Result (Option ℕ) Stop →
   -- at the current batch
   stops_here : (es left ps : List PlacedValue) → AreLeft each key es sent left →
       left ≡ it.left ++ ps → IsNext key (1 + length sent) (edits_of left) batch →
-      (places : List (Option ℕ)) → places ≡ places_of it.left → (stop : Stop) (last : S) → takes
-      now
-      batch (Err stop) last →
-      EndsBy takes each key first last es l.batches l.taken l.serial (end_of_stop places stop) ×
-      EndsAtEdit (end_of_stop places stop)
-  stops_here es left ps are split next places places_are stop last took = by stop took where
-    front : places ≡ take (length (edits_of it.left)) (places_of left)
-    front = places_are ∙
-        (sym (first_places it.left ps) ∙ ap
-        (λ (t : List PlacedValue). take (length (edits_of it.left)) (places_of t)) (sym split))
+      (places : List (Option ℕ)) → places ≡ places_of it.left → (stop : LoadFault) (last : S) →
+      takes now batch (Err stop) last → IsOfBatch stop →
+      EndsBy takes each key first last es l.batches l.taken l.serial (Some (placed_fault places stop))
+      × EndsAtEdit (placed_fault places stop)
+  stops_here es left ps are split next places places_are stop last took of_batch =
+      by stop took of_batch where
+        front : places ≡ take (length (edits_of it.left)) (places_of left)
+        front = places_are ∙
+            (sym (first_places it.left ps) ∙ ap
+            (λ (t : List PlacedValue). take (length (edits_of it.left)) (places_of t)) (sym split))
 
-    reported : (s : Stop) →
-        end_of_stop places s ≡ end_of_stop (take (length (edits_of it.left)) (places_of left)) s
-    reported s = ap (λ t. end_of_stop t s) front
+        reported : (s : LoadFault) →
+            placed_fault places s ≡ placed_fault (take (length (edits_of it.left)) (places_of left)) s
+        reported s = ap (λ t. placed_fault t s) front
 
-    by : (s : Stop) → takes now batch (Err s) last →
-        EndsBy takes each key first last es l.batches l.taken l.serial (end_of_stop places s) ×
-        EndsAtEdit (end_of_stop places s)
-    by (stops.Refused why place) t = (
-      ends_here es last (Refused why (text_place places place))
-          (record {
-            left = left;
-            are_left = are;
-            batch = batch;
-            next = next;
-            stop = stops.Refused
-                why place;
-            refused = t;
-            reported = reported (stops.Refused why place);
-          }),
-      tt,
-    )
-    by (stops.Stopped fault) t = (
-      ends_here es last (Stopped fault)
-          (record {
-            left = left;
-            are_left = are;
-            batch = batch;
-            next = next;
-            stop = stops.Stopped
-                fault;
-            refused = t;
-            reported = reported (stops.Stopped fault);
-          }),
-      tt,
-    )
-    by stops.WriteFailed t = (
-      ends_here es last WriteFailed
-          (record {
-            left = left;
-            are_left = are;
-            batch = batch;
-            next = next;
-            stop =
-                stops.WriteFailed;
-            refused = t;
-            reported = reported stops.WriteFailed;
-          }),
-      tt,
-    )
+        by : (s : LoadFault) → takes now batch (Err s) last → IsOfBatch s →
+            EndsBy takes each key first last es l.batches l.taken l.serial (Some (placed_fault places s))
+            × EndsAtEdit (placed_fault places s)
+        by (Refused why place) t of = (
+          ends_here es last (Some (Refused why (text_place places place)))
+              (record {
+                left = left;
+                are_left = are;
+                batch = batch;
+                next = next;
+                stop = Refused why place;
+                refused = t;
+                of_batch = of;
+                reported = reported (Refused why place);
+              }),
+          tt,
+        )
+        by (Stopped fault) t of = (
+          ends_here es last (Some (Stopped fault))
+              (record {
+                left = left;
+                are_left = are;
+                batch = batch;
+                next = next;
+                stop = Stopped fault;
+                refused = t;
+                of_batch = of;
+                reported = reported (Stopped fault);
+              }),
+          tt,
+        )
+        by WriteFailed t of = (
+          ends_here es last (Some WriteFailed)
+              (record {
+                left = left;
+                are_left = are;
+                batch = batch;
+                next = next;
+                stop = WriteFailed;
+                refused = t;
+                of_batch = of;
+                reported = reported WriteFailed;
+              }),
+          tt,
+        )
+        by BadKey t of = absurd of
+        by BadCount t of = absurd of
+        by BadBatch t of = absurd of
+        by (AtFault fault) t of = absurd of
+        by ReadFailed t of = absurd of
+        by Memory t of = absurd of
 
   -- the current batch was taken
   goes_further :
@@ -227,13 +221,13 @@ module _ {S : Type 0} (takes : S → BatchValue → Result (Option ℕ) Stop →
 
   -- ---- an edit
 
-  pub put_memory : (p : PlacedValue) (result : Result (Unit {0}) End) (m : Sending) →
+  pub put_memory : (p : PlacedValue) (result : Result (Unit {0}) LoadFault) (m : Sending) →
       result ≡ Err Memory → m.batches ≡ l.batches → m.taken ≡ l.taken → m.serial ≡ l.serial →
       TakesEdit takes each key first read p result m now
   put_memory p result m e batches taken serial =
       let ended = ends_memory_more p in
       let moved : EndsBy takes each key first now (read ++ p ∷ []) m.batches m.taken m.serial
-      Memory
+      (Some Memory)
       =
       record {
         sent = ended.sent;
@@ -245,7 +239,7 @@ module _ {S : Type 0} (takes : S → BatchValue → Result (Option ℕ) Stop →
             (sym serial) ended.all;
         ends = ended.ends;
       } in
-      subst (λ (r : Result (Unit {0}) End). TakesEdit takes each key first read p r m now) (sym e)
+      subst (λ (r : Result (Unit {0}) LoadFault). TakesEdit takes each key first read p r m now) (sym e)
       (moved, tt)
 
   pub put_none : (p : PlacedValue) (m : Sending) →
@@ -276,11 +270,11 @@ module _ {S : Type 0} (takes : S → BatchValue → Result (Option ℕ) Stop →
         all = subst (λ (o : Option ℕ). SinkTakesAll takes first None sent now o) (sym serial) it.all;
       }
 
-  moves : (es : List PlacedValue) (m : Sending) (last : S) (end : End) → m.batches ≡ l.batches →
+  moves : (es : List PlacedValue) (m : Sending) (last : S) (fault : LoadFault) → m.batches ≡ l.batches →
       m.taken ≡ l.taken → m.serial ≡ l.serial →
-      EndsBy takes each key first last es l.batches l.taken l.serial end × EndsAtEdit end → EndsBy
-      takes each key first last es m.batches m.taken m.serial end × EndsAtEdit end
-  moves es m last end batches taken serial ended = (
+      EndsBy takes each key first last es l.batches l.taken l.serial (Some fault) × EndsAtEdit fault → EndsBy
+      takes each key first last es m.batches m.taken m.serial (Some fault) × EndsAtEdit fault
+  moves es m last fault batches taken serial ended = (
     record {
       sent = ended.0.sent;
       mid = ended.0.mid;
@@ -294,7 +288,7 @@ module _ {S : Type 0} (takes : S → BatchValue → Result (Option ℕ) Stop →
   )
 
   pub put_some :
-      (p : PlacedValue) (b : Batch) (m n : Sending) (result : Result (Unit {0}) End) (last : S)
+      (p : PlacedValue) (b : Batch) (m n : Sending) (result : Result (Unit {0}) LoadFault) (last : S)
       (places : List (Option ℕ)) →
       Adds (packing l.packer) p.edit (Ok (Some b)) (packing m.packer) → m.places.items ≡ p.place ∷
       [] → m.batches ≡ l.batches → m.taken ≡ l.taken → m.serial ≡ l.serial →
@@ -326,7 +320,7 @@ module _ {S : Type 0} (takes : S → BatchValue → Result (Option ℕ) Stop →
       (λ (v : BatchValue). l.taken + length v.edits) sent_is))
       (ap (λ (x : Sending). x.serial) sends.2)
       (subst (λ (v : BatchValue). takes now v (Ok sends.0) last) sent_is sends.1)
-  put_some p b m n (Err end) last places adds own batches taken serial places_are sends =
+  put_some p b m n (Err fault) last places adds own batches taken serial places_are sends =
       let says = subst (λ (x : Packing). Adds x p.edit (Ok (Some b)) (packing m.packer)) it.is
       adds
       in
@@ -334,20 +328,20 @@ module _ {S : Type 0} (takes : S → BatchValue → Result (Option ℕ) Stop →
       let stopped = stops_here (read ++ p ∷ []) (it.left ++ p ∷ []) (p ∷ []) (left_more p) refl
       (next_is (p.edit ∷ []) (edits_of (it.left ++ p ∷ [])) (edits_of_more it.left p))
       places (places_are ∙ it.places) sends.0 last
-      (subst (λ (v : BatchValue). takes now v (Err sends.0) last) sent_is sends.1) in
-      moves (read ++ p ∷ []) n last end (ap (λ (x : Sending). x.batches) sends.3 ∙ batches)
+      (subst (λ (v : BatchValue). takes now v (Err sends.0) last) sent_is sends.1) sends.4 in
+      moves (read ++ p ∷ []) n last fault (ap (λ (x : Sending). x.batches) sends.3 ∙ batches)
       (ap (λ (x : Sending). x.taken) sends.3 ∙ taken)
       (ap (λ (x : Sending). x.serial) sends.3 ∙ serial)
-      (subst (λ (x : End). EndsBy takes each key first last (read ++ p ∷ []) l.batches l.taken
-      l.serial x × EndsAtEdit x) (sym sends.2) stopped)
+      (subst (λ (x : LoadFault). EndsBy takes each key first last (read ++ p ∷ []) l.batches l.taken
+      l.serial (Some x) × EndsAtEdit x) (sym sends.2) stopped)
 
   -- ---- a full batch
 
-  pub fill_memory : (result : Result (Unit {0}) End) (m : Sending) → result ≡ Err Memory →
+  pub fill_memory : (result : Result (Unit {0}) LoadFault) (m : Sending) → result ≡ Err Memory →
       m.batches ≡ l.batches → m.taken ≡ l.taken → m.serial ≡ l.serial →
       SendsWhenFull takes each key first read result m now
   fill_memory result m e batches taken serial =
-      subst (λ (r : Result (Unit {0}) End). SendsWhenFull takes each key first read r m now) (sym e)
+      subst (λ (r : Result (Unit {0}) LoadFault). SendsWhenFull takes each key first read r m now) (sym e)
       (moves read m now Memory batches taken serial (ends_memory, tt))
 
   some_left : (left : List EditValue) → each ≤ length left → left ≢ []
@@ -355,7 +349,7 @@ module _ {S : Type 0} (takes : S → BatchValue → Result (Option ℕ) Stop →
   some_left (e ∷ left) many none = cc
 
   pub fill_some :
-      (b : Batch) (m n : Sending) (result : Result (Unit {0}) End) (last : S)
+      (b : Batch) (m n : Sending) (result : Result (Unit {0}) LoadFault) (last : S)
       (places : List (Option ℕ)) →
       packers.Fills (packing l.packer) (Ok (Some b)) (packing m.packer) → m.places.items ≡ [] →
       m.batches ≡ l.batches → m.taken ≡ l.taken → m.serial ≡ l.serial →
@@ -386,34 +380,34 @@ module _ {S : Type 0} (takes : S → BatchValue → Result (Option ℕ) Stop →
             (subst (λ (v : BatchValue). takes now v (Ok sends.0) last) sent_is sends.1),
         subst (λ (x : Packing). length x.edits < each) (sym is) (omega (arith, some)),
       )
-  fill_some b m n (Err end) last places fills own batches taken serial places_are sends =
+  fill_some b m n (Err fault) last places fills own batches taken serial places_are sends =
       let says = subst (λ (x : Packing). packers.Fills x (Ok (Some b)) (packing m.packer)) it.is
       fills in
       let sent_is : batch_value b ≡ batch = says.1 in
       let stopped = stops_here read it.left [] left_now (sym (append-nil it.left))
       (next_is [] (edits_of it.left) (sym (append-nil (edits_of it.left))))
       places (places_are ∙ it.places) sends.0 last
-      (subst (λ (v : BatchValue). takes now v (Err sends.0) last) sent_is sends.1) in
-      moves read n last end (ap (λ (x : Sending). x.batches) sends.3 ∙ batches)
+      (subst (λ (v : BatchValue). takes now v (Err sends.0) last) sent_is sends.1) sends.4 in
+      moves read n last fault (ap (λ (x : Sending). x.batches) sends.3 ∙ batches)
       (ap (λ (x : Sending). x.taken) sends.3 ∙ taken)
       (ap (λ (x : Sending). x.serial) sends.3 ∙ serial)
-      (subst (λ (x : End). EndsBy takes each key first last read l.batches l.taken l.serial x ×
+      (subst (λ (x : LoadFault). EndsBy takes each key first last read l.batches l.taken l.serial (Some x) ×
       EndsAtEdit x) (sym sends.2) stopped)
 
   -- ---- the last batch
 
   pub finish_none : packers.Finishes (packing l.packer) (Ok None) →
-      EndsBy takes each key first now read l.batches l.taken l.serial All
+      EndsBy takes each key first now read l.batches l.taken l.serial None
   finish_none finishes =
       let none = subst (λ (x : Packing). packers.Finishes x (Ok None)) it.is finishes in
-      ends_here read now All
+      ends_here read now None
       (packs_done each key (edits_of read) it.sent (edits_of it.left) it.underway none, refl)
 
   pub finish_ok : (b : Batch) (serial : Option ℕ) (last : S) (count : ℕ) →
       packers.Finishes (packing l.packer) (Ok (Some b)) →
       takes now (batch_value b) (Ok serial) last →
       count ≡ length (batch_value b).edits → EndsBy takes each key first last read (l.batches + 1)
-      (l.taken + count) serial All
+      (l.taken + count) serial None
   finish_ok b serial last count finishes took counted_is =
       let says = subst (λ (x : Packing). packers.Finishes x (Ok (Some b))) it.is finishes in
       let sent_is : batch_value b ≡ batch = says.1 in
@@ -438,16 +432,15 @@ module _ {S : Type 0} (takes : S → BatchValue → Result (Option ℕ) Stop →
         );
       }
 
-  pub finish_stop : (b : Batch) (stop : Stop) (last : S) (places : List (Option ℕ)) (end : End) →
+  pub finish_stop : (b : Batch) (stop : LoadFault) (last : S) (places : List (Option ℕ)) (fault : LoadFault) →
       packers.Finishes (packing l.packer) (Ok (Some b)) → places ≡ l.places.items →
-      takes now (batch_value b) (Err stop) last → end ≡ end_of_stop places stop → EndsBy takes
-      each
-      key first last read l.batches l.taken l.serial end × EndsAtOrAfterEdit end
-  finish_stop b stop last places end finishes places_are took reported =
+      takes now (batch_value b) (Err stop) last → IsOfBatch stop → fault ≡ placed_fault places stop →
+      EndsBy takes each key first last read l.batches l.taken l.serial (Some fault) × EndsAtEdit fault
+  finish_stop b stop last places fault finishes places_are took of_batch reported =
       let says = subst (λ (x : Packing). packers.Finishes x (Ok (Some b))) it.is finishes in
       let stopped = stops_here read it.left [] left_now (sym (append-nil it.left))
       (next_is [] (edits_of it.left) (sym (append-nil (edits_of it.left))))
       places (places_are ∙ it.places) stop last
-      (subst (λ (v : BatchValue). takes now v (Err stop) last) says.1 took) in
-      subst (λ (x : End). EndsBy takes each key first last read l.batches l.taken l.serial x ×
-      EndsAtOrAfterEdit x) (sym reported) (stopped.0, within_after (end_of_stop places stop) stopped.1)
+      (subst (λ (v : BatchValue). takes now v (Err stop) last) says.1 took) of_batch in
+      subst (λ (x : LoadFault). EndsBy takes each key first last read l.batches l.taken l.serial (Some x) ×
+      EndsAtEdit x) (sym reported) stopped

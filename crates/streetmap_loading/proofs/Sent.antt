@@ -10,7 +10,7 @@ use Rattle.streetmap_packing.proofs.PackLemmas.{numbered_append}
 use Rattle.streetmap_loading.specs.Ends.{count_of_edits}
 use Rattle.streetmap_loading.specs.Places.{PlacedValue, edits_of, places_of}
 use Rattle.streetmap_loading.specs.Sinks.{SinkTakesAll}
-use Rattle.streetmap_loading.specs.declared.sink.Stop.{Stop}
+use Rattle.streetmap_loading.specs.declared.load_fault.LoadFault.{LoadFault}
 
 pub length-numbered : (key : Text) (n : ℕ) (runs : List (List EditValue)) →
     length (numbered_all key n runs) ≡ length runs
@@ -48,7 +48,7 @@ pub first_places : (xs ys : List PlacedValue) →
 first_places [] ys = refl
 first_places (x ∷ xs) ys = ap (λ t. x.place ∷ t) (first_places xs ys)
 
-module _ {S : Type 0} (takes : S → BatchValue → Result (Option ℕ) Stop → S → Type 0) where
+module _ {S : Type 0} (takes : S → BatchValue → Result (Option ℕ) LoadFault → S → Type 0) where
   pub takes_more :
       (first : S) (before : Option ℕ) (bs : List BatchValue) (mid : S) (serial : Option ℕ)
       (b : BatchValue) (now : Option ℕ) (last : S)

@@ -9,10 +9,9 @@ use Rattle.streetmap_loading.specs.Places.{PlacedValue}
 use Rattle.streetmap_loading.specs.Sources.{StaysKnown, AreAll, AreWithin}
 use Rattle.streetmap_loading.specs.LoadProgress.{EndsAtEdit}
 use Rattle.streetmap_loading.specs.Loads.{Skips, SkippedAt}
-use Rattle.streetmap_loading.specs.declared.end.Loaded.{Loaded}
-use Rattle.streetmap_loading.specs.declared.end.End.{End}
-use Rattle.streetmap_loading.specs.declared.end.End.TheVariants.{All, AtFault, ReadFailed, Memory}
-use Rattle.streetmap_loading.specs.declared.end.End.TheVariants.{Refused, Stopped, WriteFailed}
+use Rattle.streetmap_loading.specs.declared.loaded.Loaded.{Loaded}
+use Rattle.streetmap_loading.specs.declared.load_fault.LoadFault.{LoadFault}
+use Rattle.streetmap_loading.specs.declared.load_fault.LoadFault.TheVariants.{BadKey, BadCount, BadBatch, AtFault, ReadFailed, Memory, Refused, Stopped, WriteFailed}
 use Rattle.streetmap_loading.specs.Texts.{Rules, text_on, item_of_text, is_skipped, and_count}
 use Rattle.streetmap_loading.specs.Texts.{count_skipped, all_in, skips_left}
 use Rattle.streetmap_loading.specs.declared.text_fault.TextFault.{TextFault}
@@ -105,26 +104,29 @@ long_skips r s features (Some input) h =
 
 -- ---- how a load ended
 
-within_at : (n skipped : ℕ) (end : End) → EndsAtEdit end → skipped ≤ n → SkippedAt n skipped end
-within_at n skipped All at within = absurd at
+within_at : (n skipped : ℕ) (fault : LoadFault) → EndsAtEdit fault → skipped ≤ n → SkippedAt n skipped (Some fault)
 within_at n skipped (AtFault fault) at within = absurd at
 within_at n skipped ReadFailed at within = within
 within_at n skipped Memory at within = within
 within_at n skipped (Refused why place) at within = within
 within_at n skipped (Stopped fault) at within = within
 within_at n skipped WriteFailed at within = within
+within_at n skipped BadKey at within = within
+within_at n skipped BadCount at within = within
+within_at n skipped BadBatch at within = within
 
 -- at an edit
-at_edit : (all : Option ℕ) (loaded : Loaded) → EndsAtEdit loaded.end →
+at_edit : (all : Option ℕ) (loaded : Loaded) (fault : LoadFault) → loaded.fault ≡ Some fault → EndsAtEdit fault →
     AreWithin all loaded.skipped → Skips all loaded
-at_edit None loaded at within = tt
-at_edit (Some n) loaded at within = within_at n loaded.skipped loaded.end at within
+at_edit None loaded fault is at within = tt
+at_edit (Some n) loaded fault is at within =
+    subst (λ (why : Option LoadFault). SkippedAt n loaded.skipped why) (sym is) (within_at n loaded.skipped fault at within)
 
-pub skips_within : (all now : Option ℕ) (loaded ended : Loaded) → loaded ≡ ended →
-    EndsAtEdit ended.end → StaysKnown all now → AreWithin now ended.skipped → Skips all loaded
-skips_within all now loaded ended is at stays within =
+pub skips_within : (all now : Option ℕ) (loaded ended : Loaded) (fault : LoadFault) → loaded ≡ ended →
+    ended.fault ≡ Some fault → EndsAtEdit fault → StaysKnown all now → AreWithin now ended.skipped → Skips all loaded
+skips_within all now loaded ended fault is why at stays within =
     subst (λ (x : Loaded). Skips all x) (sym is)
-    (at_edit all ended at (within_before all now ended.skipped stays within))
+    (at_edit all ended fault why at (within_before all now ended.skipped stays within))
 
 -- the skips of a source that has begun are those of its text
 pub from_begin : (r : Rules) (text : Option Text) (loaded : Loaded) →
@@ -132,6 +134,6 @@ pub from_begin : (r : Rules) (text : Option Text) (loaded : Loaded) →
     Skips (option_map (λ t. count_skipped r (all_in r 0 t)) text) loaded
 from_begin r None loaded h = tt
 from_begin r (Some t) loaded h =
-    subst (λ n. SkippedAt n loaded.skipped loaded.end) (none_before _) h where
+    subst (λ n. SkippedAt n loaded.skipped loaded.fault) (none_before _) h where
       none_before : (n : ℕ) → 0 + n ≡ n
       none_before n = omega arith

@@ -9,19 +9,14 @@ use Rattle.streetmap_packing.specs.PackerView.{packing}
 use Rattle.streetmap_packing.proofs.Underway.{nothing}
 use Rattle.streetmap_loading.specs.Places.{PlacedValue}
 use Rattle.streetmap_loading.specs.Sources.{Item, TakesOff, HasNoItem, FirstIs, SourceGives}
-use Rattle.streetmap_loading.specs.Ends.{end_of_unread}
 use Rattle.streetmap_loading.specs.LoadProgress.{Begins, IsSending, SendsWhenFull, TakesEdit, SendsTheRest, EndsAtEdit}
 use Rattle.streetmap_loading.specs.LoadProgress.{EndsAtOrAfterEdit}
 use Rattle.streetmap_loading.specs.Loads.{Loads, AreTakenOff, ItemsBeginWith, items_of}
-use Rattle.streetmap_loading.specs.declared.sink.Stop.{Stop}
-use Rattle.streetmap_loading.specs.declared.source.Unread.{Unread}
-use Rattle.streetmap_loading.specs.declared.source.Unread.TheVariants as unread
 use Rattle.streetmap_loading.specs.declared.text_fault.TextFault.{TextFault}
 use Rattle.streetmap_loading.specs.declared.progress.Sending.{Sending}
-use Rattle.streetmap_loading.specs.declared.end.Loaded.{Loaded}
-use Rattle.streetmap_loading.specs.declared.end.End.{End}
-use Rattle.streetmap_loading.specs.declared.end.End.TheVariants.{All, AtFault, ReadFailed, Memory}
-use Rattle.streetmap_loading.specs.declared.end.End.TheVariants.{Refused, Stopped, WriteFailed}
+use Rattle.streetmap_loading.specs.declared.loaded.Loaded.{Loaded}
+use Rattle.streetmap_loading.specs.declared.load_fault.LoadFault.{LoadFault}
+use Rattle.streetmap_loading.specs.declared.load_fault.LoadFault.TheVariants.{BadKey, BadCount, BadBatch, AtFault, ReadFailed, Memory, Refused, Stopped, WriteFailed}
 use Rattle.streetmap_loading.proofs.SendLemmas.{ends_at_fault, ends_unread, ends_memory}
 
 pub takes_none : (a : Option (List Item)) → TakesOff a a []
@@ -61,27 +56,24 @@ items_more [] p = refl
 items_more (x ∷ ps) p = ap (λ t. Ok x ∷ t) (items_more ps p)
 
 -- if a load ended at an edit, the edits that were read are those taken from the source
-are_within : (old now : Option (List Item)) (read : List PlacedValue) (end : End) → EndsAtEdit end →
-    TakesOff old now (items_of read) → AreTakenOff old now read end
-are_within old now read All within taken = absurd within
-are_within old now read (AtFault fault) within taken = absurd within
-are_within old now read ReadFailed within taken = absurd within
+are_within : (old now : Option (List Item)) (read : List PlacedValue) (fault : LoadFault) → EndsAtEdit fault →
+    TakesOff old now (items_of read) → AreTakenOff old now read (Some fault)
 are_within old now read Memory within taken = front old now (items_of read) taken
 are_within old now read (Refused why place) within taken = taken
 are_within old now read (Stopped fault) within taken = taken
 are_within old now read WriteFailed within taken = taken
+are_within old now read (AtFault fault) within taken = absurd within
+are_within old now read ReadFailed within taken = absurd within
+are_within old now read BadKey within taken = absurd within
+are_within old now read BadCount within taken = absurd within
+are_within old now read BadBatch within taken = absurd within
 
-are_after : (old now : Option (List Item)) (read : List PlacedValue) (end : End) → EndsAtOrAfterEdit end →
-    TakesOff old now (items_of read) → HasNoItem old now → AreTakenOff old now read end
-are_after old now read All following taken none = (taken, none)
-are_after old now read (AtFault fault) following taken none = absurd following
-are_after old now read ReadFailed following taken none = absurd following
-are_after old now read Memory following taken none = front old now (items_of read) taken
-are_after old now read (Refused why place) following taken none = taken
-are_after old now read (Stopped fault) following taken none = taken
-are_after old now read WriteFailed following taken none = taken
+are_after : (old now : Option (List Item)) (read : List PlacedValue) (why : Option LoadFault) → EndsAtOrAfterEdit why →
+    TakesOff old now (items_of read) → HasNoItem old now → AreTakenOff old now read why
+are_after old now read None following taken none = (taken, none)
+are_after old now read (Some fault) following taken none = are_within old now read fault following taken
 
-module _ {S : Type 0} (takes : S → BatchValue → Result (Option ℕ) Stop → S → Type 0) where
+module _ {S : Type 0} (takes : S → BatchValue → Result (Option ℕ) LoadFault → S → Type 0) where
   -- `count` edits were read, and their complete batches were sent
   pub record Reads (each : ℕ) (key : Text) (first last : S) (old now : Option (List Item))
       (count : ℕ) (l : Sending) : Type 0 where
@@ -113,14 +105,14 @@ module _ {S : Type 0} (takes : S → BatchValue → Result (Option ℕ) Stop →
 
   module _ (each : ℕ) (key : Text) (first last : S) (old now : Option (List Item)) (count : ℕ)
       (l : Sending) (it : Reads each key first last old now count l) where
-    abbrev reported : Sending → (edits skipped : ℕ) → End → Loaded
-    reported m edits skipped end = record {
+    abbrev reported : Sending → (edits skipped : ℕ) → LoadFault → Loaded
+    reported m edits skipped fault = record {
       edits = edits;
       batches = m.batches;
       taken = m.taken;
       serial = m.serial;
       skipped = skipped;
-      end = end;
+      fault = Some fault;
     }
 
     -- the current batch was sent if it was full
@@ -129,13 +121,13 @@ module _ {S : Type 0} (takes : S → BatchValue → Result (Option ℕ) Stop →
     filled m next fills = record
         { read = it.read; counted = it.counted; taken = it.taken; sending = fills.0 }
 
-    pub not_filled : (m : Sending) (next : S) (skipped : ℕ) (end : End) →
-        SendsWhenFull takes each key first it.read (Err end) m next →
-        Loads takes each key first next old now (reported m count skipped end)
-    not_filled m next skipped end fills = record {
+    pub not_filled : (m : Sending) (next : S) (skipped : ℕ) (fault : LoadFault) →
+        SendsWhenFull takes each key first it.read (Err fault) m next →
+        Loads takes each key first next old now (reported m count skipped fault)
+    not_filled m next skipped fault fills = record {
       read = it.read;
       counted = it.counted;
-      are = are_within old now it.read end fills.1
+      are = are_within old now it.read fault fills.1
           it.taken;
       ends = fills.0;
     }
@@ -164,14 +156,14 @@ module _ {S : Type 0} (takes : S → BatchValue → Result (Option ℕ) Stop →
 
     pub stops :
         (later : Option (List Item)) (p : PlacedValue) (m : Sending) (next : S) (skipped : ℕ)
-        (end : End) →
-        TakesOff now later (Ok p ∷ []) → TakesEdit takes each key first it.read p (Err end) m next →
-        Loads takes each key first next old later (reported m (count + 1) skipped end)
-    stops later p m next skipped end took puts = record {
+        (fault : LoadFault) →
+        TakesOff now later (Ok p ∷ []) → TakesEdit takes each key first it.read p (Err fault) m next →
+        Loads takes each key first next old later (reported m (count + 1) skipped fault)
+    stops later p m next skipped fault took puts = record {
       read = it.read ++ p ∷ [];
       counted = counted_more p;
       are = are_within old later
-          (it.read ++ p ∷ []) end puts.1 (taken_more later p took);
+          (it.read ++ p ∷ []) fault puts.1 (taken_more later p took);
       ends = puts.0;
     }
 
@@ -188,16 +180,16 @@ module _ {S : Type 0} (takes : S → BatchValue → Result (Option ℕ) Stop →
           read = it.read;
           counted = it.counted ∙ sym edits;
           are = are_after old later
-              it.read loaded.end finishes.1 taken
+              it.read loaded.fault finishes.1 taken
               (none_left old now later (items_of it.read) it.taken none);
           ends = finishes.0;
         }
 
     -- the next edit was not read, or is at fault
-    pub not_read : (later : Option (List Item)) (u : Unread) (skipped : ℕ) →
-        SourceGives now later (Err u) → length (packing l.packer).edits < each →
-        Loads takes each key first last old later (reported l count skipped (end_of_unread u))
-    not_read later (unread.AtFault fault) skipped took few = record {
+    pub not_read : (later : Option (List Item)) (fault : LoadFault) (skipped : ℕ) →
+        SourceGives now later (Err fault) → length (packing l.packer).edits < each →
+        Loads takes each key first last old later (reported l count skipped fault)
+    not_read later (AtFault fault) skipped took few = record {
       read = it.read;
       counted = it.counted;
       are = front_at old now (items_of it.read) fault
@@ -205,18 +197,24 @@ module _ {S : Type 0} (takes : S → BatchValue → Result (Option ℕ) Stop →
       ends = ends_at_fault takes each key first it.read l last it.sending fault
           few;
     }
-    not_read later unread.ReadFailed skipped took few = record {
+    not_read later ReadFailed skipped took few = record {
       read = it.read;
       counted = it.counted;
       are = front old now (items_of it.read) it.taken;
       ends = ends_unread takes each key first it.read l last it.sending;
     }
-    not_read later unread.Memory skipped took few = record {
+    not_read later Memory skipped took few = record {
       read = it.read;
       counted = it.counted;
       are = front old now (items_of it.read) it.taken;
       ends = ends_memory takes each key first it.read l last it.sending;
     }
+    not_read later (Refused why place) skipped took few = absurd took
+    not_read later (Stopped fault) skipped took few = absurd took
+    not_read later WriteFailed skipped took few = absurd took
+    not_read later BadKey skipped took few = absurd took
+    not_read later BadCount skipped took few = absurd took
+    not_read later BadBatch skipped took few = absurd took
 
     -- no more edits are read
     pub too_many : (skipped : ℕ) →
@@ -237,7 +235,7 @@ module _ {S : Type 0} (takes : S → BatchValue → Result (Option ℕ) Stop →
         taken = 0;
         serial = None;
         skipped = skipped;
-        end = Memory;
+        fault = Some Memory;
       })
   not_begun each key first old skipped = record {
     read = [];

@@ -15,8 +15,8 @@ use Rattle.streetmap_loading.specs.Sources.{placed_value}
 use Rattle.streetmap_loading.specs.TextView.{rules_value, and_left, Steps}
 use Rattle.streetmap_loading.specs.declared.rules.FeatureRules.{FeatureRules}
 use Rattle.streetmap_loading.specs.declared.source.PlacedEdit.{PlacedEdit}
-use Rattle.streetmap_loading.specs.declared.source.Unread.{Unread}
-use Rattle.streetmap_loading.specs.declared.source.Unread.TheVariants as unread
+use Rattle.streetmap_loading.specs.declared.load_fault.LoadFault.{LoadFault}
+use Rattle.streetmap_loading.specs.declared.load_fault.LoadFault.TheVariants.{BadKey, BadCount, BadBatch, AtFault, ReadFailed, Memory, Refused, Stopped, WriteFailed}
 use Rattle.streetmap_loading.proofs.Taking.{takes_then, none_left}
 use Rattle.streetmap_loading.specs.Texts.{Rules, text_on, item_of_text, on_text, and_more}
 use Rattle.streetmap_loading.specs.Texts.{is_skipped, is_here, one_less, not_skipped, items_in}
@@ -263,13 +263,19 @@ next_first old f a p mid fault before off first =
 -- the next edit is not read
 pub next_unread :
     (old new : FeatureRules) (f n : ℕ) (a b : Option Text) (p q : Option PlacedEdit)
-    (mid : Option (List Item)) (u : Unread) →
+    (mid : Option (List Item)) (u : LoadFault) →
     p ≡ None →
     TakesOff (items_left (rules_value old) f a) mid [] → Steps mid
     (items_left (rules_value old) n b) (Err u) →
     SourceGives (and_left p (items_left (rules_value old) f a))
     (and_left q (items_left (rules_value new) n b)) (Err u)
-next_unread old new f n a b p q mid (unread.AtFault fault) before off first = next_first old f a p
+next_unread old new f n a b p q mid (AtFault fault) before off first = next_first old f a p
     mid fault before off first
-next_unread old new f n a b p q mid unread.ReadFailed before off first = tt
-next_unread old new f n a b p q mid unread.Memory before off first = tt
+next_unread old new f n a b p q mid ReadFailed before off first = tt
+next_unread old new f n a b p q mid Memory before off first = tt
+next_unread old new f n a b p q mid (Refused why place) before off first = absurd first
+next_unread old new f n a b p q mid (Stopped fault) before off first = absurd first
+next_unread old new f n a b p q mid WriteFailed before off first = absurd first
+next_unread old new f n a b p q mid BadKey before off first = absurd first
+next_unread old new f n a b p q mid BadCount before off first = absurd first
+next_unread old new f n a b p q mid BadBatch before off first = absurd first

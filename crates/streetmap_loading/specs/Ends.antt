@@ -1,30 +1,28 @@
 -- How a load ends.
 use Rattle.std.specs.Prelude.{◌≡◌, ◌≢◌, ◌<◌, ℕ, ◌+◌, true, List, [], ◌∷◌, ◌++◌, length, take}
-use Rattle.std.specs.Prelude.{Option, None, Result, Err}
+use Rattle.std.specs.Prelude.{Option, None, Some, Result, Err}
 use Rattle.streetmap_batch.specs.Text.{Text}
 use Rattle.streetmap_batch.specs.BatchValue.{EditValue, BatchValue}
 use Rattle.streetmap_packing.specs.Packs.{numbered_key, passes, Packs, PacksFirst}
 use Rattle.streetmap_loading.specs.Places.{PlacedValue, edits_of, places_of, text_place}
 use Rattle.streetmap_loading.specs.Sinks.{SinkTakesAll}
-use Rattle.streetmap_loading.specs.declared.source.Unread.{Unread}
-use Rattle.streetmap_loading.specs.declared.source.Unread.TheVariants as unread
-use Rattle.streetmap_loading.specs.declared.sink.Stop.{Stop}
-use Rattle.streetmap_loading.specs.declared.sink.Stop.TheVariants as stops
-use Rattle.streetmap_loading.specs.declared.end.End.{End}
-use Rattle.streetmap_loading.specs.declared.end.End.TheVariants.{All, AtFault, ReadFailed, Memory}
-use Rattle.streetmap_loading.specs.declared.end.End.TheVariants.{Refused, Stopped, WriteFailed}
+use Rattle.streetmap_loading.specs.declared.load_fault.LoadFault.{LoadFault}
+use Rattle.streetmap_loading.specs.declared.load_fault.LoadFault.TheVariants.{AtFault, ReadFailed}
+use Rattle.streetmap_loading.specs.declared.load_fault.LoadFault.TheVariants.{Memory}
+use Rattle.streetmap_loading.specs.declared.load_fault.LoadFault.TheVariants.{Refused, Stopped}
+use Rattle.streetmap_loading.specs.declared.load_fault.LoadFault.TheVariants.{WriteFailed}
 
--- the end if no edit was read
-abbrev pub end_of_unread : Unread → End
-end_of_unread (unread.AtFault fault) = AtFault fault
-end_of_unread unread.ReadFailed = ReadFailed
-end_of_unread unread.Memory = Memory
+-- the faults of a batch
+abbrev pub IsOfBatch : LoadFault → Type 0
+IsOfBatch (Refused why place) = Unit {0}
+IsOfBatch (Stopped fault) = Unit {0}
+IsOfBatch WriteFailed = Unit {0}
+IsOfBatch _ = ⊥
 
--- the end at a batch whose edits have these places in the text
-abbrev pub end_of_stop : List (Option ℕ) → Stop → End
-end_of_stop places (stops.Refused why place) = Refused why (text_place places place)
-end_of_stop places (stops.Stopped fault) = Stopped fault
-end_of_stop places stops.WriteFailed = WriteFailed
+-- the fault of a batch whose edits have these places in the text
+abbrev pub placed_fault : List (Option ℕ) → LoadFault → LoadFault
+placed_fault places (Refused why place) = Refused why (text_place places place)
+placed_fault places fault = fault
 
 -- how many edits batches have
 abbrev pub count_of_edits : List BatchValue → ℕ
@@ -48,17 +46,18 @@ abbrev pub IsNext : (key : Text) → ℕ → List EditValue → BatchValue → T
 IsNext key n left b = (rest : List EditValue) × (left ≡ b.edits ++ rest) ×
     (b.key ≡ numbered_key key n)
 
-module _ {S : Type 0} (takes : S → BatchValue → Result (Option ℕ) Stop → S → Type 0) where
+module _ {S : Type 0} (takes : S → BatchValue → Result (Option ℕ) LoadFault → S → Type 0) where
   -- the next batch, of the first of the edits that remain, was not taken
   pub record EndsAt (each : ℕ) (key : Text) (read : List PlacedValue) (sent : List BatchValue)
-      (mid last : S) (end : End) : Type 0 where
+      (mid last : S) (fault : LoadFault) : Type 0 where
     pub left : List PlacedValue
     pub are_left : AreLeft each key read sent left
     pub batch : BatchValue
     pub next : IsNext key (1 + length sent) (edits_of left) batch
-    pub stop : Stop
+    pub stop : LoadFault
     pub refused : takes mid batch (Err stop) last
-    pub reported : end ≡ end_of_stop (take (length batch.edits) (places_of left)) stop
+    pub of_batch : IsOfBatch stop
+    pub reported : fault ≡ placed_fault (take (length batch.edits) (places_of left)) stop
 
   -- the edits that remain are part of a batch, and none of them was sent
   pub record EndsWithinBatch (each : ℕ) (key : Text) (read : List PlacedValue)
@@ -71,25 +70,27 @@ module _ {S : Type 0} (takes : S → BatchValue → Result (Option ℕ) Stop →
   -- the last one
   abbrev pub ByEnd :
       (each : ℕ) (key : Text) (read : List PlacedValue) (sent : List BatchValue) (mid last : S) →
-      End → Type 0
-  ByEnd each key read sent mid last All = Packs each key (edits_of read) sent × (last ≡ mid)
-  ByEnd each key read sent mid last (AtFault fault) =
+      Option LoadFault → Type 0
+  ByEnd each key read sent mid last None = Packs each key (edits_of read) sent × (last ≡ mid)
+  ByEnd each key read sent mid last (Some (AtFault fault)) =
       (within : EndsWithinBatch each key read sent mid last) × IsShort each key (1 + length sent)
       (edits_of within.left)
-  ByEnd each key read sent mid last ReadFailed = EndsWithinBatch each key read sent mid last
-  ByEnd each key read sent mid last Memory = EndsWithinBatch each key read sent mid last
-  ByEnd each key read sent mid last (Refused why place) = EndsAt each key read sent mid last
-      (Refused why place)
-  ByEnd each key read sent mid last (Stopped fault) = EndsAt each key read sent mid last
-      (Stopped fault)
-  ByEnd each key read sent mid last WriteFailed = EndsAt each key read sent mid last WriteFailed
+  ByEnd each key read sent mid last (Some ReadFailed) = EndsWithinBatch each key read sent mid last
+  ByEnd each key read sent mid last (Some Memory) = EndsWithinBatch each key read sent mid last
+  ByEnd each key read sent mid last (Some (Refused why place)) =
+      EndsAt each key read sent mid last (Refused why place)
+  ByEnd each key read sent mid last (Some (Stopped fault)) =
+      EndsAt each key read sent mid last (Stopped fault)
+  ByEnd each key read sent mid last (Some WriteFailed) =
+      EndsAt each key read sent mid last WriteFailed
+  ByEnd each key read sent mid last (Some _) = ⊥
 
   -- from the first sink on batches were taken, and it ended in this way
   pub record EndsBy (each : ℕ) (key : Text) (first last : S) (read : List PlacedValue)
-      (batches taken : ℕ) (serial : Option ℕ) (end : End) : Type 0 where
+      (batches taken : ℕ) (serial : Option ℕ) (why : Option LoadFault) : Type 0 where
     pub sent : List BatchValue
     pub mid : S
     pub counted : length sent ≡ batches
     pub held : count_of_edits sent ≡ taken
     pub all : SinkTakesAll takes first None sent mid serial
-    pub ends : ByEnd each key read sent mid last end
+    pub ends : ByEnd each key read sent mid last why

@@ -17,21 +17,22 @@ use Rattle.streetmap_loading.specs.Places.{PlacedValue, edits_of, places_of, tex
 use Rattle.streetmap_loading.specs.Sources.{Item}
 use Rattle.streetmap_loading.specs.Loads.{items_of}
 use Rattle.streetmap_loading.specs.Ends.{AreLeft, IsShort, IsNext, count_of_edits}
-use Rattle.streetmap_loading.specs.declared.end.Loaded.{Loaded}
-use Rattle.streetmap_loading.specs.declared.end.End.{End}
-use Rattle.streetmap_loading.specs.declared.end.End.TheVariants.{All, AtFault, ReadFailed, Memory}
-use Rattle.streetmap_loading.specs.declared.end.End.TheVariants.{Refused, Stopped, WriteFailed}
+use Rattle.streetmap_loading.specs.declared.loaded.Loaded.{Loaded}
+use Rattle.streetmap_loading.specs.declared.load_fault.LoadFault.{LoadFault}
+use Rattle.streetmap_loading.specs.declared.load_fault.LoadFault.TheVariants.{AtFault, ReadFailed}
+use Rattle.streetmap_loading.specs.declared.load_fault.LoadFault.TheVariants.{Memory}
+use Rattle.streetmap_loading.specs.declared.load_fault.LoadFault.TheVariants.{Refused, Stopped}
 
 -- the fault of the keeper that ended it, if one did
-abbrev pub keeper_fault : End → Option Fault
-keeper_fault (Stopped fault) = Some fault
+abbrev pub keeper_fault : Option LoadFault → Option Fault
+keeper_fault (Some (Stopped fault)) = Some fault
 keeper_fault _ = None
 
 -- these edits of the items, if they are known, were read: all; those before the fault; or the first
-abbrev pub AreRead : Option (List Item) → List PlacedValue → End → Type 0
-AreRead None read end = Unit {0}
-AreRead (Some items) read All = items ≡ items_of read
-AreRead (Some items) read (AtFault fault) = (rest : List Item) ×
+abbrev pub AreRead : Option (List Item) → List PlacedValue → Option LoadFault → Type 0
+AreRead None read why = Unit {0}
+AreRead (Some items) read None = items ≡ items_of read
+AreRead (Some items) read (Some (AtFault fault)) = (rest : List Item) ×
     (items ≡ items_of read ++ Err fault ∷ rest)
 AreRead (Some items) read _ = (rest : List Item) × (items ≡ items_of read ++ rest)
 
@@ -63,7 +64,7 @@ module _ {K : Type 0} (model : Model K) (first last : K) where
 
   -- a batch of the first of these edits was refused, and is reported with the place in the text; or
   -- the keeper gave no reply to it
-  abbrev pub StopsAt : State → List PlacedValue → BatchValue → End → Type 0
+  abbrev pub StopsAt : State → List PlacedValue → BatchValue → LoadFault → Type 0
   StopsAt t placed b (Refused why place) =
       (inner : Option ℕ) × ((act t b).reply ≡ replies.Refused why inner) ×
       (place ≡ text_place (take (length b.edits) (places_of placed)) inner) ×
@@ -74,12 +75,12 @@ module _ {K : Type 0} (model : Model K) (first last : K) where
   -- in the state t, after the batches that were sent
   pub record EndsAtBatch (each : ℕ) (key : Text) (read : List PlacedValue)
       (sent : List BatchValue)
-      (t : State) (end : End) : Type 0 where
+      (t : State) (fault : LoadFault) : Type 0 where
     pub rest : List PlacedValue
     pub are_left : AreLeft each key read sent rest
     pub batch : BatchValue
     pub next : IsNext key (1 + length sent) (edits_of rest) batch
-    pub stops : StopsAt t rest batch end
+    pub stops : StopsAt t rest batch fault
 
   -- the rest of the edits that were read is part of a batch, and was not sent
   pub record LeavesUnsent (each : ℕ) (key : Text) (read : List PlacedValue) (sent : List BatchValue)
@@ -89,15 +90,18 @@ module _ {K : Type 0} (model : Model K) (first last : K) where
     pub represents : model.represents last t
 
   abbrev pub EndsIn : (each : ℕ) (key : Text) (read : List PlacedValue) (sent : List BatchValue) →
-      State → End → Type 0
-  EndsIn each key read sent t All = Packs each key (edits_of read) sent × model.represents last t
-  EndsIn each key read sent t (AtFault fault) =
+      State → Option LoadFault → Type 0
+  EndsIn each key read sent t None = Packs each key (edits_of read) sent × model.represents last t
+  EndsIn each key read sent t (Some (AtFault fault)) =
       (unsent : LeavesUnsent each key read sent t) × IsShort each key (1 + length sent)
       (edits_of unsent.rest)
-  EndsIn each key read sent t ReadFailed = LeavesUnsent each key read sent t
-  EndsIn each key read sent t Memory = LeavesUnsent each key read sent t
-  EndsIn each key read sent t WriteFailed = ⊥
-  EndsIn each key read sent t end = EndsAtBatch each key read sent t end
+  EndsIn each key read sent t (Some ReadFailed) = LeavesUnsent each key read sent t
+  EndsIn each key read sent t (Some Memory) = LeavesUnsent each key read sent t
+  EndsIn each key read sent t (Some (Refused why place)) =
+      EndsAtBatch each key read sent t (Refused why place)
+  EndsIn each key read sent t (Some (Stopped fault)) =
+      EndsAtBatch each key read sent t (Stopped fault)
+  EndsIn each key read sent t (Some _) = ⊥
 
   -- these edits of the items were read; their batches that are complete were sent and acknowledged,
   -- from the state s on; and the load ended in this way
@@ -105,10 +109,10 @@ module _ {K : Type 0} (model : Model K) (first last : K) where
       (loaded : Loaded) : Type 0 where
     pub read : List PlacedValue
     pub counted : length read ≡ loaded.edits
-    pub is : AreRead items read loaded.end
+    pub is : AreRead items read loaded.fault
     pub sent : List BatchValue
     pub batches : length sent ≡ loaded.batches
     pub taken : count_of_edits sent ≡ loaded.taken
     pub acknowledged : AreAcknowledged s sent
     pub serial : loaded.serial ≡ last_serial None s sent
-    pub ends : EndsIn each key read sent (after_all s sent) loaded.end
+    pub ends : EndsIn each key read sent (after_all s sent) loaded.fault

@@ -12,7 +12,6 @@ pub mod LoadLaws
 pub mod Options
 pub mod TextLoads
 pub mod Prints
-pub mod EndCodes
 pub mod Times
 pub mod CheckedTexts
 pub mod TextPrints

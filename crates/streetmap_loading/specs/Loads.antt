@@ -6,10 +6,10 @@ use Rattle.streetmap_batch.specs.BatchValue.{BatchValue}
 use Rattle.streetmap_loading.specs.Places.{PlacedValue}
 use Rattle.streetmap_loading.specs.Sources.{Item, TakesOff, HasNoItem}
 use Rattle.streetmap_loading.specs.Ends.{EndsBy}
-use Rattle.streetmap_loading.specs.declared.sink.Stop.{Stop}
-use Rattle.streetmap_loading.specs.declared.end.Loaded.{Loaded}
-use Rattle.streetmap_loading.specs.declared.end.End.{End}
-use Rattle.streetmap_loading.specs.declared.end.End.TheVariants.{All, AtFault, ReadFailed, Memory}
+use Rattle.streetmap_loading.specs.declared.loaded.Loaded.{Loaded}
+use Rattle.streetmap_loading.specs.declared.load_fault.LoadFault.{LoadFault}
+use Rattle.streetmap_loading.specs.declared.load_fault.LoadFault.TheVariants.{AtFault, ReadFailed}
+use Rattle.streetmap_loading.specs.declared.load_fault.LoadFault.TheVariants.{Memory}
 
 -- edits as items
 abbrev pub items_of : List PlacedValue → List Item
@@ -23,30 +23,32 @@ ItemsBeginWith (Some items) read = (rest : List Item) × (items ≡ read ++ rest
 
 -- the edits are those that were taken from the source: all of it; those before the item at fault;
 -- or its first
-abbrev pub AreTakenOff : Option (List Item) → Option (List Item) → List PlacedValue → End → Type 0
-AreTakenOff old new read All = TakesOff old new (items_of read) × HasNoItem old new
-AreTakenOff old new read (AtFault fault) = ItemsBeginWith old (items_of read ++ Err fault ∷ [])
-AreTakenOff old new read ReadFailed = ItemsBeginWith old (items_of read)
-AreTakenOff old new read Memory = ItemsBeginWith old (items_of read)
-AreTakenOff old new read end = TakesOff old new (items_of read)
+abbrev pub AreTakenOff : Option (List Item) → Option (List Item) → List PlacedValue
+    → Option LoadFault → Type 0
+AreTakenOff old new read None = TakesOff old new (items_of read) × HasNoItem old new
+AreTakenOff old new read (Some (AtFault fault)) =
+    ItemsBeginWith old (items_of read ++ Err fault ∷ [])
+AreTakenOff old new read (Some ReadFailed) = ItemsBeginWith old (items_of read)
+AreTakenOff old new read (Some Memory) = ItemsBeginWith old (items_of read)
+AreTakenOff old new read why = TakesOff old new (items_of read)
 
 -- these edits were read, and their batches were sent from the first sink to the last, up to the end
-pub record Loads {S : Type 0} (takes : S → BatchValue → Result (Option ℕ) Stop → S → Type 0)
+pub record Loads {S : Type 0} (takes : S → BatchValue → Result (Option ℕ) LoadFault → S → Type 0)
     (each : ℕ) (key : Text) (first last : S) (old new : Option (List Item)) (loaded : Loaded) :
     Type
     0 where
   pub read : List PlacedValue
   pub counted : length read ≡ loaded.edits
-  pub are : AreTakenOff old new read loaded.end
+  pub are : AreTakenOff old new read loaded.fault
   pub ends :
-      EndsBy takes each key first last read loaded.batches loaded.taken loaded.serial loaded.end
+      EndsBy takes each key first last read loaded.batches loaded.taken loaded.serial loaded.fault
 
 -- this many features were skipped: all that are to be, at the end and at a fault of the text
-abbrev pub SkippedAt : ℕ → ℕ → End → Type 0
-SkippedAt all skipped All = skipped ≡ all
-SkippedAt all skipped (AtFault fault) = skipped ≡ all
-SkippedAt all skipped end = skipped ≤ all
+abbrev pub SkippedAt : ℕ → ℕ → Option LoadFault → Type 0
+SkippedAt all skipped None = skipped ≡ all
+SkippedAt all skipped (Some (AtFault fault)) = skipped ≡ all
+SkippedAt all skipped why = skipped ≤ all
 
 -- if it is known how many are to be
 abbrev pub Skips : Option ℕ → Loaded → Type 0
-Skips all loaded = IfSome all (λ n. SkippedAt n loaded.skipped loaded.end)
+Skips all loaded = IfSome all (λ n. SkippedAt n loaded.skipped loaded.fault)

@@ -5,8 +5,9 @@ use Rattle.streetmap_batch.specs.BatchView.{edit_value}
 use Rattle.streetmap_loading.specs.Places.{PlacedValue}
 use Rattle.streetmap_loading.specs.declared.text_fault.TextFault.{TextFault}
 use Rattle.streetmap_loading.specs.declared.source.PlacedEdit.{PlacedEdit}
-use Rattle.streetmap_loading.specs.declared.source.Unread.{Unread}
-use Rattle.streetmap_loading.specs.declared.source.Unread.TheVariants.{AtFault, ReadFailed, Memory}
+use Rattle.streetmap_loading.specs.declared.load_fault.LoadFault.{LoadFault}
+use Rattle.streetmap_loading.specs.declared.load_fault.LoadFault.TheVariants.{AtFault, ReadFailed}
+use Rattle.streetmap_loading.specs.declared.load_fault.LoadFault.TheVariants.{Memory}
 
 -- an edit with its place, or its fault
 abbrev pub Item : Type 0
@@ -33,14 +34,14 @@ FirstIs None fault = Unit {0}
 FirstIs (Some items) fault = (rest : List Item) × (items ≡ Err fault ∷ rest)
 
 -- the next edit, the fault in its place, or the end
-abbrev pub SourceGives : Option (List Item) → Option (List Item) → Result (Option PlacedEdit) Unread
-    →
-    Type 0
+abbrev pub SourceGives : Option (List Item) → Option (List Item)
+    → Result (Option PlacedEdit) LoadFault → Type 0
 SourceGives old new (Ok (Some placed)) = TakesOff old new (Ok (placed_value placed) ∷ [])
 SourceGives old new (Ok None) = TakesOff old new [] × HasNoItem old new
 SourceGives old new (Err (AtFault fault)) = FirstIs old fault
 SourceGives old new (Err ReadFailed) = Unit {0}
 SourceGives old new (Err Memory) = Unit {0}
+SourceGives old new (Err _) = ⊥
 
 -- a number that is known stays
 abbrev pub StaysKnown : Option ℕ → Option ℕ → Type 0
@@ -55,9 +56,10 @@ abbrev pub AreWithin : Option ℕ → ℕ → Type 0
 AreWithin all n = IfSome all (λ m. n ≤ m)
 
 -- the number skipped in all stays known; at the end and at a fault it is the number skipped so far
-abbrev pub SourceSkips : Option ℕ → Option ℕ → ℕ → Result (Option PlacedEdit) Unread → Type 0
+abbrev pub SourceSkips : Option ℕ → Option ℕ → ℕ → Result (Option PlacedEdit) LoadFault → Type 0
 SourceSkips old new skipped (Ok (Some placed)) = StaysKnown old new
 SourceSkips old new skipped (Ok None) = AreAll old skipped
 SourceSkips old new skipped (Err (AtFault fault)) = AreAll old skipped
 SourceSkips old new skipped (Err ReadFailed) = AreWithin old skipped
 SourceSkips old new skipped (Err Memory) = AreWithin old skipped
+SourceSkips old new skipped (Err _) = ⊥

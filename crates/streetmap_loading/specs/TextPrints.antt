@@ -1,5 +1,5 @@
 -- The result of printing the batches of a text.
-use Rattle.std.specs.Prelude.{◌≡◌, ℕ, ◌+◌, List, [], ◌∷◌, ◌++◌, Option, length}
+use Rattle.std.specs.Prelude.{◌≡◌, ℕ, ◌+◌, List, [], ◌∷◌, ◌++◌, Option, None, Some, length}
 use Rattle.std.specs.Io.KnownBytes.{Appends}
 use Rattle.streetmap_batch.specs.Text.{Text}
 use Rattle.streetmap_batch.specs.BatchValue.{BatchValue}
@@ -10,10 +10,11 @@ use Rattle.streetmap_loading.specs.Ends.{AreLeft, IsNext}
 use Rattle.streetmap_loading.specs.KeeperLoads.{AreRead}
 use Rattle.streetmap_loading.specs.Options.{LoadValue, load_items}
 use Rattle.streetmap_loading.specs.Prints.{line_of}
-use Rattle.streetmap_loading.specs.declared.end.Loaded.{Loaded}
-use Rattle.streetmap_loading.specs.declared.end.End.{End}
-use Rattle.streetmap_loading.specs.declared.end.End.TheVariants.{All, AtFault, ReadFailed, Memory}
-use Rattle.streetmap_loading.specs.declared.end.End.TheVariants.{Refused, Stopped, WriteFailed}
+use Rattle.streetmap_loading.specs.declared.loaded.Loaded.{Loaded}
+use Rattle.streetmap_loading.specs.declared.load_fault.LoadFault.{LoadFault}
+use Rattle.streetmap_loading.specs.declared.load_fault.LoadFault.TheVariants.{AtFault, ReadFailed}
+use Rattle.streetmap_loading.specs.declared.load_fault.LoadFault.TheVariants.{Memory}
+use Rattle.streetmap_loading.specs.declared.load_fault.LoadFault.TheVariants.{Stopped, WriteFailed}
 
 -- the lines of batches
 abbrev pub lines_of : List BatchValue → List ℕ
@@ -39,15 +40,15 @@ pub record PrintsInto (each : ℕ) (key : Text) (read : List PlacedValue) (sent 
 abbrev pub PrintsBy :
     (each : ℕ) (key : Text) (read : List PlacedValue) (sent : List BatchValue)
     (old new : Option (List ℕ)) →
-    End → Type 0
-PrintsBy each key read sent old new All = Packs each key (edits_of read) sent × Appends old new
+    Option LoadFault → Type 0
+PrintsBy each key read sent old new None = Packs each key (edits_of read) sent × Appends old new
     (lines_of sent)
-PrintsBy each key read sent old new (AtFault fault) = PrintsBefore each key read sent old new
-PrintsBy each key read sent old new ReadFailed = PrintsBefore each key read sent old new
-PrintsBy each key read sent old new Memory = PrintsBefore each key read sent old new
-PrintsBy each key read sent old new (Refused why place) = ⊥
-PrintsBy each key read sent old new (Stopped fault) = PrintsInto each key read sent old new
-PrintsBy each key read sent old new WriteFailed = PrintsInto each key read sent old new
+PrintsBy each key read sent old new (Some (AtFault fault)) = PrintsBefore each key read sent old new
+PrintsBy each key read sent old new (Some ReadFailed) = PrintsBefore each key read sent old new
+PrintsBy each key read sent old new (Some Memory) = PrintsBefore each key read sent old new
+PrintsBy each key read sent old new (Some (Stopped fault)) = PrintsInto each key read sent old new
+PrintsBy each key read sent old new (Some WriteFailed) = PrintsInto each key read sent old new
+PrintsBy each key read sent old new (Some _) = ⊥
 
 -- these edits of the items of the text were read, and the lines of their batches written, up to the
 -- end
@@ -55,7 +56,7 @@ pub record PrintsText (l : LoadValue) (text old new : Option (List ℕ)) (loaded
   where
     pub read : List PlacedValue
     pub counted : length read ≡ loaded.edits
-    pub is : AreRead (load_items l text) read loaded.end
+    pub is : AreRead (load_items l text) read loaded.fault
     pub sent : List BatchValue
     pub batches : length sent ≡ loaded.batches
-    pub prints : PrintsBy l.each l.key read sent old new loaded.end
+    pub prints : PrintsBy l.each l.key read sent old new loaded.fault

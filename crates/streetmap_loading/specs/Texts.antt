@@ -24,11 +24,10 @@ use Rattle.streetmap_batch.specs.BatchValue as edit
 use Rattle.streetmap_batch.specs.BatchValue.{EditValue}
 use Rattle.streetmap_text_lines.specs.Lines.{first_too_long}
 use Rattle.streetmap_loading.specs.Sources.{Item}
-use Rattle.streetmap_loading.specs.declared.feature_fault.FeatureFault.{FeatureFault}
-use Rattle.streetmap_loading.specs.declared.feature_fault.FeatureFault.TheVariants as causes
 use Rattle.streetmap_loading.specs.declared.text_fault.TextFault.{TextFault}
 use Rattle.streetmap_loading.specs.declared.text_fault.TextFault.TheVariants.{NotASequence}
 use Rattle.streetmap_loading.specs.declared.text_fault.TextFault.TheVariants.{LineTooLong}
+use Rattle.streetmap_loading.specs.declared.text_fault.TextFault.TheVariants.{TooManyDigits}
 use Rattle.streetmap_loading.specs.declared.text_fault.TextFault.TheVariants.{BadFeature, TooLarge}
 
 -- where features go, how their numbers are read, and whether those at fault are skipped: then times
@@ -82,7 +81,7 @@ item_of_edit place e =
 
 abbrev pub item_of_feature : Rules → ℕ → Result FeatureValue Fault → Item
 item_of_feature r place (Ok f) = item_of_edit place (edit_of r f)
-item_of_feature r place (Err fault) = Err (BadFeature place (causes.Read fault))
+item_of_feature r place (Err fault) = Err (BadFeature place fault)
 
 -- the first value must not be a FeatureCollection
 abbrev pub item_of_value : Rules → ℕ → Data → Item
@@ -90,19 +89,14 @@ item_of_value r place d = if (place == 1) && is_collection d then Err NotASequen
     item_of_feature r place (feature_of r place d)
 
 -- what is wrong with a feature whose text has no value; running out of memory is not a fault of a
--- text
-abbrev pub cause_of : PlacingFault → FeatureFault
-cause_of placings.NotJson = causes.Read features.NotJson
-cause_of placings.TooManyDigits = causes.TooManyDigits
-cause_of placings.OutOfGrid = causes.Read features.OutOfGrid
-cause_of placings.Fraction = causes.Read features.Fraction
-cause_of placings.Memory = causes.Read features.NotJson
-
--- the first text must be a whole JSON text
+-- text. The first text must be a whole JSON text
 abbrev pub unread : ℕ → PlacingFault → TextFault
-unread place placings.NotJson = if place == 1 then NotASequence else BadFeature place
-    (causes.Read features.NotJson)
-unread place fault = BadFeature place (cause_of fault)
+unread place placings.NotJson = if place == 1 then NotASequence
+    else BadFeature place features.NotJson
+unread place placings.TooManyDigits = TooManyDigits place
+unread place placings.OutOfGrid = BadFeature place features.OutOfGrid
+unread place placings.Fraction = BadFeature place features.Fraction
+unread place placings.Memory = BadFeature place features.NotJson
 
 abbrev pub item_of_read : Rules → ℕ → Result Data PlacingFault → Item
 item_of_read r place (Ok d) = item_of_value r place d
@@ -143,6 +137,7 @@ text_on place line =
 abbrev pub of_feature : TextFault → Bool
 of_feature NotASequence = false
 of_feature (LineTooLong place) = false
+of_feature (TooManyDigits place) = true
 of_feature (BadFeature place fault) = true
 of_feature (TooLarge place) = true
 

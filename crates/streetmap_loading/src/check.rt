@@ -3,10 +3,11 @@ ghost use Rattle.streetmap_loading.specs.CheckedTexts.{ChecksText};
 ghost use Rattle.streetmap_loading.specs.Loads.{Skips};
 ghost use Rattle.streetmap_loading.specs.Options.{load_value, load_skips};
 
-use crate::end::Loaded;
 use crate::listener::Listener;
 use crate::load::Load;
-use crate::sink::{Sink, Stop};
+use crate::load_fault::LoadFault;
+use crate::loaded::Loaded;
+use crate::sink::Sink;
 use crate::text_load::send_text;
 use std::alloc::Global;
 use std::io::BufRead;
@@ -21,7 +22,7 @@ impl Sink for Nowhere {
 
     ghost takes = { λ _ _ result _. result ≡ Ok None };
 
-    fn take(&mut self, _batch: &Batch) -> Result<Option<u64>, Stop> {
+    fn take(&mut self, _batch: &Batch) -> Result<Option<u64>, LoadFault> {
         Ok(None)
     }
 }

@@ -13,14 +13,13 @@ ghost use Rattle.streetmap_loading.specs.Texts.{put_id, with_place, timely, held
 ghost use Rattle.streetmap_loading.specs.Texts.{item_of_edit, item_of_feature, item_of_value};
 ghost use Rattle.streetmap_loading.specs.Texts.{item_of_text, unread};
 ghost use Rattle.streetmap_loading.specs.TextView.{property_of, rules_value, IsItem, Measures};
-ghost use Rattle.streetmap_loading.specs.declared.feature_fault.FeatureFault.TheVariants as causes;
-ghost use Rattle.streetmap_loading.specs.declared.source.Unread.TheVariants.{AtFault};
+ghost use Rattle.streetmap_loading.specs.declared.load_fault.LoadFault.TheVariants.{AtFault};
 ghost use Rattle.streetmap_loading.specs.declared.text_fault.TextFault.TheVariants.{BadFeature};
 
 use crate::edit_length::text_len;
-use crate::feature_fault::FeatureFault;
+use crate::load_fault::LoadFault;
 use crate::rules::{FeatureRules, HeldTimes};
-use crate::source::{PlacedEdit, Unread};
+use crate::source::PlacedEdit;
 use crate::text_fault::TextFault;
 use json::Scratch;
 use serde_json::{Map, Value};
@@ -154,22 +153,22 @@ fn place_edit(
     rules: &FeatureRules,
     place: u64,
     feature: Feature,
-) -> Result<PlacedEdit, Unread>
+) -> Result<PlacedEdit, LoadFault>
     ensures { IsItem
         (item_of_edit place (edit_of (rules_value rules.now) (feature_value feature))) result }
 {
     let edit = make_edit(alloc, rules.collection.as_str(), rules.replace, feature)?;
     match PlacedEdit::new(alloc, Some(place), edit)? {
         Some(placed) => Ok(placed),
-        None => Err(Unread::AtFault(TextFault::TooLarge(place))),
+        None => Err(LoadFault::AtFault(TextFault::TooLarge(place))),
     }
 }
 
 /// The result for a feature at fault.
-fn feature_at_fault(place: u64, fault: Fault) -> Unread
-    ensures { result ≡ AtFault (BadFeature place (causes.Read fault)) }
+fn feature_at_fault(place: u64, fault: Fault) -> LoadFault
+    ensures { result ≡ AtFault (BadFeature place fault) }
 {
-    Unread::AtFault(TextFault::BadFeature(place, FeatureFault::Read(fault)))
+    LoadFault::AtFault(TextFault::BadFeature(place, fault))
 }
 
 /// The edit of a feature at a place in the text, if its time can be read.
@@ -178,7 +177,7 @@ fn edit_where_timely(
     rules: &FeatureRules,
     place: u64,
     feature: Feature,
-) -> Result<PlacedEdit, Unread>
+) -> Result<PlacedEdit, LoadFault>
     ensures { IsItem (item_of_feature (rules_value rules.now) place
         (held (rules_value rules.now).skip (feature_value feature))) result }
 {
@@ -194,16 +193,16 @@ fn read_edit_of(
     rules: &FeatureRules,
     place: u64,
     value: Value,
-) -> Result<PlacedEdit, Unread>
+) -> Result<PlacedEdit, LoadFault>
     ensures { IsItem (item_of_value (rules_value rules.now) place (view value)) result }
 {
     if place == 1 && is_collection(&value) {
-        return Err(Unread::AtFault(TextFault::NotASequence));
+        return Err(LoadFault::AtFault(TextFault::NotASequence));
     }
     let value = with_place(alloc, value, place)?;
     match read_feature(alloc, &value, None) {
         Ok(feature) => edit_where_timely(alloc, rules, place, feature),
-        Err(JsonFault::Memory) => Err(Unread::Memory),
+        Err(JsonFault::Memory) => Err(LoadFault::Memory),
         Err(JsonFault::Fault(fault)) => Err(feature_at_fault(place, fault)),
     }
 }
@@ -214,7 +213,13 @@ fn unread(place: u64, fault: PlacingFault) -> TextFault
 {
     match fault {
         PlacingFault::NotJson if place == 1 => TextFault::NotASequence,
-        _ => TextFault::BadFeature(place, FeatureFault::of_placing(fault)),
+        PlacingFault::NotJson | PlacingFault::Memory => TextFault::BadFeature(
+            place,
+            Fault::NotJson,
+        ),
+        PlacingFault::TooManyDigits => TextFault::TooManyDigits(place),
+        PlacingFault::OutOfGrid => TextFault::BadFeature(place, Fault::OutOfGrid),
+        PlacingFault::Fraction => TextFault::BadFeature(place, Fault::Fraction),
     }
 }
 
@@ -225,13 +230,13 @@ fn read_edit_by_value(
     rules: &FeatureRules,
     place: u64,
     text: &[u8],
-) -> Result<PlacedEdit, Unread>
+) -> Result<PlacedEdit, LoadFault>
     ensures { IsItem (item_of_text (rules_value rules.now) place text.now) result }
 {
     match read_placed(alloc, scratch, text, &rules.numbers) {
         Ok(value) => read_edit_of(alloc, rules, place, value),
-        Err(PlacingFault::Memory) => Err(Unread::Memory),
-        Err(fault) => Err(Unread::AtFault(unread(place, fault))),
+        Err(PlacingFault::Memory) => Err(LoadFault::Memory),
+        Err(fault) => Err(LoadFault::AtFault(unread(place, fault))),
     }
 }
 
@@ -259,7 +264,7 @@ pub(crate) fn read_edit(
     rules: &FeatureRules,
     place: u64,
     text: &[u8],
-) -> Result<PlacedEdit, Unread>
+) -> Result<PlacedEdit, LoadFault>
     ensures { IsItem (item_of_text (rules_value rules.now) place text.now) result }
 {
     match usual_feature(alloc, scratch, rules, text)? {

@@ -9,16 +9,14 @@
 //! was interrupted continues. `check_text` reads a text and loads nothing, `print_text` writes the
 //! batches instead of applying them.
 //!
-//! Modules, in the order of reading: `feature_fault`, `text_fault`, `source`, `sink`, `end`,
-//! `progress`, `whole`; `rules`, `listener`, `edit_length`, `feature_line`, `text_edits`;
-//! `load_fault`, `load`, `opened_collection`; `keeper_sink`, `text_load`, `times`, `check`,
-//! `line_sink`, `prints`, `laws`.
+//! Modules, in the order of reading: `text_fault`, `load_fault`, `source`, `sink`, `loaded`,
+//! `progress`, `whole`; `rules`, `listener`, `edit_length`, `feature_line`, `text_edits`; `load`,
+//! `opened_collection`; `keeper_sink`, `text_load`, `times`, `check`, `line_sink`, `prints`,
+//! `laws`.
 #![tactic(auto)]
 
 mod check;
 mod edit_length;
-mod end;
-mod feature_fault;
 mod feature_line;
 mod keeper_sink;
 pub mod laws;
@@ -26,6 +24,7 @@ mod line_sink;
 mod listener;
 mod load;
 mod load_fault;
+mod loaded;
 mod opened_collection;
 mod prints;
 mod progress;
@@ -39,17 +38,16 @@ mod times;
 mod whole;
 
 pub use check::check_text;
-pub use end::{End, Loaded};
-pub use feature_fault::FeatureFault;
 pub use keeper_sink::KeeperSink;
 pub use line_sink::LineSink;
 pub use listener::Listener;
 pub use load::{Load, LoadOptions, MAX_KEY, Opening};
 pub use load_fault::LoadFault;
+pub use loaded::Loaded;
 pub use prints::print_text;
 pub use rules::{FeatureRules, HeldTimes};
-pub use sink::{Sink, Stop};
-pub use source::{Edits, PlacedEdit, Unread};
+pub use sink::Sink;
+pub use source::{Edits, PlacedEdit};
 pub use text_edits::{MAX_LINE, TextEdits};
 pub use text_fault::TextFault;
 pub use text_load::{load_text, send_text};

@@ -1,5 +1,6 @@
 //! A writer that batches are written to.
-use crate::sink::{Sink, Stop};
+use crate::load_fault::LoadFault;
+use crate::sink::Sink;
 use std::alloc::{AllocError, Global};
 use std::io::Write;
 use streetmap_batch::Batch;
@@ -13,29 +14,17 @@ pub struct LineSink<W: Write> {
     pub writer: W,
 }
 
-impl Stop {
-    ghost use Rattle.streetmap_loading.specs.Prints.{IsWriteStop};
+impl LoadFault {
+    ghost use Rattle.streetmap_loading.specs.Prints.{IsOfWrite};
 
     /// Why a batch was not written.
-    fn of_write(fault: WriteFault) -> Stop
-        ensures { IsWriteStop result }
+    fn of_write(fault: WriteFault) -> LoadFault
+        ensures { IsOfWrite result }
     {
         match fault {
-            WriteFault::Memory => Stop::Stopped(Fault::Memory),
-            WriteFault::WriteFailed => Stop::WriteFailed,
+            WriteFault::Memory => LoadFault::Stopped(Fault::Memory),
+            WriteFault::WriteFailed => LoadFault::WriteFailed,
         }
-    }
-}
-
-impl From<AllocError> for Stop {
-    ghost use Rattle.std.specs.Prelude.{◌≡◌};
-    ghost use Rattle.streetmap_ledger.specs.declared.reply.Fault.TheVariants.{Memory};
-    ghost use Rattle.streetmap_loading.specs.declared.sink.Stop.TheVariants.{Stopped};
-
-    ghost from_gives = { λ _ e. e ≡ Stopped Memory };
-
-    fn from(_: AllocError) -> Stop {
-        Stop::Stopped(Fault::Memory)
     }
 }
 
@@ -44,32 +33,32 @@ ghost use Rattle.std.specs.Io.KnownBytes.{Appends};
 ghost use Rattle.streetmap_batch.specs.BatchText.{batch_text};
 ghost use Rattle.streetmap_batch.specs.BatchView.{batch_value};
 ghost use Rattle.streetmap_text_lines.specs.Written.{AppendsBeginning};
-ghost use Rattle.streetmap_loading.specs.Prints.{IsWriteStop};
+ghost use Rattle.streetmap_loading.specs.Prints.{IsOfWrite};
 
 /// Writes bytes.
-fn write_bytes<W: Write>(writer: &mut W, bytes: &[u8]) -> Result<(), Stop>
+fn write_bytes<W: Write>(writer: &mut W, bytes: &[u8]) -> Result<(), LoadFault>
     ensures ok { OnOk result (Appends (W.contents writer.old) (W.contents writer.new) bytes.now) }
     ensures err { OnErr result
         (AppendsBeginning (W.contents writer.old) (W.contents writer.new) bytes.now) }
-    ensures fault { IfErr result IsWriteStop }
+    ensures fault { IfErr result IsOfWrite }
 {
     match streetmap_text_lines::write_bytes(writer, bytes) {
         Ok(()) => Ok(()),
-        Err(stopped) => Err(Stop::of_write(stopped.why)),
+        Err(stopped) => Err(LoadFault::of_write(stopped.why)),
     }
 }
 
 /// Writes a line, and flushes the writer.
-fn write_line<W: Write>(writer: &mut W, line: &[u8]) -> Result<(), Stop>
+fn write_line<W: Write>(writer: &mut W, line: &[u8]) -> Result<(), LoadFault>
     ensures ok { OnOk result (Appends (W.contents writer.old) (W.contents writer.new) line.now) }
     ensures err { OnErr result
         (AppendsBeginning (W.contents writer.old) (W.contents writer.new) line.now) }
-    ensures fault { IfErr result IsWriteStop }
+    ensures fault { IfErr result IsOfWrite }
 {
     write_bytes(writer, line)?;
     match writer.flush() {
         Ok(()) => Ok(()),
-        Err(error) => Err(Stop::of_write(WriteFault::of_write(&error))),
+        Err(error) => Err(LoadFault::of_write(WriteFault::of_write(&error))),
     }
 }
 
@@ -89,8 +78,10 @@ impl<W: Write> Sink for LineSink<W> {
     ghost takes = { λ old b result new.
         Prints b result (W.contents old.writer) (W.contents new.writer) };
 
-    fn take(&mut self, batch: &Batch) -> Result<Option<u64>, Stop> {
-        let line = batch_line(self.alloc, batch)?;
+    fn take(&mut self, batch: &Batch) -> Result<Option<u64>, LoadFault> {
+        let Ok(line) = batch_line(self.alloc, batch) else {
+            return Err(LoadFault::Stopped(Fault::Memory));
+        };
         write_line(&mut self.writer, line.as_str().as_bytes())?;
         Ok(None)
     }

@@ -3,10 +3,10 @@ ghost use Rattle.streetmap_loading.specs.Loads.{Skips};
 ghost use Rattle.streetmap_loading.specs.Options.{load_value, load_skips};
 ghost use Rattle.streetmap_loading.specs.TextPrints.{PrintsText};
 
-use crate::end::Loaded;
 use crate::line_sink::LineSink;
 use crate::listener::Listener;
 use crate::load::Load;
+use crate::loaded::Loaded;
 use crate::text_load::send_text;
 use std::alloc::Global;
 use std::io::{BufRead, Write};

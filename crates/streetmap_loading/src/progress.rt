@@ -10,7 +10,8 @@ ghost use Rattle.streetmap_loading.specs.LoadProgress.{Begins, IsSending, Sends,
 ghost use Rattle.streetmap_loading.specs.LoadProgress.{TakesEdit, SendsTheRest};
 ghost use Rattle.streetmap_loading.specs.LoadProgress.{HasNumbersLeft, FewMore};
 
-use crate::end::{End, Loaded};
+use crate::load_fault::LoadFault;
+use crate::loaded::Loaded;
 use crate::sink::Sink;
 use crate::source::PlacedEdit;
 use std::alloc::{AllocError, Global};
@@ -63,7 +64,7 @@ impl Sending {
         sink: &mut S,
         batch: &Batch,
         places: &[Option<u64>],
-    ) -> Result<(), End>
+    ) -> Result<(), LoadFault>
         requires batches { self.old.batches + 1 < 2 ^ 64 }
         requires taken { self.old.taken + 10000 < 2 ^ 64 }
         ensures few { length (batch_value batch.now).edits ≤ 10000 }
@@ -77,12 +78,12 @@ impl Sending {
                 self.serial = serial;
                 Ok(())
             }
-            Err(stop) => Err(End::of_stop(places, stop)),
+            Err(fault) => Err(fault.placed(places)),
         }
     }
 
     /// Sends the current batch if it has as many edits as a batch may have.
-    pub(crate) fn fill<S: Sink>(&mut self, alloc: Global, sink: &mut S) -> Result<(), End>
+    pub(crate) fn fill<S: Sink>(&mut self, alloc: Global, sink: &mut S) -> Result<(), LoadFault>
         requires { HasNumbersLeft self.old }
         ensures few { OnOk result (FewMore self.old self.new) }
         ensures fills { (each : ℕ) (key : Text) (first : S) (read : List PlacedValue) →
@@ -105,7 +106,7 @@ impl Sending {
         alloc: Global,
         sink: &mut S,
         placed: PlacedEdit,
-    ) -> Result<(), End>
+    ) -> Result<(), LoadFault>
         requires { HasNumbersLeft self.old }
         ensures few { OnOk result (FewMore self.old self.new) }
         ensures puts { (each : ℕ) (key : Text) (first : S) (read : List PlacedValue) →
@@ -155,7 +156,7 @@ impl Sending {
                 taken,
                 serial,
                 skipped,
-                end: End::All,
+                fault: None,
             },
             Ok(Some(batch)) => match sink.take(&batch) {
                 Ok(last) => Loaded {
@@ -164,15 +165,15 @@ impl Sending {
                     taken: taken + batch.edits().len() as u64,
                     serial: last,
                     skipped,
-                    end: End::All,
+                    fault: None,
                 },
-                Err(stop) => Loaded {
+                Err(fault) => Loaded {
                     edits,
                     batches,
                     taken,
                     serial,
                     skipped,
-                    end: End::of_stop(&places, stop),
+                    fault: Some(fault.placed(&places)),
                 },
             },
             Err(_) => Loaded {
@@ -181,20 +182,20 @@ impl Sending {
                 taken,
                 serial,
                 skipped,
-                end: End::Memory,
+                fault: Some(LoadFault::Memory),
             },
         }
     }
 
-    /// The result of a load with this end.
-    pub(crate) fn ended(&self, edits: u64, skipped: u64, end: End) -> Loaded
+    /// The result of a load that ended by this fault.
+    pub(crate) fn ended(&self, edits: u64, skipped: u64, fault: LoadFault) -> Loaded
         ensures { result ≡ record {
           edits = edits;
           batches = self.now.batches;
           taken = self.now.taken;
           serial = self.now.serial;
           skipped = skipped;
-          end = end;
+          fault = Some fault;
         } }
     {
         Loaded {
@@ -203,7 +204,7 @@ impl Sending {
             taken: self.taken,
             serial: self.serial,
             skipped,
-            end,
+            fault: Some(fault),
         }
     }
 }

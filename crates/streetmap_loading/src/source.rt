@@ -4,20 +4,8 @@ ghost use Rattle.serde_json.specs.Written.{compact_text};
 ghost use Rattle.streetmap_batch.specs.BatchText.{edit_data};
 ghost use Rattle.streetmap_batch.specs.BatchView.{edit_value};
 
-use crate::text_fault::TextFault;
-use std::alloc::AllocError;
+use crate::load_fault::LoadFault;
 use streetmap_batch::Edit;
-
-/// Why no edit was returned.
-#[derive(Clone, Copy, PartialEq, Eq, Drop)]
-pub enum Unread {
-    /// The part of the text for the edit is at fault.
-    AtFault(TextFault),
-    /// A read of the text failed.
-    ReadFailed,
-    /// Out of memory.
-    Memory,
-}
 
 /// An edit of at most 8,388,480 bytes of batch text.
 #[derive(Drop)]
@@ -50,19 +38,8 @@ pub trait Edits {
         ensures within { IfSome (skips self.now) (λ all. result ≤ all) };
 
     /// The next edit; none at the end.
-    fn next_edit(&mut self) -> Result<Option<PlacedEdit>, Unread>
+    fn next_edit(&mut self) -> Result<Option<PlacedEdit>, LoadFault>
         ensures gives { SourceGives (left self.old) (left self.new) result }
         ensures skips { SourceSkips (skips self.old) (skips self.new) (has_skipped self.new)
             result };
-}
-
-impl From<AllocError> for Unread {
-    ghost use Rattle.std.specs.Prelude.{◌≡◌};
-    ghost use Rattle.streetmap_loading.specs.declared.source.Unread.TheVariants.{Memory};
-
-    ghost from_gives = { λ _ e. e ≡ Memory };
-
-    fn from(_: AllocError) -> Unread {
-        Unread::Memory
-    }
 }

@@ -7,8 +7,9 @@ ghost use Rattle.streetmap_loading.specs.TextView.{rules_value, Steps, StepSkips
 
 use crate::feature_line::read_edit;
 use crate::listener::Listener;
+use crate::load_fault::LoadFault;
 use crate::rules::FeatureRules;
-use crate::source::{Edits, PlacedEdit, Unread};
+use crate::source::{Edits, PlacedEdit};
 use crate::text_fault::TextFault;
 use json::Scratch;
 use std::alloc::Global;
@@ -99,14 +100,16 @@ impl FeatureRules {
     {
         match fault {
             TextFault::NotASequence | TextFault::LineTooLong(_) => false,
-            TextFault::BadFeature(_, _) | TextFault::TooLarge(_) => self.skip.is_some(),
+            TextFault::TooManyDigits(_) | TextFault::BadFeature(_, _) | TextFault::TooLarge(_) => {
+                self.skip.is_some()
+            }
         }
     }
 }
 
 impl<R: BufRead + Drop, L: Listener + Drop> TextEdits<R, L> {
     /// Reads one line.
-    fn step(&mut self) -> Result<Step, Unread>
+    fn step(&mut self) -> Result<Step, LoadFault>
         ensures steps { Steps
             (items_left (rules_value self.old.rules) self.old.features
             (R.remaining self.old.reader))
@@ -123,16 +126,16 @@ impl<R: BufRead + Drop, L: Listener + Drop> TextEdits<R, L> {
         ensures opening { self.new.opening ≡ self.old.opening }
     {
         let Some(place) = self.features.checked_add(1) else {
-            return Err(Unread::ReadFailed);
+            return Err(LoadFault::ReadFailed);
         };
         match read_line(&mut self.reader, &mut self.line, MAX_LINE) {
             Ok(Found::Line) => {}
             Ok(Found::End) => return Ok(Step::End),
             Err(LineFault::LineTooLong) => {
-                return Err(Unread::AtFault(TextFault::LineTooLong(place)));
+                return Err(LoadFault::AtFault(TextFault::LineTooLong(place)));
             }
-            Err(LineFault::ReadFailed) => return Err(Unread::ReadFailed),
-            Err(LineFault::Memory) => return Err(Unread::Memory),
+            Err(LineFault::ReadFailed) => return Err(LoadFault::ReadFailed),
+            Err(LineFault::Memory) => return Err(LoadFault::Memory),
         }
         self.bytes = self
             .bytes
@@ -146,19 +149,19 @@ impl<R: BufRead + Drop, L: Listener + Drop> TextEdits<R, L> {
         self.listener.reached(place, self.bytes);
         match read_edit(self.alloc, &mut self.scratch, &self.rules, place, text) {
             Ok(placed) => Ok(Step::Edit(placed)),
-            Err(Unread::AtFault(fault)) => {
+            Err(LoadFault::AtFault(fault)) => {
                 if self.rules.skips(fault) {
                     let Some(skipped) = self.skipped.checked_add(1) else {
-                        return Err(Unread::ReadFailed);
+                        return Err(LoadFault::ReadFailed);
                     };
                     self.skipped = skipped;
                     self.listener.passed_over(fault);
                     Ok(Step::Past)
                 } else {
-                    Err(Unread::AtFault(fault))
+                    Err(LoadFault::AtFault(fault))
                 }
             }
-            Err(unread) => Err(unread),
+            Err(fault) => Err(fault),
         }
     }
 }
@@ -176,7 +179,7 @@ impl<R: BufRead + Drop, L: Listener + Drop> Edits for TextEdits<R, L> {
         self.skipped
     }
 
-    fn next_edit(&mut self) -> Result<Option<PlacedEdit>, Unread> {
+    fn next_edit(&mut self) -> Result<Option<PlacedEdit>, LoadFault> {
         if let Some(opening) = self.opening.take() {
             return Ok(Some(opening));
         }
@@ -187,6 +190,6 @@ impl<R: BufRead + Drop, L: Listener + Drop> Edits for TextEdits<R, L> {
                 Step::End => return Ok(None),
             }
         }
-        Err(Unread::ReadFailed)
+        Err(LoadFault::ReadFailed)
     }
 }

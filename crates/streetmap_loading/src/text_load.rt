@@ -8,10 +8,10 @@ ghost use Rattle.streetmap_loading.specs.TextLoads.{SendsItems, SendsText};
 ghost use Rattle.streetmap_loading.specs.Loads.{Skips};
 ghost use Rattle.streetmap_loading.specs.Options.{load_value, load_items, load_skips};
 
-use crate::end::Loaded;
 use crate::keeper_sink::KeeperSink;
 use crate::listener::Listener;
 use crate::load::Load;
+use crate::loaded::Loaded;
 use crate::sink::Sink;
 use crate::source::Edits;
 use crate::text_edits::TextEdits;
@@ -88,7 +88,7 @@ pub fn load_text<K: Keeper, R: BufRead + Drop, L: Listener + Drop>(
     load: Load,
     listener: L,
 ) -> Loaded
-    ensures calls { AreCalls K.model sink.old.keeper sink.new.keeper (keeper_fault result.end) }
+    ensures calls { AreCalls K.model sink.old.keeper sink.new.keeper (keeper_fault result.fault) }
     // The features that were read, the batches of them that were sent, how the load ended, and the
     // state that the keeper then represents; if its store failed, what a crash can leave.
     ensures loads { K.model.is_clean sink.new.keeper → (s : State) →

@@ -3,10 +3,11 @@ ghost use Rattle.std.specs.Prelude.{◌≤◌, IsTrue, length, string_bytes};
 ghost use Rattle.streetmap_batch.specs.Names.{is_key};
 ghost use Rattle.streetmap_loading.specs.Loads.{Loads, Skips};
 
-use crate::end::{End, Loaded};
+use crate::load_fault::LoadFault;
+use crate::loaded::Loaded;
 use crate::progress::Sending;
 use crate::sink::Sink;
-use crate::source::{Edits, Unread};
+use crate::source::Edits;
 use std::alloc::Global;
 
 /// The most edits of a load.
@@ -42,25 +43,23 @@ pub fn send_all<S: Sink, E: Edits>(
                 taken: 0,
                 serial: None,
                 skipped: edits.skipped(),
-                end: End::Memory,
+                fault: Some(LoadFault::Memory),
             };
         }
     };
     for turn in 0..MAX_EDITS {
-        if let Err(end) = sending.fill(alloc, sink) {
-            return sending.ended(turn, edits.skipped(), end);
+        if let Err(fault) = sending.fill(alloc, sink) {
+            return sending.ended(turn, edits.skipped(), fault);
         }
         match edits.next_edit() {
             Ok(Some(placed)) => {
-                if let Err(end) = sending.put(alloc, sink, placed) {
-                    return sending.ended(turn + 1, edits.skipped(), end);
+                if let Err(fault) = sending.put(alloc, sink, placed) {
+                    return sending.ended(turn + 1, edits.skipped(), fault);
                 }
             }
             Ok(None) => return sending.finish(alloc, sink, turn, edits.skipped()),
-            Err(unread) => {
-                return sending.ended(turn, edits.skipped(), End::of_unread(unread));
-            }
+            Err(fault) => return sending.ended(turn, edits.skipped(), fault),
         }
     }
-    sending.ended(MAX_EDITS, edits.skipped(), End::ReadFailed)
+    sending.ended(MAX_EDITS, edits.skipped(), LoadFault::ReadFailed)
 }

@@ -27,13 +27,10 @@ use Rattle.streetmap_replay.proofs.Sitting.{reaches}
 use Rattle.streetmap_text_lines.specs.LineReads.{HasNoLineFeed}
 use Rattle.streetmap_text_lines.specs.declared.fault.LineFault.TheVariants.{LineTooLong, ReadFailed}
 use Rattle.streetmap_text_lines.specs.declared.fault.LineFault.TheVariants.{Memory}
-use Rattle.streetmap_replay.specs.LineEffects.{Follows}
 use Rattle.streetmap_replay.specs.Beginnings.{IsOfJournal, FollowerBy}
 use Rattle.streetmap_replay.specs.Ends.{IsInputLine, FollowingEndsBy, FollowsLines}
-use Rattle.streetmap_replay.specs.declared.line_stop.LineStop.{LineStop}
-use Rattle.streetmap_replay.specs.declared.line_stop.LineStop.TheVariants as stops
-use Rattle.streetmap_replay.specs.declared.follower.End.{End}
-use Rattle.streetmap_replay.specs.declared.follower.End.TheVariants as ends
+use Rattle.streetmap_replay.specs.declared.follow_fault.FollowFault.{FollowFault}
+use Rattle.streetmap_replay.specs.declared.follow_fault.FollowFault.TheVariants as ends
 use Rattle.streetmap_replay.specs.declared.follower.Followed.{Followed}
 use Rattle.streetmap_replay.proofs.FollowedSoFar.{one_more}
 
@@ -148,33 +145,30 @@ module _ (bs : List BatchValue) (w : All IsSoundBatch bs) where
 
       module _ {K : Type 0} (model : Model K) (a b : K) where
         module _ (count : ℕ) (t : State) (is : t ≡ follower bs (max k (highest (take count lines)))) where
-          stop_by : (outcome : Result Outcome LineFault) (stop : LineStop) → Follows model a b t outcome (Err stop) → FollowerBy bs k lines count (ends.Stopped stop) (model.represents b)
-          stop_by outcome (stops.Unread batches.Memory) h = subst (model.represents b) is h
-          stop_by outcome (stops.Unread (batches.BadBatch place)) h = subst (model.represents b) is h.1
-          stop_by outcome (stops.Unread batches.BadKey) h = subst (model.represents b) is h.1
-          stop_by outcome (stops.Unread batches.TooManyEdits) h = subst (model.represents b) is h.1
-          stop_by outcome (stops.Unread (batches.BadFeature place cause)) h = subst (model.represents b) is h.1
-          stop_by outcome stops.NotNext h = subst (model.represents b) is h.1
-          stop_by outcome (stops.Refused why place) h = subst (model.represents b) is h.1
-          stop_by outcome (stops.Stopped faults.Memory) h = subst (model.represents b) is h
-          stop_by outcome (stops.Stopped faults.Device) h = tt
-          stop_by outcome (stops.Stopped faults.Damaged) h = h
-          stop_by outcome (stops.Stopped faults.Reopen) h = h
-
-          end_by : (read : List Line) (new : Option (List ℕ)) (end : End) →
-              (FollowingEndsBy model a b t read (Some input) new ends.NotReported → FollowerBy bs k lines count ends.NotReported (model.represents b)) →
-              FollowingEndsBy model a b t read (Some input) new end → FollowerBy bs k lines count end (model.represents b)
-          end_by read new ends.All untold h = subst (model.represents b) is h.1
-          end_by read new ends.CutLine untold h = subst (model.represents b) is h.1
-          end_by read new (ends.NotRead LineTooLong) untold h = subst (model.represents b) is h.1
-          end_by read new (ends.NotRead ReadFailed) untold h = subst (model.represents b) is h
-          end_by read new (ends.NotRead Memory) untold h = subst (model.represents b) is h
-          end_by read new (ends.Stopped stop) untold h = stop_by _ stop h.3
-          end_by read new ends.NotReported untold h = untold h
+          end_by : (read : List Line) (new : Option (List ℕ)) (why : Option FollowFault) →
+              (FollowingEndsBy model a b t read (Some input) new (Some ends.NotReported) → FollowerBy bs k lines count (Some ends.NotReported) (model.represents b)) →
+              FollowingEndsBy model a b t read (Some input) new why → FollowerBy bs k lines count why (model.represents b)
+          end_by read new None untold h = subst (model.represents b) is h.1
+          end_by read new (Some (ends.Unread batches.Memory)) untold h = subst (model.represents b) is h.3
+          end_by read new (Some (ends.Unread (batches.BadBatch place))) untold h = subst (model.represents b) is h.3.1
+          end_by read new (Some (ends.Unread batches.BadKey)) untold h = subst (model.represents b) is h.3.1
+          end_by read new (Some (ends.Unread batches.TooManyEdits)) untold h = subst (model.represents b) is h.3.1
+          end_by read new (Some (ends.Unread (batches.BadFeature place cause))) untold h = subst (model.represents b) is h.3.1
+          end_by read new (Some ends.NotNext) untold h = subst (model.represents b) is h.3.1
+          end_by read new (Some (ends.Refused why place)) untold h = subst (model.represents b) is h.3.1
+          end_by read new (Some (ends.Stopped faults.Memory)) untold h = subst (model.represents b) is h.3
+          end_by read new (Some (ends.Stopped faults.Device)) untold h = tt
+          end_by read new (Some (ends.Stopped faults.Damaged)) untold h = h.3
+          end_by read new (Some (ends.Stopped faults.Reopen)) untold h = h.3
+          end_by read new (Some ends.CutLine) untold h = subst (model.represents b) is h.1
+          end_by read new (Some (ends.NotRead LineTooLong)) untold h = subst (model.represents b) is h.1
+          end_by read new (Some (ends.NotRead ReadFailed)) untold h = subst (model.represents b) is h
+          end_by read new (Some (ends.NotRead Memory)) untold h = subst (model.represents b) is h
+          end_by read new (Some ends.NotReported) untold h = untold h
 
         -- the last line was followed, and its reply was not reported
         one_after : (read : List Line) (count : ℕ) → length read ≡ count → All IsInputLine read → (follow (follower bs k) read).fault ≡ None → (new : Option (List ℕ)) →
-            FollowingEndsBy model a b (follow (follower bs k) read).state read (Some input) new ends.NotReported → FollowerBy bs k lines count ends.NotReported (model.represents b)
+            FollowingEndsBy model a b (follow (follower bs k) read).state read (Some input) new (Some ends.NotReported) → FollowerBy bs k lines count (Some ends.NotReported) (model.represents b)
         one_after read count counted all whole None h = absurd h.2
         one_after read count counted all whole (Some rest) h =
             let line = h.0 in
@@ -189,11 +183,11 @@ module _ (bs : List BatchValue) (w : All IsSoundBatch bs) where
 
 pub follower_by : {K T : Type 0} (model : Model K) (a b : K) (bs : List BatchValue) → All IsSoundBatch bs → (k : ℕ) (lines : List Line) (old new : Option (List ℕ)) (reports : T → Text → Reply → T → Type 0)
     (first last : T) (result : Followed) → IsOfJournal bs lines old → FollowsLines model a b (follower bs k) old new reports first last result →
-    FollowerBy bs k lines result.count result.end (model.represents b)
+    FollowerBy bs k lines result.count result.fault (model.represents b)
 follower_by model a b bs w k lines None new reports first last result of h = absurd of
 follower_by model a b bs w k lines (Some input) new reports first last result of h =
     let t = (follow (follower bs k) h.read).state in
     let is = remaining bs w k lines input of h.read h.front.0 result.count h.counted h.lines h.front.1
     h.followed in
-    end_by bs w k lines input of model a b result.count t is h.read new result.end
+    end_by bs w k lines input of model a b result.count t is h.read new result.fault
     (one_after bs w k lines input of model a b h.read result.count h.counted h.lines h.followed new) h.ends

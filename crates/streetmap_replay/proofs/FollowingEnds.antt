@@ -20,13 +20,14 @@ use Rattle.streetmap_text_lines.specs.Whole.{EndsWithin}
 use Rattle.streetmap_text_lines.specs.declared.fault.LineFault.{LineFault}
 use Rattle.streetmap_text_lines.specs.declared.fault.LineFault.TheVariants.{LineTooLong, ReadFailed}
 use Rattle.streetmap_text_lines.specs.declared.fault.LineFault.TheVariants.{Memory}
-use Rattle.streetmap_replay.specs.LineEffects.{answer_of}
-use Rattle.streetmap_replay.specs.Ends.{most_bytes, key_in, FollowsLines, end_answer}
+use Rattle.streetmap_replay.specs.LineEffects.{IsOfLine, Follows, answer_of}
+use Rattle.streetmap_replay.specs.Lines.{Line}
+use Rattle.streetmap_replay.specs.Ends.{most_bytes, key_in, IsInputLine, ReportsAll, ReportsBy}
+use Rattle.streetmap_replay.specs.Ends.{FollowingEndsBy, FollowsLines, end_answer}
 use Rattle.streetmap_replay.specs.ParsedLines.{line_text, FollowsLine}
 use Rattle.streetmap_replay.specs.declared.actions.Acknowledged.{Acknowledged}
-use Rattle.streetmap_replay.specs.declared.line_stop.LineStop.{LineStop}
-use Rattle.streetmap_replay.specs.declared.line_stop.LineStop.TheVariants as stops
-use Rattle.streetmap_replay.specs.declared.follower.End.TheVariants as ends
+use Rattle.streetmap_replay.specs.declared.follow_fault.FollowFault.{FollowFault}
+use Rattle.streetmap_replay.specs.declared.follow_fault.FollowFault.TheVariants as ends
 use Rattle.streetmap_replay.proofs.CallsInTurn.{no_fault}
 use Rattle.streetmap_replay.proofs.ReportedBatches.{follows_from}
 use Rattle.streetmap_replay.proofs.FollowedSoFar.{Underway, is_input, taken_more, goes_further}
@@ -72,11 +73,36 @@ long_after (Some xs) (Some ys) bytes h long = (ys, h, long)
 -- ---- continuing, and ending
 
 -- the keeper's answer to the line that ended it
-pub ends_by : {K : Type 0} {model : Model K} {a b : K} (stop : LineStop) → AreCalls model a b (answer_of {T = Reply} (Err stop)) → AreCalls model a b (end_answer (ends.Stopped stop))
-ends_by (stops.Unread fault) calls = calls
-ends_by stops.NotNext calls = no_fault calls
-ends_by (stops.Refused why place) calls = no_fault calls
-ends_by (stops.Stopped fault) calls = calls
+pub ends_by : {K : Type 0} {model : Model K} {a b : K} (fault : FollowFault) → IsOfLine fault → AreCalls model a b (answer_of {T = Reply} (Err fault)) → AreCalls model a b (end_answer (Some fault))
+ends_by (ends.Unread fault) of_line calls = calls
+ends_by ends.NotNext of_line calls = no_fault calls
+ends_by (ends.Refused why place) of_line calls = no_fault calls
+ends_by (ends.Stopped fault) of_line calls = calls
+ends_by ends.CutLine of_line calls = absurd of_line
+ends_by (ends.NotRead fault) of_line calls = absurd of_line
+ends_by ends.NotReported of_line calls = absurd of_line
+
+-- the next line is read and not followed
+reported_at : {T : Type 0} (reports : T → Text → Reply → T → Type 0) (first last : T) (replies : List (Text × Reply)) (fault : FollowFault) → IsOfLine fault →
+    ReportsAll reports first replies last → ReportsBy reports first last replies (Some fault)
+reported_at reports first last replies (ends.Unread fault) of_line all = all
+reported_at reports first last replies ends.NotNext of_line all = all
+reported_at reports first last replies (ends.Refused why place) of_line all = all
+reported_at reports first last replies (ends.Stopped fault) of_line all = all
+reported_at reports first last replies ends.CutLine of_line all = absurd of_line
+reported_at reports first last replies (ends.NotRead fault) of_line all = absurd of_line
+reported_at reports first last replies ends.NotReported of_line all = absurd of_line
+
+ends_at : {K : Type 0} (model : Model K) (k m : K) (t : State) (read : List Line) (input later : Option (List ℕ)) (fault : FollowFault) → IsOfLine fault →
+    (line : Line) × IsInputLine line × Consumes input later (text_of_lines (read ++ line ∷ [])) × Follows model k m t (line_outcome t line) (Err fault) →
+    FollowingEndsBy model k m t read input later (Some fault)
+ends_at model k m t read input later (ends.Unread fault) of_line h = h
+ends_at model k m t read input later ends.NotNext of_line h = h
+ends_at model k m t read input later (ends.Refused why place) of_line h = h
+ends_at model k m t read input later (ends.Stopped fault) of_line h = h
+ends_at model k m t read input later ends.CutLine of_line h = absurd of_line
+ends_at model k m t read input later (ends.NotRead fault) of_line h = absurd of_line
+ends_at model k m t read input later ends.NotReported of_line h = absurd of_line
 
 module _ {K T : Type 0} (model : Model K) (k l m : K) (s : State) (input now later : Option (List ℕ)) (reports : T → Text → Reply → T → Type 0) (first mid last : T) (count : ℕ)
     (it : Underway model l s input now reports first mid count) where
@@ -95,7 +121,7 @@ module _ {K T : Type 0} (model : Model K) (k l m : K) (s : State) (input now lat
 
   pub not_reported : (bytes : List ℕ) (a : Acknowledged) → FollowsLine model l m bytes (Ok a) → model.is_clean m → HasNoLineFeed bytes →
       length bytes ≤ most_bytes → Consumes now later (bytes ++ 10 ∷ []) →
-      FollowsLines model k m s input later reports first last (record { count = count; end = ends.NotReported })
+      FollowsLines model k m s input later reports first last (record { count = count; fault = Some ends.NotReported })
   not_reported bytes a says clean one short took =
       let found = says.followed.follows clean (follow s it.read).state it.there in
       record {
@@ -113,10 +139,10 @@ module _ {K T : Type 0} (model : Model K) (k l m : K) (s : State) (input now lat
         );
       }
 
-  pub stopped : (bytes : List ℕ) (stop : LineStop) → AreCalls model k l None → FollowsLine model l m bytes (Err stop) → model.is_clean m → HasNoLineFeed bytes →
+  pub stopped : (bytes : List ℕ) (fault : FollowFault) → AreCalls model k l None → FollowsLine model l m bytes (Err fault) → model.is_clean m → HasNoLineFeed bytes →
       length bytes ≤ most_bytes → Consumes now later (bytes ++ 10 ∷ []) →
-      FollowsLines model k m s input later reports first mid (record { count = count; end = ends.Stopped stop })
-  stopped bytes stop before says clean one short took =
+      FollowsLines model k m s input later reports first mid (record { count = count; fault = Some fault })
+  stopped bytes fault before says clean one short took =
       let t = (follow s it.read).state in
       record {
         read = it.read;
@@ -124,16 +150,16 @@ module _ {K T : Type 0} (model : Model K) (k l m : K) (s : State) (input now lat
         lines = it.lines;
         front = front_of input now (text_of_lines it.read) it.taken;
         followed = it.followed;
-        reported = it.reported;
-        ends = (
+        reported = reported_at reports first mid _ fault says.followed.of_line it.reported;
+        ends = ends_at model k m t it.read input later fault says.followed.of_line (
           says.line,
           is_input bytes says.line says.is one short,
           taken_more input now later it.read says.line bytes says.is it.taken took,
-          follows_from model k l m t (line_outcome t says.line) (Err stop) (model.fails_later k l m before.preserved says.followed.calls.preserved) (says.followed.follows clean t it.there),
+          follows_from model k l m t (line_outcome t says.line) (Err fault) (model.fails_later k l m before.preserved says.followed.calls.preserved) (says.followed.follows clean t it.there),
         );
       }
 
-  pub all : Keeps now later × IsAtEnd now → FollowsLines model k l s input later reports first mid (record { count = count; end = ends.All })
+  pub all : Keeps now later × IsAtEnd now → FollowsLines model k l s input later reports first mid (record { count = count; fault = None })
   all end = record {
     read = it.read;
     counted = it.counted;
@@ -144,7 +170,7 @@ module _ {K T : Type 0} (model : Model K) (k l m : K) (s : State) (input now lat
     ends = (all_taken input now later (text_of_lines it.read) it.taken end, it.there);
   }
 
-  pub cut : WhereKnown now later EndsWithin → FollowsLines model k l s input later reports first mid (record { count = count; end = ends.CutLine })
+  pub cut : WhereKnown now later EndsWithin → FollowsLines model k l s input later reports first mid (record { count = count; fault = Some ends.CutLine })
   cut end = record {
     read = it.read;
     counted = it.counted;
@@ -156,7 +182,7 @@ module _ {K T : Type 0} (model : Model K) (k l m : K) (s : State) (input now lat
   }
 
   pub unread : (fault : LineFault) → (fault ≡ LineTooLong → IfSome now (λ rest. first_too_long most_bytes rest ≡ Some 0)) →
-      FollowsLines model k l s input later reports first mid (record { count = count; end = ends.NotRead fault })
+      FollowsLines model k l s input later reports first mid (record { count = count; fault = Some (ends.NotRead fault) })
   unread LineTooLong long = record {
     read = it.read;
     counted = it.counted;

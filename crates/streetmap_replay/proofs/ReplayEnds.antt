@@ -1,5 +1,5 @@
 -- The result of a replay.
-use Rattle.std.proofs.Common.{◌≡◌, ℕ, Bool, true, false, Option, Some, Result, Ok, Err}
+use Rattle.std.proofs.Common.{◌≡◌, ℕ, Bool, true, false, Some, Result, Ok, Err}
 use Rattle.std.proofs.Common.{refl, sym, ap}
 use Rattle.std.proofs.Common.{subst, ◌∙◌}
 use Rattle.std.specs.Prelude.{string_bytes}
@@ -17,11 +17,9 @@ use Rattle.streetmap_replay.specs.Alike.{Differs, Compares}
 use Rattle.streetmap_replay.specs.Given.{GivesAll, GivesPart, GivesRow, given_again}
 use Rattle.streetmap_replay.specs.Calls.{fails_by, Stays}
 use Rattle.streetmap_replay.specs.Stops.{IsForeseen, fresh_end}
-use Rattle.streetmap_replay.specs.declared.fault.ReplayStop.{ReplayStop}
-use Rattle.streetmap_replay.specs.declared.fault.ReplayStop.TheVariants.{Kept, Fresh, Memory}
 use Rattle.streetmap_replay.specs.declared.fault.ReplayFault.{ReplayFault}
-use Rattle.streetmap_replay.specs.declared.fault.ReplayFault.TheVariants.{Stopped, Batch}
-use Rattle.streetmap_replay.specs.declared.fault.ReplayFault.TheVariants.{Collection}
+use Rattle.streetmap_replay.specs.declared.fault.ReplayFault.TheVariants.{Kept, Fresh, Memory}
+use Rattle.streetmap_replay.specs.declared.fault.ReplayFault.TheVariants.{Batch, Collection}
 use Rattle.streetmap_replay.proofs.NotGivenAgain.{stop_refutes}
 
 foreseen : {K : Type 0} (model : Model K) (a b : K) (t : State) (fault : Fault) → Stays model a b t (fails_by fault) → IsForeseen fault
@@ -55,9 +53,9 @@ module _ (s t : State) (given : GivesAll s t) where
   pub compared : {K T : Type 0} (model : Model K) (a b : K) (result : Result T ReplayFault) → Compares s t (s.collections ≡ t.collections) result → Stays model a b t (fresh_end result)
       → Checks s result (model.represents b)
   compared model a b (Ok done) h stays = (replays h, subst (model.represents b) (whole_same h) stays)
-  compared model a b (Err (Stopped (Kept fault))) h stays = tt
-  compared model a b (Err (Stopped (Fresh fault))) h stays = foreseen model a b t fault stays
-  compared model a b (Err (Stopped Memory)) h stays = tt
+  compared model a b (Err (Kept fault)) h stays = tt
+  compared model a b (Err (Fresh fault)) h stays = foreseen model a b t fault stays
+  compared model a b (Err Memory) h stays = tt
   compared model a b (Err (Batch serial)) h stays = absurd h
   compared model a b (Err (Collection name)) h stays = (
     other _ h,
@@ -66,27 +64,29 @@ module _ (s t : State) (given : GivesAll s t) where
   )
 
 pub not_given : (s : State) (fault : ReplayFault) (fresh : State → Type 0) → GivesBatches {T = Unit {0}} s (Err fault) fresh → Checks {T = Unit {0}} s (Err fault) fresh
-not_given s (Stopped (Kept fault)) fresh h = h
-not_given s (Stopped (Fresh fault)) fresh h = h
-not_given s (Stopped Memory) fresh h = h
+not_given s (Kept fault) fresh h = h
+not_given s (Fresh fault) fresh h = h
+not_given s Memory fresh h = h
 not_given s (Batch serial) fresh h = h
 not_given s (Collection name) fresh h = absurd h
 
 -- a part with a batch that its text does not reproduce
 pub part_fault : (s : State) (n : ℕ) (fault : ReplayFault) (fresh : State → Type 0) → IsState s → GivesPart {T = Unit {0}} s n (Err fault) fresh → GivesBatches {T = Unit {0}} s (Err fault) fresh
-part_fault s n (Stopped (Kept fault)) fresh sound it = absurd it
-part_fault s n (Stopped (Fresh fault)) fresh sound it = it
-part_fault s n (Stopped Memory) fresh sound it = it
+part_fault s n (Kept fault) fresh sound it = absurd it
+part_fault s n (Fresh fault) fresh sound it = it
+part_fault s n Memory fresh sound it = it
 part_fault s n (Batch serial) fresh sound it = (stop_refutes s serial sound it, it)
 part_fault s n (Collection name) fresh sound it = absurd it
 
 -- a batch that was not reproduced, because memory ran out or the keeper failed
-pub row_stop : (s t : State) (n : ℕ) (batch : KeyedBatch) (stop : ReplayStop)
+pub row_stop : (s t : State) (n : ℕ) (batch : KeyedBatch) (stop : ReplayFault)
     (fresh : State → Type 0) → GivesRow t batch (Err stop) fresh →
-    GivesPart {T = Unit {0}} s n (Err (Stopped stop)) fresh
+    GivesPart {T = Unit {0}} s n (Err stop) fresh
 row_stop s t n batch (Kept fault) fresh h = absurd h
 row_stop s t n batch (Fresh fault) fresh h = h
 row_stop s t n batch Memory fresh h = h
+row_stop s t n batch (Batch serial) fresh h = absurd h
+row_stop s t n batch (Collection name) fresh h = absurd h
 
 -- whether the batch was reproduced
 pub row_true : (t : State) (batch : KeyedBatch) (is : Bool) (represents : State → Type 0) → is ≡ true →

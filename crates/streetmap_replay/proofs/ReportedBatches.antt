@@ -23,16 +23,16 @@ use Rattle.streetmap_replay.specs.Lines.{IsJournalLine}
 use Rattle.streetmap_replay.specs.View.{line_with, line_value}
 use Rattle.streetmap_replay.specs.LineEffects.{acted_with, state_after, Follows, IsFollowed}
 use Rattle.streetmap_replay.specs.ParsedLines.{line_text, FollowsLine}
-use Rattle.streetmap_replay.specs.declared.line_stop.LineStop.{LineStop}
-use Rattle.streetmap_replay.specs.declared.line_stop.LineStop.TheVariants.{Unread, Stopped}
-use Rattle.streetmap_replay.specs.declared.line_stop.LineStop.TheVariants as stops
+use Rattle.streetmap_replay.specs.declared.follow_fault.FollowFault.{FollowFault}
+use Rattle.streetmap_replay.specs.declared.follow_fault.FollowFault.TheVariants.{Unread, Stopped}
+use Rattle.streetmap_replay.specs.declared.follow_fault.FollowFault.TheVariants as stops
 use Rattle.streetmap_replay.specs.declared.line_bytes.Line.{Line}
 use Rattle.streetmap_replay.proofs.CallsInTurn.{answered, call_of, failed, no_calls, calls_then}
 
 -- ---- a batch
 
 -- the reply to it, as the result of its line
-abbrev pub line_reply : Reply → Result Reply LineStop
+abbrev pub line_reply : Reply → Result Reply FollowFault
 line_reply (Accepted counts serial) = Ok (Accepted counts serial)
 line_reply (Repeated counts serial) = Ok (Repeated counts serial)
 line_reply (Refused why place) = Err (stops.Refused why place)
@@ -44,7 +44,7 @@ after_is s b (Refused why place) e = (refused_changes_nothing s b why place e).0
 
 module _ {K : Type 0} (model : Model K) where
   -- calls were made before
-  pub follows_from : (a b c : K) (s : State) (outcome : Result Outcome LineFault) (r : Result Reply LineStop) → (model.fails b c → model.fails a c) → Follows model b c s outcome r
+  pub follows_from : (a b c : K) (s : State) (outcome : Result Outcome LineFault) (r : Result Reply FollowFault) → (model.fails b c → model.fails a c) → Follows model b c s outcome r
       → Follows model a c s outcome r
   follows_from a b c s outcome (Ok reply) before h = h
   follows_from a b c s outcome (Err (Unread (BadBatch place))) before h = h
@@ -58,6 +58,9 @@ module _ {K : Type 0} (model : Model K) where
   follows_from a b c s outcome (Err (Stopped Device)) before h = (before h.0, h.1)
   follows_from a b c s outcome (Err (Stopped Damaged)) before h = h
   follows_from a b c s outcome (Err (Stopped Reopen)) before h = h
+  follows_from a b c s outcome (Err stops.CutLine) before h = h
+  follows_from a b c s outcome (Err (stops.NotRead fault)) before h = h
+  follows_from a b c s outcome (Err stops.NotReported) before h = h
 
   -- the keeper failed during the write
   stops_at : (a b : K) (s : State) (batch : BatchValue) (fault : Fault) → Writes model a b s batch (Err fault) → Follows model a b s (acted s (Ok batch)) (Err (Stopped fault))
@@ -78,6 +81,7 @@ module _ {K : Type 0} {model : Model K} where
   -- the batch was answered
   pub written : {a b : K} (batch : BatchValue) (reported : Reply) → IsWrite model a b batch (Ok reported) → IsFollowed model a b (λ s. acted s (Ok batch)) (line_reply reported)
   written batch (Accepted counts serial) write = record {
+    of_line = tt;
     calls = answered write.call;
     follows = λ h s e.
         let it = write.writes h s e in
@@ -85,6 +89,7 @@ module _ {K : Type 0} {model : Model K} where
         (record { reply = Accepted counts serial; state = t }, ap (unless_refused t) (sym it.0), refl, it.1);
   }
   written batch (Repeated counts serial) write = record {
+    of_line = tt;
     calls = answered write.call;
     follows = λ h s e.
         let it = write.writes h s e in
@@ -92,6 +97,7 @@ module _ {K : Type 0} {model : Model K} where
         (record { reply = Repeated counts serial; state = t }, ap (unless_refused t) (sym it.0), refl, it.1);
   }
   written {a} {b} batch (Refused why place) write = record {
+    of_line = tt;
     calls = answered write.call;
     follows = λ h s e.
         let it = write.writes h s e in (
@@ -103,6 +109,7 @@ module _ {K : Type 0} {model : Model K} where
   -- the batch was not answered, since the keeper failed
   pub failed_write : {a b : K} (batch : BatchValue) (fault : Fault) → IsWrite model a b batch (Err fault) → IsFollowed model a b (λ s. acted s (Ok batch)) (Err (Stopped fault))
   failed_write {a} {b} batch fault write = record {
+    of_line = tt;
     calls = failed write.call;
     follows = λ h s e. stops_at model a b s batch fault (write.writes h s e);
   }
@@ -110,9 +117,10 @@ module _ {K : Type 0} {model : Model K} where
   -- ---- a batch with its serial
 
   -- whose serial is the next one
-  pub next_followed : {a b c : K} {r : Result Reply LineStop} {next : Bool} (serial : ℕ) (batch : BatchValue) → IsRead model a b (Ok next) (λ s n. n ≡ is_next s serial batch) → next ≡ true
+  pub next_followed : {a b c : K} {r : Result Reply FollowFault} {next : Bool} (serial : ℕ) (batch : BatchValue) → IsRead model a b (Ok next) (λ s n. n ≡ is_next s serial batch) → next ≡ true
       → IsFollowed model b c (λ s. acted s (Ok batch)) r → IsFollowed model a c (λ s. acted_next s serial (Ok batch)) r
   next_followed {a} {b} {c} {r} {next} serial batch read is then = record {
+    of_line = then.of_line;
     calls = calls_then (call_of read.call) then.calls;
     follows = λ h s e.
         let found = read.reads (then.calls.began_clean h) s e in
@@ -125,6 +133,7 @@ module _ {K : Type 0} {model : Model K} where
   pub next_not : {a b : K} {next : Bool} (serial : ℕ) (batch : BatchValue) → IsRead model a b (Ok next) (λ s n. n ≡ is_next s serial batch) → next ≡ false
       → IsFollowed model a b (λ s. acted_next s serial (Ok batch)) (Err stops.NotNext)
   next_not {a} {b} {next} serial batch read is = record {
+    of_line = tt;
     calls = answered read.call;
     follows = λ h s e.
         let found = read.reads h s e in
@@ -135,6 +144,7 @@ module _ {K : Type 0} {model : Model K} where
   pub next_failed : {T : Type 0} {a b : K} {fault : Fault} {Is : State → T → Type 0} (outcome : State → Result Outcome LineFault) → IsRead model a b (Err fault) Is
       → IsFollowed model a b outcome (Err (Stopped fault))
   next_failed {T} {a} {b} {fault} {Is} outcome read = record {
+    of_line = tt;
     calls = failed read.call;
     follows = λ h s e. fails_at model T a b s (outcome s) (Is s) fault (read.reads h s e);
   }
@@ -173,6 +183,7 @@ module _ {K : Type 0} (model : Model K) where
       is = is;
       batch = tt;
       followed = record {
+        of_line = tt;
         calls = no_calls k;
         follows = λ h s e. unread_follows k s (line_outcome s (line_value line)) (batch_of line.text.now) fault
             (λ why said. outcome_is s line.serial line.text.now ∙ unread_by s line.serial (batch_of line.text.now) why said) fails e;
@@ -180,9 +191,10 @@ module _ {K : Type 0} (model : Model K) where
     }
 
     -- a line whose batch was given to the keeper
-    followed_as : {a b : K} (batch : BatchValue) (r : Result Reply LineStop) → batch_of line.text.now ≡ Ok batch → IsFollowed model a b (λ s. acted_with s line.serial (Ok batch)) r
+    followed_as : {a b : K} (batch : BatchValue) (r : Result Reply FollowFault) → batch_of line.text.now ≡ Ok batch → IsFollowed model a b (λ s. acted_with s line.serial (Ok batch)) r
         → IsFollowed model a b (λ s. line_outcome s (line_value line)) r
     followed_as {a} {b} batch r e followed = record {
+      of_line = followed.of_line;
       calls = followed.calls;
       follows = λ h s there.
           let same = sym (outcome_is s line.serial line.text.now ∙ ap (acted_with s line.serial) e) in
@@ -199,11 +211,11 @@ module _ {K : Type 0} (model : Model K) where
       followed = followed_as (batch_value batch) (Ok reply) e followed;
     }
 
-    pub read_stopped : {a b : K} (batch : BatchValue) (stop : LineStop) → batch_of line.text.now ≡ Ok batch
-        → IsFollowed model a b (λ s. acted_with s line.serial (Ok batch)) (Err stop) → FollowsLine model a b bytes (Err stop)
-    read_stopped batch stop e followed = record {
+    pub read_stopped : {a b : K} (batch : BatchValue) (fault : FollowFault) → batch_of line.text.now ≡ Ok batch
+        → IsFollowed model a b (λ s. acted_with s line.serial (Ok batch)) (Err fault) → FollowsLine model a b bytes (Err fault)
+    read_stopped batch fault e followed = record {
       line = line_value line;
       is = is;
       batch = tt;
-      followed = followed_as batch (Err stop) e followed;
+      followed = followed_as batch (Err fault) e followed;
     }

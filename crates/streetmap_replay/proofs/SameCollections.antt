@@ -20,44 +20,54 @@ use Rattle.streetmap_ledger.proofs.TextMaps.{one_text}
 use Rattle.streetmap_replay.proofs.ItemsByPlace.{get_map, get_low}
 use Rattle.streetmap_replay.specs.Alike.{AreAlike, AreSame, IsSame, Differs, Compares}
 use Rattle.streetmap_replay.specs.Alike.{IsUnlike, is_named}
-use Rattle.streetmap_replay.specs.Stops.{kept_end, fresh_end}
-use Rattle.streetmap_replay.specs.declared.fault.ReplayStop.{ReplayStop}
-use Rattle.streetmap_replay.specs.declared.fault.ReplayStop.TheVariants.{Kept, Fresh, Memory}
+use Rattle.streetmap_replay.specs.Stops.{kept_end, fresh_end, IsStop}
 use Rattle.streetmap_replay.specs.declared.fault.ReplayFault.{ReplayFault}
-use Rattle.streetmap_replay.specs.declared.fault.ReplayFault.TheVariants.{Stopped, Batch}
-use Rattle.streetmap_replay.specs.declared.fault.ReplayFault.TheVariants.{Collection as Other}
+use Rattle.streetmap_replay.specs.declared.fault.ReplayFault.TheVariants.{Kept, Fresh, Memory}
+use Rattle.streetmap_replay.specs.declared.fault.ReplayFault.TheVariants.{Batch, Collection as Other}
 use Rattle.streetmap_replay.proofs.TextMaps.{at_place, of_key, has_key, has_key_found, no_key_none}
 use Rattle.streetmap_replay.proofs.Pages.{same_collection}
 
 -- ---- comparisons
 
-pub decided_as : (P Q : Type 0) (r : Result Bool ReplayStop) → (P → Q) → (Q → P) → IfOk r (λ b. Decides b P) → IfOk r (λ b. Decides b Q)
+pub decided_as : (P Q : Type 0) (r : Result Bool ReplayFault) → (P → Q) → (Q → P) → IfOk r (λ b. Decides b P) → IfOk r (λ b. Decides b Q)
 decided_as P Q (Ok b) to of h = (λ yes. to (h.0 yes), λ q. h.1 (of q))
 decided_as P Q (Err stop) to of h = h
 
 pub compares_as : (s t : State) (P Q : Type 0) (fault : ReplayFault) → Compares {T = Unit {0}} s t P (Err fault) → Compares {T = Unit {0}} s t Q (Err fault)
-compares_as s t P Q (Stopped stop) h = h
+compares_as s t P Q (Kept fault) h = h
+compares_as s t P Q (Fresh fault) h = h
+compares_as s t P Q Memory h = h
 compares_as s t P Q (Batch serial) h = h
 compares_as s t P Q (Other name) h = h
 
+-- a comparison that did not complete
+pub stop_compares : (s t : State) (Same : Type 0) (fault : ReplayFault) → IsStop fault → Compares {T = Unit {0}} s t Same (Err fault)
+stop_compares s t Same (Kept fault) is = tt
+stop_compares s t Same (Fresh fault) is = tt
+stop_compares s t Same Memory is = tt
+stop_compares s t Same (Batch serial) is = absurd is
+stop_compares s t Same (Other name) is = absurd is
+
 -- a collection differs: no keeper failed
 pub unlike_kept : (name : Text) (fault : ReplayFault) → IsUnlike name fault → kept_end {T = Unit {0}} (Err fault) ≡ None
-unlike_kept name (Stopped (Kept fault)) is = absurd is
-unlike_kept name (Stopped (Fresh fault)) is = absurd is
-unlike_kept name (Stopped Memory) is = refl
+unlike_kept name (Kept fault) is = absurd is
+unlike_kept name (Fresh fault) is = absurd is
+unlike_kept name Memory is = refl
 unlike_kept name (Batch serial) is = absurd is
 unlike_kept name (Other text) is = refl
 
 pub unlike_fresh : (name : Text) (fault : ReplayFault) → IsUnlike name fault → fresh_end {T = Unit {0}} (Err fault) ≡ None
-unlike_fresh name (Stopped (Kept fault)) is = absurd is
-unlike_fresh name (Stopped (Fresh fault)) is = absurd is
-unlike_fresh name (Stopped Memory) is = refl
+unlike_fresh name (Kept fault) is = absurd is
+unlike_fresh name (Fresh fault) is = absurd is
+unlike_fresh name Memory is = refl
 unlike_fresh name (Batch serial) is = absurd is
 unlike_fresh name (Other text) is = refl
 
 pub unlike_compares : (s t : State) (Same : Type 0) (name : Text) (fault : ReplayFault) → IsUnlike name fault → ((text : Text) → text ≡ name → Differs s t text)
     → Compares {T = Unit {0}} s t Same (Err fault)
-unlike_compares s t Same name (Stopped stop) is differs = tt
+unlike_compares s t Same name (Kept fault) is differs = tt
+unlike_compares s t Same name (Fresh fault) is differs = tt
+unlike_compares s t Same name Memory is differs = tt
 unlike_compares s t Same name (Batch serial) is differs = absurd is
 unlike_compares s t Same name (Other text) is differs = differs (string_bytes text) is
 

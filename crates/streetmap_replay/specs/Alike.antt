@@ -11,9 +11,9 @@ use Rattle.streetmap_ledger.specs.State.{State, Collection}
 use Rattle.streetmap_ledger.specs.Summaries.{SummaryValue}
 use Rattle.streetmap_ledger.specs.declared.summary.Summary.{Summary}
 use Rattle.streetmap_query.specs.QueryValue.{QueryValue}
-use Rattle.streetmap_replay.specs.declared.fault.ReplayStop.TheVariants.{Kept, Fresh, Memory}
 use Rattle.streetmap_replay.specs.declared.fault.ReplayFault.{ReplayFault}
-use Rattle.streetmap_replay.specs.declared.fault.ReplayFault.TheVariants.{Stopped, Batch}
+use Rattle.streetmap_replay.specs.declared.fault.ReplayFault.TheVariants.{Kept, Fresh, Memory}
+use Rattle.streetmap_replay.specs.declared.fault.ReplayFault.TheVariants.{Batch}
 use Rattle.streetmap_replay.specs.declared.fault.ReplayFault.TheVariants.{Collection as Other}
 use Rattle.streetmap_replay.specs.declared.features.PageEnd.{PageEnd}
 use Rattle.streetmap_replay.specs.declared.features.PageEnd.TheVariants.{Unlike, Last, Next}
@@ -62,9 +62,9 @@ is_named name summaries = list_any (λ (a : Summary). bytes_eq (string_bytes a.i
 
 -- the fault that the collection of this name differs, or that memory ran out
 abbrev pub IsUnlike : Text → ReplayFault → Type 0
-IsUnlike name (Stopped (Kept fault)) = ⊥
-IsUnlike name (Stopped (Fresh fault)) = ⊥
-IsUnlike name (Stopped Memory) = Unit {0}
+IsUnlike name (Kept fault) = ⊥
+IsUnlike name (Fresh fault) = ⊥
+IsUnlike name Memory = Unit {0}
 IsUnlike name (Batch serial) = ⊥
 IsUnlike name (Other text) = string_bytes text ≡ name
 
@@ -73,6 +73,8 @@ IsUnlike name (Other text) = string_bytes text ≡ name
 -- a comparison of the collections of two states: all are the same, or which collection differs
 abbrev pub Compares : {T : Type 0} → State → State → Type 0 → Result T ReplayFault → Type 0
 Compares s t Same (Ok done) = Same
-Compares s t Same (Err (Stopped stop)) = Unit {0}
+Compares s t Same (Err (Kept fault)) = Unit {0}
+Compares s t Same (Err (Fresh fault)) = Unit {0}
+Compares s t Same (Err Memory) = Unit {0}
 Compares s t Same (Err (Batch serial)) = ⊥
 Compares s t Same (Err (Other name)) = Differs s t (string_bytes name)

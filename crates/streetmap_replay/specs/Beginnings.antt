@@ -9,9 +9,8 @@ use Rattle.streetmap_replay.specs.Sittings.{IsLineOf, highest}
 use Rattle.streetmap_text_lines.specs.LineReads.{HasNoLineFeed}
 use Rattle.streetmap_ledger.specs.declared.reply.Fault.{Fault}
 use Rattle.streetmap_ledger.specs.declared.reply.Fault.TheVariants.{Memory, Device, Damaged, Reopen}
-use Rattle.streetmap_replay.specs.declared.line_stop.LineStop.TheVariants as stops
-use Rattle.streetmap_replay.specs.declared.follower.End.{End}
-use Rattle.streetmap_replay.specs.declared.follower.End.TheVariants as ends
+use Rattle.streetmap_replay.specs.declared.follow_fault.FollowFault.{FollowFault}
+use Rattle.streetmap_replay.specs.declared.follow_fault.FollowFault.TheVariants as ends
 
 -- the input is known: lines of the journal of these batches, in any order and repeated at will, and
 -- maybe a prefix of a line after them
@@ -30,11 +29,11 @@ KeepsBut s Reopen represents = ⊥
 
 -- a follower of the journal's first k lines that then followed a prefix of these lines is the
 -- follower up to the highest serial among them, or as before
-abbrev pub FollowerBy : List BatchValue → ℕ → List Line → (count : ℕ) → End → (State → Type 0) →
-    Type 0
-FollowerBy bs k lines count ends.NotReported represents =
+abbrev pub FollowerBy : List BatchValue → ℕ → List Line → (count : ℕ) → Option FollowFault
+    → (State → Type 0) → Type 0
+FollowerBy bs k lines count (Some ends.NotReported) represents =
     represents (follower bs (max k (highest (take (count + 1) lines))))
-FollowerBy bs k lines count (ends.Stopped (stops.Stopped fault)) represents =
+FollowerBy bs k lines count (Some (ends.Stopped fault)) represents =
     KeepsBut (follower bs (max k (highest (take count lines)))) fault represents
-FollowerBy bs k lines count end represents =
+FollowerBy bs k lines count why represents =
     represents (follower bs (max k (highest (take count lines))))

@@ -8,11 +8,9 @@ use Rattle.streetmap_replay.specs.Replay.{Replays}
 use Rattle.streetmap_replay.specs.Alike.{Differs}
 use Rattle.streetmap_replay.specs.Given.{GivesAll, BreaksAt}
 use Rattle.streetmap_replay.specs.Stops.{IsForeseen}
-use Rattle.streetmap_replay.specs.declared.fault.ReplayStop.{ReplayStop}
-use Rattle.streetmap_replay.specs.declared.fault.ReplayStop.TheVariants.{Kept, Fresh, Memory}
 use Rattle.streetmap_replay.specs.declared.fault.ReplayFault.{ReplayFault}
-use Rattle.streetmap_replay.specs.declared.fault.ReplayFault.TheVariants.{Stopped, Batch}
-use Rattle.streetmap_replay.specs.declared.fault.ReplayFault.TheVariants.{Collection}
+use Rattle.streetmap_replay.specs.declared.fault.ReplayFault.TheVariants.{Kept, Fresh, Memory}
+use Rattle.streetmap_replay.specs.declared.fault.ReplayFault.TheVariants.{Batch, Collection}
 
 -- the state that the kept texts of a state give, as far as they are followed
 abbrev pub replayed : State → State
@@ -22,9 +20,9 @@ replayed s = (follow opening_state (map bare (journal s))).state
 -- they give; or which is the first that was not
 abbrev pub GivesBatches : {T : Type 0} → State → Result T ReplayFault → (State → Type 0) → Type 0
 GivesBatches s (Ok done) fresh = (t : State) × GivesAll s t × fresh t
-GivesBatches s (Err (Stopped (Kept fault))) fresh = Unit {0}
-GivesBatches s (Err (Stopped (Fresh fault))) fresh = IsForeseen fault
-GivesBatches s (Err (Stopped Memory)) fresh = Unit {0}
+GivesBatches s (Err (Kept fault)) fresh = Unit {0}
+GivesBatches s (Err (Fresh fault)) fresh = IsForeseen fault
+GivesBatches s (Err Memory) fresh = Unit {0}
 GivesBatches s (Err (Batch serial)) fresh = (Replays s → ⊥) × BreaksAt s serial
 GivesBatches s (Err (Collection name)) fresh = ⊥
 
@@ -33,9 +31,9 @@ GivesBatches s (Err (Collection name)) fresh = ⊥
 -- reproduced, the first collection that differs
 abbrev pub Checks : {T : Type 0} → State → Result T ReplayFault → (State → Type 0) → Type 0
 Checks s (Ok done) fresh = Replays s × fresh s
-Checks s (Err (Stopped (Kept fault))) fresh = Unit {0}
-Checks s (Err (Stopped (Fresh fault))) fresh = IsForeseen fault
-Checks s (Err (Stopped Memory)) fresh = Unit {0}
+Checks s (Err (Kept fault)) fresh = Unit {0}
+Checks s (Err (Fresh fault)) fresh = IsForeseen fault
+Checks s (Err Memory) fresh = Unit {0}
 Checks s (Err (Batch serial)) fresh = (Replays s → ⊥) × BreaksAt s serial
 Checks s (Err (Collection name)) fresh =
     (Replays s → ⊥) × GivesAll s (replayed s) × Differs s (replayed s) (string_bytes name)

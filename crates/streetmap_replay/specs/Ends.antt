@@ -21,9 +21,8 @@ use Rattle.streetmap_text_lines.specs.declared.fault.LineFault.TheVariants.{Memo
 use Rattle.streetmap_replay.specs.LineEffects.{Follows}
 use Rattle.streetmap_replay.specs.Calls.{LastAnswer, fails_by}
 use Rattle.streetmap_replay.specs.ParsedLines.{line_text}
-use Rattle.streetmap_replay.specs.declared.line_stop.LineStop.TheVariants as stops
-use Rattle.streetmap_replay.specs.declared.follower.End.{End}
-use Rattle.streetmap_replay.specs.declared.follower.End.TheVariants as ends
+use Rattle.streetmap_replay.specs.declared.follow_fault.FollowFault.{FollowFault}
+use Rattle.streetmap_replay.specs.declared.follow_fault.FollowFault.TheVariants as ends
 use Rattle.streetmap_replay.specs.declared.follower.Followed.{Followed}
 
 -- the most bytes of a line
@@ -59,31 +58,33 @@ ReportsAll {T} reports first (r ∷ rs) last = (mid : T) × reports first r.0 r.
 -- the replies were reported, and no other; if one was not reported, nothing is known of that one
 abbrev pub ReportsBy : {T : Type 0} → (T → Text → Reply → T → Type 0) → T → T
     → List (Text × Reply) →
-    End → Type 0
-ReportsBy {T} reports first last replies ends.NotReported = (mid : T)
+    Option FollowFault → Type 0
+ReportsBy {T} reports first last replies (Some ends.NotReported) = (mid : T)
     × ReportsAll reports first replies mid
-ReportsBy reports first last replies end = ReportsAll reports first replies last
+ReportsBy reports first last replies why = ReportsAll reports first replies last
 
 -- it ended in this state, after these lines of the input
 abbrev pub FollowingEndsBy : {K : Type 0} → Model K → (old new : K) → State → List Line
-    → (input rest : Option (List ℕ)) → End → Type 0
-FollowingEndsBy model old new t read input rest ends.All =
+    → (input rest : Option (List ℕ)) → Option FollowFault → Type 0
+FollowingEndsBy model old new t read input rest None =
     WhereKnown input rest (λ bytes left. (bytes ≡ text_of_lines read) × (left ≡ []))
     × model.represents new t
-FollowingEndsBy model old new t read input rest ends.CutLine =
+FollowingEndsBy model old new t read input rest (Some ends.CutLine) =
     WhereKnown input rest (λ bytes left. (part : List ℕ) × (bytes ≡ text_of_lines read ++ part)
     × HasNoLineFeed part × (0 < length part)) × model.represents new t
-FollowingEndsBy model old new t read input rest (ends.NotRead LineTooLong) =
+FollowingEndsBy model old new t read input rest (Some (ends.NotRead LineTooLong)) =
     IfSome input (λ bytes. (left : List ℕ) × (bytes ≡ text_of_lines read ++ left)
     × (first_too_long most_bytes left ≡ Some 0)) × model.represents new t
-FollowingEndsBy model old new t read input rest (ends.NotRead ReadFailed) = model.represents new t
-FollowingEndsBy model old new t read input rest (ends.NotRead Memory) = model.represents new t
-FollowingEndsBy model old new t read input rest (ends.Stopped stop) =
-    (line : Line) × IsInputLine line × Consumes input rest (text_of_lines (read ++ line ∷ []))
-    × Follows model old new t (line_outcome t line) (Err stop)
-FollowingEndsBy model old new t read input rest ends.NotReported =
+FollowingEndsBy model old new t read input rest (Some (ends.NotRead ReadFailed)) =
+    model.represents new t
+FollowingEndsBy model old new t read input rest (Some (ends.NotRead Memory)) =
+    model.represents new t
+FollowingEndsBy model old new t read input rest (Some ends.NotReported) =
     (line : Line) × IsInputLine line × Consumes input rest (text_of_lines (read ++ line ∷ []))
     × ((o : Outcome) × (line_outcome t line ≡ Ok o) × model.represents new o.state)
+FollowingEndsBy model old new t read input rest (Some fault) =
+    (line : Line) × IsInputLine line × Consumes input rest (text_of_lines (read ++ line ∷ []))
+    × Follows model old new t (line_outcome t line) (Err fault)
 
 -- this number of the first lines of the input were followed from this state on and their replies
 -- reported, and how it ended then
@@ -95,10 +96,10 @@ pub record FollowsLines {K T : Type 0} (model : Model K) (old new : K) (s : Stat
   pub lines : All IsInputLine read
   pub front : IfSome input (λ bytes. (left : List ℕ) × (bytes ≡ text_of_lines read ++ left))
   pub followed : (follow s read).fault ≡ None
-  pub reported : ReportsBy reports first last (answers read (follow s read).replies) result.end
-  pub ends : FollowingEndsBy model old new (follow s read).state read input rest result.end
+  pub reported : ReportsBy reports first last (answers read (follow s read).replies) result.fault
+  pub ends : FollowingEndsBy model old new (follow s read).state read input rest result.fault
 
 -- the answer of the keeper that ended it, if it was a fault
-abbrev pub end_answer : End → LastAnswer
-end_answer (ends.Stopped (stops.Stopped fault)) = fails_by fault
-end_answer end = None
+abbrev pub end_answer : Option FollowFault → LastAnswer
+end_answer (Some (ends.Stopped fault)) = fails_by fault
+end_answer why = None

@@ -14,11 +14,9 @@ use Rattle.streetmap_replay.specs.FollowedLines.{follow, Arrives}
 use Rattle.streetmap_replay.specs.Journal.{journal}
 use Rattle.streetmap_replay.specs.Lines.{bare}
 use Rattle.streetmap_replay.specs.Stops.{IsForeseen}
-use Rattle.streetmap_replay.specs.declared.fault.ReplayStop.{ReplayStop}
-use Rattle.streetmap_replay.specs.declared.fault.ReplayStop.TheVariants.{Kept, Fresh, Memory}
 use Rattle.streetmap_replay.specs.declared.fault.ReplayFault.{ReplayFault}
-use Rattle.streetmap_replay.specs.declared.fault.ReplayFault.TheVariants.{Stopped, Batch}
-use Rattle.streetmap_replay.specs.declared.fault.ReplayFault.TheVariants.{Collection}
+use Rattle.streetmap_replay.specs.declared.fault.ReplayFault.TheVariants.{Kept, Fresh, Memory}
+use Rattle.streetmap_replay.specs.declared.fault.ReplayFault.TheVariants.{Batch, Collection}
 
 -- the batch that a text is, if it is one
 abbrev pub found_of : Result BatchValue BatchFault → Option BatchValue
@@ -68,20 +66,22 @@ pub record BreaksAt (s : State) (serial : ℕ) : Type 0 where
   pub other : given_again state batch ≡ Some batch → ⊥
 
 -- whether the text of a kept batch reproduced it in a keeper that represented this state
-abbrev pub GivesRow : State → KeyedBatch → Result Bool ReplayStop → (State → Type 0) → Type 0
+abbrev pub GivesRow : State → KeyedBatch → Result Bool ReplayFault → (State → Type 0) → Type 0
 GivesRow t batch (Ok true) represents =
     (given_again t batch ≡ Some batch) × represents (state_by t (read_of batch.1.text))
 GivesRow t batch (Ok false) represents = given_again t batch ≡ Some batch → ⊥
 GivesRow t batch (Err (Kept fault)) represents = ⊥
 GivesRow t batch (Err (Fresh fault)) represents = IsForeseen fault
 GivesRow t batch (Err Memory) represents = Unit {0}
+GivesRow t batch (Err (Batch serial)) represents = ⊥
+GivesRow t batch (Err (Collection name)) represents = ⊥
 
 -- whether the texts up to the n-th reproduced their batches in a keeper that represented the state
 -- after some of them
 abbrev pub GivesPart : {T : Type 0} → State → ℕ → Result T ReplayFault → (State → Type 0) → Type 0
 GivesPart s n (Ok done) represents = (t : State) × GivesFirst s n t × represents t
-GivesPart s n (Err (Stopped (Kept fault))) represents = ⊥
-GivesPart s n (Err (Stopped (Fresh fault))) represents = IsForeseen fault
-GivesPart s n (Err (Stopped Memory)) represents = Unit {0}
+GivesPart s n (Err (Kept fault)) represents = ⊥
+GivesPart s n (Err (Fresh fault)) represents = IsForeseen fault
+GivesPart s n (Err Memory) represents = Unit {0}
 GivesPart s n (Err (Batch serial)) represents = BreaksAt s serial
 GivesPart s n (Err (Collection name)) represents = ⊥

@@ -1,6 +1,5 @@
 pub mod Calls
 pub mod Stops
-pub mod Names
 pub mod Given
 pub mod Alike
 pub mod Checked
@@ -16,5 +15,4 @@ pub mod LineEffects
 pub mod ParsedLines
 pub mod Ends
 pub mod Replies
-pub mod FollowNames
 pub mod Beginnings

@@ -5,8 +5,8 @@ ghost use Rattle.streetmap_replay.specs.FollowedLines.{acted, acted_next};
 ghost use Rattle.streetmap_replay.specs.LineEffects.{acted_with, IsFollowed};
 ghost use Rattle.streetmap_replay.specs.ParsedLines.{FollowsLine};
 
+use crate::follow_fault::FollowFault;
 use crate::line_bytes::read_line;
-use crate::line_stop::LineStop;
 use crate::serial::is_next;
 use std::alloc::Global;
 use streetmap_batch::{Batch, read_batch};
@@ -20,15 +20,15 @@ pub struct Acknowledged {
 }
 
 /// Applies a batch.
-fn apply<K: Keeper>(keeper: &mut K, batch: &Batch) -> Result<Reply, LineStop>
+fn apply<K: Keeper>(keeper: &mut K, batch: &Batch) -> Result<Reply, FollowFault>
     ensures { IsFollowed K.model keeper.old keeper.new
         (λ s. acted s (Ok (batch_value batch.now))) result }
 {
     match keeper.apply(batch) {
         Ok(Reply::Accepted(counts, serial)) => Ok(Reply::Accepted(counts, serial)),
         Ok(Reply::Repeated(counts, serial)) => Ok(Reply::Repeated(counts, serial)),
-        Ok(Reply::Refused(why, place)) => Err(LineStop::Refused(why, place)),
-        Err(fault) => Err(LineStop::Stopped(fault)),
+        Ok(Reply::Refused(why, place)) => Err(FollowFault::Refused(why, place)),
+        Err(fault) => Err(FollowFault::Stopped(fault)),
     }
 }
 
@@ -37,14 +37,14 @@ fn apply_next<K: KeepsBatches>(
     keeper: &mut K,
     serial: u64,
     batch: &Batch,
-) -> Result<Reply, LineStop>
+) -> Result<Reply, FollowFault>
     ensures { IsFollowed K.model keeper.old keeper.new
         (λ s. acted_next s serial (Ok (batch_value batch.now))) result }
 {
     match is_next(keeper, serial, batch) {
         Ok(true) => apply(keeper, batch),
-        Ok(false) => Err(LineStop::NotNext),
-        Err(fault) => Err(LineStop::Stopped(fault)),
+        Ok(false) => Err(FollowFault::NotNext),
+        Err(fault) => Err(FollowFault::Stopped(fault)),
     }
 }
 
@@ -53,7 +53,7 @@ fn apply_line<K: KeepsBatches>(
     keeper: &mut K,
     serial: Option<u64>,
     batch: &Batch,
-) -> Result<Reply, LineStop>
+) -> Result<Reply, FollowFault>
     ensures { IsFollowed K.model keeper.old keeper.new
         (λ s. acted_with s serial (Ok (batch_value batch.now))) result }
 {
@@ -76,16 +76,16 @@ pub fn follow_line<K: KeepsBatches>(
     alloc: Global,
     keeper: &mut K,
     bytes: &[u8],
-) -> Result<Acknowledged, LineStop>
+) -> Result<Acknowledged, FollowFault>
     ensures { FollowsLine K.model keeper.old keeper.new bytes.now result }
 {
     let line = read_line(bytes);
     let batch = match read_batch(alloc, line.text) {
         Ok(batch) => batch,
-        Err(fault) => return Err(LineStop::Unread(fault)),
+        Err(fault) => return Err(FollowFault::Unread(fault)),
     };
     match apply_line(keeper, line.serial, &batch) {
         Ok(reply) => Ok(Acknowledged { batch, reply }),
-        Err(stop) => Err(stop),
+        Err(fault) => Err(fault),
     }
 }

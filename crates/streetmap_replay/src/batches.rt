@@ -10,9 +10,9 @@ ghost use Rattle.streetmap_ledger.specs.WellFormed.{IsState};
 ghost use Rattle.streetmap_replay.specs.Checked.{GivesBatches};
 ghost use Rattle.streetmap_replay.specs.Given.{GivesFirst, GivesRow, GivesPart, read_of};
 ghost use Rattle.streetmap_replay.specs.Calls.{AreCalls, AreReads};
-ghost use Rattle.streetmap_replay.specs.Stops.{kept_stop, fresh_stop, kept_end, fresh_end};
+ghost use Rattle.streetmap_replay.specs.Stops.{kept_end, fresh_end};
 
-use crate::fault::{ReplayFault, ReplayStop};
+use crate::fault::ReplayFault;
 use std::alloc::{AllocError, Global};
 use streetmap_batch::{Batch, BatchFault, read_batch};
 use streetmap_ledger::{Counts, Keeper, KeepsBatches, KeptBatch, Reply};
@@ -62,7 +62,7 @@ fn is_kept(
 }
 
 /// The batch that a text is; none if it is not one.
-fn read_kept(alloc: Global, text: &[u8]) -> Result<Option<Batch>, ReplayStop>
+fn read_kept(alloc: Global, text: &[u8]) -> Result<Option<Batch>, ReplayFault>
     ensures { IfOk result (λ found. option_map batch_value found ≡ read_of text.now) }
 {
     match read_batch(alloc, text) {
@@ -71,32 +71,36 @@ fn read_kept(alloc: Global, text: &[u8]) -> Result<Option<Batch>, ReplayStop>
         Err(BatchFault::BadKey) => Ok(None),
         Err(BatchFault::TooManyEdits) => Ok(None),
         Err(BatchFault::BadFeature { place: _, cause: _ }) => Ok(None),
-        Err(BatchFault::Memory) => Err(ReplayStop::Memory),
+        Err(BatchFault::Memory) => Err(ReplayFault::Memory),
     }
 }
 
 /// Applies the text of a kept batch, and returns whether it reproduces that batch.
-fn give_again<L: Keeper>(alloc: Global, fresh: &mut L, kept: &KeptBatch) -> Result<bool, ReplayStop>
-    ensures calls { AreCalls L.model fresh.old fresh.new (fresh_stop result) }
-    ensures stop { kept_stop result ≡ None }
+fn give_again<L: Keeper>(
+    alloc: Global,
+    fresh: &mut L,
+    kept: &KeptBatch,
+) -> Result<bool, ReplayFault>
+    ensures calls { AreCalls L.model fresh.old fresh.new (fresh_end result) }
+    ensures stop { kept_end result ≡ None }
     ensures gives { L.model.is_clean fresh.new → (t : State) → L.model.represents fresh.old t →
         GivesRow t (keyed_batch kept.now) result (L.model.represents fresh.new) }
 {
     let batch = match read_kept(alloc, kept.text.as_slice()) {
         Ok(Some(batch)) => batch,
         Ok(None) => return Ok(false),
-        Err(_) => return Err(ReplayStop::Memory),
+        Err(_) => return Err(ReplayFault::Memory),
     };
     match fresh.apply(&batch) {
         Ok(Reply::Accepted(counts, serial)) => {
             match is_kept(alloc, kept, &batch, counts, serial) {
                 Ok(is) => Ok(is),
-                Err(_) => Err(ReplayStop::Memory),
+                Err(_) => Err(ReplayFault::Memory),
             }
         }
         Ok(Reply::Repeated(_, _)) => Ok(false),
         Ok(Reply::Refused(_, _)) => Ok(false),
-        Err(fault) => Err(ReplayStop::Fresh(fault)),
+        Err(fault) => Err(ReplayFault::Fresh(fault)),
     }
 }
 
@@ -113,7 +117,7 @@ fn give_each<L: Keeper>(alloc: Global, fresh: &mut L, part: &[KeptBatch]) -> Res
         match give_again(alloc, fresh, batch) {
             Ok(true) => {}
             Ok(false) => return Err(ReplayFault::Batch(batch.serial)),
-            Err(stop) => return Err(ReplayFault::Stopped(stop)),
+            Err(fault) => return Err(fault),
         }
     }
     Ok(())
@@ -136,7 +140,7 @@ pub fn replay<K: KeepsBatches, L: Keeper>(
     for _turn in 0..u64::MAX {
         let part = match keeper.batches(alloc, last, ROOM) {
             Ok(part) => part,
-            Err(fault) => return Err(ReplayFault::Stopped(ReplayStop::Kept(fault))),
+            Err(fault) => return Err(ReplayFault::Kept(fault)),
         };
         let Some(latest) = part.last() else {
             return Ok(());
@@ -147,5 +151,5 @@ pub fn replay<K: KeepsBatches, L: Keeper>(
             Err(fault) => return Err(fault),
         }
     }
-    Err(ReplayFault::Stopped(ReplayStop::Memory))
+    Err(ReplayFault::Memory)
 }

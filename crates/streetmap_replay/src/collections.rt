@@ -1,5 +1,5 @@
 //! The collections of two keepers.
-ghost use Rattle.std.specs.Prelude.{◌≡◌, Some, None, IfOk, IfSome, IsTrue, All, slice_get};
+ghost use Rattle.std.specs.Prelude.{◌≡◌, Some, None, IfOk, IfErr, IfSome, IsTrue, All, slice_get};
 ghost use Rattle.std.specs.Prelude.{option_map, string_bytes, false};
 ghost use Rattle.std.specs.Bool.{Decides};
 ghost use Rattle.std.specs.FinMap.{get, entries};
@@ -9,9 +9,9 @@ ghost use Rattle.streetmap_ledger.specs.SummaryView.{summary_value, summary_valu
 ghost use Rattle.streetmap_ledger.specs.declared.summary.Summary.{Summary};
 ghost use Rattle.streetmap_replay.specs.Alike.{AreAlike, AreSame, Compares, IsUnlike, is_named};
 ghost use Rattle.streetmap_replay.specs.Calls.{AreReads};
-ghost use Rattle.streetmap_replay.specs.Stops.{kept_stop, fresh_stop, kept_end, fresh_end};
+ghost use Rattle.streetmap_replay.specs.Stops.{kept_end, fresh_end, IsStop};
 
-use crate::fault::{ReplayFault, ReplayStop};
+use crate::fault::ReplayFault;
 use crate::features::has_same_features;
 use std::alloc::Global;
 use streetmap_ledger::{Keeper, Summary};
@@ -41,9 +41,10 @@ fn is_alike<K: Keeper, L: Keeper>(
     keeper: &mut K,
     fresh: &mut L,
     ours: &Summary,
-) -> Result<bool, ReplayStop>
-    ensures kept { AreReads K.model keeper.old keeper.new (kept_stop result) }
-    ensures fresh { AreReads L.model fresh.old fresh.new (fresh_stop result) }
+) -> Result<bool, ReplayFault>
+    ensures kept { AreReads K.model keeper.old keeper.new (kept_end result) }
+    ensures fresh { AreReads L.model fresh.old fresh.new (fresh_end result) }
+    ensures stop { IfErr result IsStop }
     ensures compares { K.model.is_clean keeper.new → L.model.is_clean fresh.new → (s t : State) →
         K.model.represents keeper.old s → L.model.represents fresh.old t →
         summary_in s (string_bytes ours.now.id) ≡ Some (summary_value ours.now) →
@@ -59,7 +60,7 @@ fn is_alike<K: Keeper, L: Keeper>(
             }
         }
         Ok(None) => Ok(false),
-        Err(fault) => Err(ReplayStop::Fresh(fault)),
+        Err(fault) => Err(ReplayFault::Fresh(fault)),
     }
 }
 
@@ -69,7 +70,7 @@ fn unlike(alloc: Global, name: &str) -> ReplayFault
 {
     match String::from_str(alloc, name) {
         Ok(name) => ReplayFault::Collection(name),
-        Err(_) => ReplayFault::Stopped(ReplayStop::Memory),
+        Err(_) => ReplayFault::Memory,
     }
 }
 
@@ -92,7 +93,7 @@ fn compare_each<K: Keeper, L: Keeper>(
         match is_alike(alloc, keeper, fresh, summary) {
             Ok(true) => {}
             Ok(false) => return Err(unlike(alloc, summary.id.as_str())),
-            Err(stop) => return Err(ReplayFault::Stopped(stop)),
+            Err(fault) => return Err(fault),
         }
     }
     Ok(())
@@ -139,11 +140,11 @@ pub fn compare_collections<K: Keeper, L: Keeper>(
 {
     let ours = match keeper.collections() {
         Ok(ours) => ours,
-        Err(fault) => return Err(ReplayFault::Stopped(ReplayStop::Kept(fault))),
+        Err(fault) => return Err(ReplayFault::Kept(fault)),
     };
     let theirs = match fresh.collections() {
         Ok(theirs) => theirs,
-        Err(fault) => return Err(ReplayFault::Stopped(ReplayStop::Fresh(fault))),
+        Err(fault) => return Err(ReplayFault::Fresh(fault)),
     };
     match compare_each(alloc, keeper, fresh, ours.as_slice()) {
         Ok(()) => match find_other(theirs.as_slice(), ours.as_slice()) {

@@ -6,7 +6,7 @@ ghost use Rattle.streetmap_replay.specs.Stops.{kept_end, fresh_end};
 
 use crate::batches::replay;
 use crate::collections::compare_collections;
-use crate::fault::{ReplayFault, ReplayStop};
+use crate::fault::ReplayFault;
 use std::alloc::Global;
 use streetmap_ledger::{Keeper, KeepsBatches};
 

@@ -1,5 +1,5 @@
 //! The features of a collection in two keepers.
-ghost use Rattle.std.specs.Prelude.{◌≡◌, Some, IfOk};
+ghost use Rattle.std.specs.Prelude.{◌≡◌, Some, IfOk, IfErr};
 ghost use Rattle.std.specs.Bool.{Decides};
 ghost use Rattle.std.specs.FinMap.{get, values};
 ghost use Rattle.streetmap_ledger.specs.PageView.{page_value};
@@ -7,9 +7,9 @@ ghost use Rattle.streetmap_ledger.specs.State.{State, Collection};
 ghost use Rattle.streetmap_query.specs.Views.{query_value};
 ghost use Rattle.streetmap_replay.specs.Alike.{PagesEndAs, SameText, part_query};
 ghost use Rattle.streetmap_replay.specs.Calls.{AreReads};
-ghost use Rattle.streetmap_replay.specs.Stops.{kept_stop, fresh_stop};
+ghost use Rattle.streetmap_replay.specs.Stops.{kept_end, fresh_end, IsStop};
 
-use crate::fault::ReplayStop;
+use crate::fault::ReplayFault;
 use std::alloc::{AllocError, Global};
 use streetmap_feature_text::collection_text;
 use streetmap_geojson::Id;
@@ -91,9 +91,10 @@ pub(crate) fn has_same_features<K: Keeper, L: Keeper>(
     keeper: &mut K,
     fresh: &mut L,
     name: &str,
-) -> Result<bool, ReplayStop>
-    ensures kept { AreReads K.model keeper.old keeper.new (kept_stop result) }
-    ensures fresh { AreReads L.model fresh.old fresh.new (fresh_stop result) }
+) -> Result<bool, ReplayFault>
+    ensures kept { AreReads K.model keeper.old keeper.new (kept_end result) }
+    ensures fresh { AreReads L.model fresh.old fresh.new (fresh_end result) }
+    ensures stop { IfErr result IsStop }
     ensures compares { K.model.is_clean keeper.new → L.model.is_clean fresh.new → (s t : State) →
         (c d : Collection) → K.model.represents keeper.old s → L.model.represents fresh.old t →
         get s.collections name.now ≡ Some c → get t.collections name.now ≡ Some d →
@@ -106,19 +107,19 @@ pub(crate) fn has_same_features<K: Keeper, L: Keeper>(
         let ours = match keeper.page(name, &query) {
             Ok(Some(page)) => page,
             Ok(None) => return Ok(false),
-            Err(fault) => return Err(ReplayStop::Kept(fault)),
+            Err(fault) => return Err(ReplayFault::Kept(fault)),
         };
         let theirs = match fresh.page(name, &query) {
             Ok(Some(page)) => page,
             Ok(None) => return Ok(false),
-            Err(fault) => return Err(ReplayStop::Fresh(fault)),
+            Err(fault) => return Err(ReplayFault::Fresh(fault)),
         };
         match compare_pages(alloc, ours, theirs) {
             Ok(PageEnd::Next(id)) => after = Some(id),
             Ok(PageEnd::Last) => return Ok(true),
             Ok(PageEnd::Unlike) => return Ok(false),
-            Err(_) => return Err(ReplayStop::Memory),
+            Err(_) => return Err(ReplayFault::Memory),
         }
     }
-    Err(ReplayStop::Memory)
+    Err(ReplayFault::Memory)
 }

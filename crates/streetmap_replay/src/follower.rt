@@ -10,35 +10,20 @@ ghost use Rattle.streetmap_replay.specs.Ends.{FollowsLines, end_answer};
 ghost use Rattle.streetmap_replay.specs.Calls.{AreCalls};
 
 use crate::actions::follow_line;
+use crate::follow_fault::FollowFault;
 use crate::length::MAX_LINE;
-use crate::line_stop::LineStop;
 use crate::replies::Replies;
 use std::alloc::Global;
 use std::io::BufRead;
 use streetmap_ledger::KeepsBatches;
 use streetmap_text_lines::{LineFault, WholeLine, next_whole_line};
 
-/// How following ended.
-#[derive(Clone, Copy, Drop)]
-pub enum End {
-    /// All lines were followed.
-    All,
-    /// The next line is not followed.
-    Stopped(LineStop),
-    /// The next line lacks its line feed.
-    CutLine,
-    /// The next line was not read: it is too long, a read failed or memory ran out.
-    NotRead(LineFault),
-    /// The next line was followed, and its reply was not reported.
-    NotReported,
-}
-
-/// How many lines were followed and their replies reported, and how it ended: the line at fault has
-/// the number after theirs.
+/// How many lines were followed and their replies reported, and why the next was not, if not all
+/// lines were: it has the number after theirs.
 #[derive(Clone, Copy, Drop)]
 pub struct Followed {
     pub count: u64,
-    pub end: End,
+    pub fault: Option<FollowFault>,
 }
 
 /// Follows the lines of a reader, in order, up to the first that is not followed (`follow_line`),
@@ -51,7 +36,7 @@ pub fn follow_lines<K: KeepsBatches, R: BufRead, T: Replies>(
     reader: &mut R,
     replies: &mut T,
 ) -> Followed
-    ensures calls { AreCalls K.model keeper.old keeper.new (end_answer result.end) }
+    ensures calls { AreCalls K.model keeper.old keeper.new (end_answer result.fault) }
     ensures follows { K.model.is_clean keeper.new → (s : State) → K.model.represents keeper.old s →
         FollowsLines K.model keeper.old keeper.new s (R.remaining reader.old)
         (R.remaining reader.new) T.reports replies.old replies.new result }
@@ -60,27 +45,27 @@ pub fn follow_lines<K: KeepsBatches, R: BufRead, T: Replies>(
         (lines : List Line) → AllOf IsSoundBatch bs →
         K.model.represents keeper.old (follower bs k) →
         IsOfJournal bs lines (R.remaining reader.old) →
-        FollowerBy bs k lines result.count result.end (K.model.represents keeper.new) }
+        FollowerBy bs k lines result.count result.fault (K.model.represents keeper.new) }
 {
     for turn in 0..u64::MAX {
-        let end = match next_whole_line(alloc, reader, MAX_LINE) {
+        let fault = match next_whole_line(alloc, reader, MAX_LINE) {
             Ok(WholeLine::Line(line)) => match follow_line(alloc, keeper, line.as_slice()) {
                 Ok(it) => {
                     if replies.report(&it.batch, it.reply).is_ok() {
                         continue;
                     }
-                    End::NotReported
+                    Some(FollowFault::NotReported)
                 }
-                Err(stop) => End::Stopped(stop),
+                Err(fault) => Some(fault),
             },
-            Ok(WholeLine::Cut) => End::CutLine,
-            Ok(WholeLine::End) => End::All,
-            Err(fault) => End::NotRead(fault),
+            Ok(WholeLine::Cut) => Some(FollowFault::CutLine),
+            Ok(WholeLine::End) => None,
+            Err(fault) => Some(FollowFault::NotRead(fault)),
         };
-        return Followed { count: turn, end };
+        return Followed { count: turn, fault };
     }
     Followed {
         count: u64::MAX,
-        end: End::NotRead(LineFault::ReadFailed),
+        fault: Some(FollowFault::NotRead(LineFault::ReadFailed)),
     }
 }

@@ -18,9 +18,9 @@
 //! returns success exactly if the replay of the state is the state, and else the first batch or the
 //! first collection that the texts do not reproduce (`specs/Given`, `specs/Checked`).
 //!
-//! Modules, in the order of reading: `length`, `laws`; for following `line_stop`, `line_bytes`
+//! Modules, in the order of reading: `length`, `laws`; for following `follow_fault`, `line_bytes`
 //! (bytes as a line), `serial` (which serial is the next), `actions` (one line), `replies` (where
-//! replies are reported), `follower`, `reply_lines` (replies as text), `names` (of faults); for
+//! replies are reported), `follower`, `reply_lines` (replies as text); for
 //! replaying `fault`, `batches` (each reproduced from its text), `features` and `collections` (what
 //! two keepers show), `comparison` (the whole).
 #![tactic(auto)]
@@ -31,12 +31,11 @@ mod collections;
 mod comparison;
 mod fault;
 mod features;
+mod follow_fault;
 mod follower;
 pub mod laws;
 mod length;
 mod line_bytes;
-mod line_stop;
-mod names;
 mod replies;
 mod reply_lines;
 mod serial;
@@ -45,10 +44,10 @@ pub use actions::{Acknowledged, follow_line};
 pub use batches::replay;
 pub use collections::compare_collections;
 pub use comparison::check_replay;
-pub use fault::{ReplayFault, ReplayStop};
-pub use follower::{End, Followed, follow_lines};
+pub use fault::ReplayFault;
+pub use follow_fault::FollowFault;
+pub use follower::{Followed, follow_lines};
 pub use length::MAX_LINE;
 pub use line_bytes::{Line, read_line};
-pub use line_stop::LineStop;
 pub use replies::{NotReported, Replies};
 pub use reply_lines::ReplyLines;

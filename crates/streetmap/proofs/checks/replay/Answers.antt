@@ -20,23 +20,3 @@ returns-in-Ok-clause-leaves g c clean s is =
 
 pub returns-in-Ok-clause-began_clean : goal.returns-in-Ok-clause-began_clean
 returns-in-Ok-clause-began_clean g c clean = c.check_replay.ensures.kept.calls.began_clean clean
-
-pub returns-in-Err-Batch-clause-leaves : goal.returns-in-Err-Batch-clause-leaves
-returns-in-Err-Batch-clause-leaves g c clean s is =
-    let model = g.K.Keeper.model in
-    let reads = c.check_replay.ensures.kept in
-    hold_one_of model g.met.K.Durable.images_hold_states c.args.keeper.now c.check_replay.new.keeper s _ is reads.calls.preserved clean
-    (λ t left. stays_so model c.args.keeper.now c.check_replay.new.keeper s t _ (reads.stays clean s is) left)
-
-pub returns-in-Err-Batch-clause-began_clean : goal.returns-in-Err-Batch-clause-began_clean
-returns-in-Err-Batch-clause-began_clean g c clean = c.check_replay.ensures.kept.calls.began_clean clean
-
-pub returns-in-Err-Collection-clause-leaves : goal.returns-in-Err-Collection-clause-leaves
-returns-in-Err-Collection-clause-leaves g c clean s is =
-    let model = g.K.Keeper.model in
-    let reads = c.check_replay.ensures.kept in
-    hold_one_of model g.met.K.Durable.images_hold_states c.args.keeper.now c.check_replay.new.keeper s _ is reads.calls.preserved clean
-    (λ t left. stays_so model c.args.keeper.now c.check_replay.new.keeper s t _ (reads.stays clean s is) left)
-
-pub returns-in-Err-Collection-clause-began_clean : goal.returns-in-Err-Collection-clause-began_clean
-returns-in-Err-Collection-clause-began_clean g c clean = c.check_replay.ensures.kept.calls.began_clean clean

@@ -20,7 +20,7 @@ returns-in-Err-clause-leaves g c clean s is =
     let new = c.apply_import.new.keeper in
     let b = batch_value c.args.batch.now in
     hold_one_of model g.met.K.Durable.images_hold_states old new s _ is c.in-Err.ensures.calls.preserved clean
-    (λ t left. by_stop model old new s t b c.in-Err.stop (c.in-Err.ensures.imports clean s is) left)
+    (λ t left. by_stop model old new s t b c.in-Err.fault (c.in-Err.ensures.imports clean s is) left)
 
 pub returns-in-Ok-clause-began_clean : goal.returns-in-Ok-clause-began_clean
 returns-in-Ok-clause-began_clean g c clean = c.in-Ok.ensures.calls.began_clean clean

@@ -1,5 +1,5 @@
-use Rattle.std.proofs.Common.{◌≡◌, ◌-◌, length, Some, None, Ok, Err, sym, ap, subst, ◌∙◌}
-use Rattle.std.specs.Prelude.{slice_get}
+use Rattle.std.proofs.Common.{◌≡◌, ◌-◌, length, Some, None, Err, sym, ap, subst, ◌∙◌}
+use Rattle.std.specs.Prelude.{slice_get, IfErr}
 use Rattle.std.specs.Option.{option_copied}
 use Rattle.std.specs.Io.KnownBytes.{Appends}
 use Rattle.std.proofs.lemmas.Result.{err_from_is_err_and}
@@ -8,9 +8,9 @@ use Rattle.streetmap_ledger.specs.KeptView.{keyed_batch, keyed_batches}
 use Rattle.streetmap_replay.specs.Calls.{AreReads}
 use Rattle.streetmap_replay.proofs.CallsInTurn.{no_reads, read_of, answered_read, failed_read, reads_then}
 use Rattle.streetmap_exchange.specs.Printed.{lines_text, WritesLines}
-use Rattle.streetmap_exchange.specs.Stops.{lines_answer}
+use Rattle.streetmap_exchange.specs.ExportFaults.{IsLinesFault, lines_answer}
 use Rattle.streetmap_exchange.proofs.LineLemmas.{last_none, last_some}
-use Rattle.streetmap_exchange.proofs.Printing.{begins, early, ends, goes_on, breaks, write_reads}
+use Rattle.streetmap_exchange.proofs.Printing.{begins, early, ends, goes_on, breaks, write_reads, write_fault}
 use Rattle.streetmap_exchange.proofs.batches.write_batches.Goals as goal
 
 pub loop-turn-init : goal.loop-turn-init
@@ -35,8 +35,14 @@ pub returns-in_err-write_lines-clause-reads : goal.returns-in_err-write_lines-cl
 returns-in_err-write_lines-clause-reads g c =
     let p = err_from_is_err_and c.from_residual.result c.from_residual.ensures.1 in
     subst (λ r. AreReads g.K.Keeper.model c.args.keeper.now c.batches.new.self (lines_answer r)) (sym (p.1 ∙ ap (λ x. Err x) p.2))
-    (write_reads c.in_err-write_lines.field-0.0 c.in_err-write_lines.ensures.stop
+    (write_reads c.in_err-write_lines.field-0.0 c.in_err-write_lines.ensures.fault
     (reads_then c.loop-turn.invariant.reads (answered_read c.in-Ok.ensures)))
+
+pub returns-in_err-write_lines-clause-fault : goal.returns-in_err-write_lines-clause-fault
+returns-in_err-write_lines-clause-fault g c =
+    let p = err_from_is_err_and c.from_residual.result c.from_residual.ensures.1 in
+    subst (λ r. IfErr r IsLinesFault) (sym (p.1 ∙ ap (λ x. Err x) p.2))
+    (write_fault c.in_err-write_lines.field-0.0 c.in_err-write_lines.ensures.fault)
 
 pub returns-in_default-clause-writes : goal.returns-in_default-clause-writes
 returns-in_default-clause-writes g c = λ h s e.

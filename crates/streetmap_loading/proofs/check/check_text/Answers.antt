@@ -11,6 +11,6 @@ returns-clause-checks g c =
     record {
       read = it.read;
       counted = it.counted;
-      is = is_read items c.send_text.ensures.sends.0 it.read c.send_text.result.end it.are;
+      is = is_read items c.send_text.ensures.sends.0 it.read c.send_text.result.fault it.are;
       of_text = of_text l.each l.key _ _ items c.send_text.ensures.sends.0 c.send_text.result it;
     }

@@ -12,7 +12,7 @@ returns-clause-prints g c =
     record {
       read = it.read;
       counted = it.counted;
-      is = is_read items c.send_text.ensures.sends.0 it.read c.send_text.result.end it.are;
+      is = is_read items c.send_text.ensures.sends.0 it.read c.send_text.result.fault it.are;
       sent = it.ends.sent;
       batches = it.ends.counted;
       prints = prints_by (λ (x : LineSink _). g.W.Write.contents x.writer) l.each l.key

@@ -1,10 +1,8 @@
-use Rattle.std.proofs.Common.{◌≡◌, ℕ, string_bytes, sym, subst, ap, ◌∙◌, arith}
+use Rattle.std.proofs.Common.{◌≡◌, ℕ, string_bytes, Some, refl, sym, subst, ap, arith}
 use Rattle.streetmap_loading.specs.Loads.{Loads}
 use Rattle.streetmap_loading.specs.Sources.{placed_value}
-use Rattle.streetmap_loading.specs.Ends.{end_of_unread}
-use Rattle.streetmap_loading.specs.declared.end.Loaded.{Loaded}
-use Rattle.streetmap_loading.specs.declared.end.End.{End}
-use Rattle.streetmap_loading.specs.declared.end.End.TheVariants.{ReadFailed}
+use Rattle.streetmap_loading.specs.declared.loaded.Loaded.{Loaded}
+use Rattle.streetmap_loading.specs.declared.load_fault.LoadFault.TheVariants.{ReadFailed}
 use Rattle.streetmap_loading.proofs.Taking.{begins, filled, not_filled, goes_further, stops, ends}
 use Rattle.streetmap_loading.proofs.Taking.{not_read, too_many, not_begun}
 use Rattle.streetmap_loading.proofs.SkipLemmas.{stays, stays_then, skips_within}
@@ -42,7 +40,7 @@ returns-in-Err-fill-clause-sends g c =
     subst (λ (loaded : Loaded). Loads takes each key first c.fill.new.sink old now loaded)
     (sym c.ended.ensures)
     (not_filled takes each key first c.loop-turn.sink old now c.loop-turn.turn c.loop-turn.sending
-    it c.fill.new.self c.fill.new.sink c.skipped-in-Err-fill.result c.in-Err-fill.end
+    it c.fill.new.self c.fill.new.sink c.skipped-in-Err-fill.result c.in-Err-fill.fault
     (c.in-Err-fill.ensures.fills each key first it.read it.sending))
 
 pub returns-in-Err-fill-clause-skips : goal.returns-in-Err-fill-clause-skips
@@ -51,7 +49,7 @@ returns-in-Err-fill-clause-skips g c =
     let fills = c.in-Err-fill.ensures.fills c.args.each (string_bytes c.args.key) c.args.sink.now
     it.read it.sending in
     skips_within (g.E.Edits.skips c.args.edits.now) (g.E.Edits.skips c.loop-turn.edits)
-    c.ended.result _ c.ended.ensures fills.1 c.loop-turn.invariant.skips
+    c.ended.result _ c.in-Err-fill.fault c.ended.ensures refl fills.1 c.loop-turn.invariant.skips
     c.skipped-in-Err-fill.ensures.within
 
 pub returns-in-Err-put-clause-sends : goal.returns-in-Err-put-clause-sends
@@ -73,7 +71,7 @@ returns-in-Err-put-clause-sends g c =
     (stops takes each key first c.fill.new.sink old now c.loop-turn.turn c.fill.new.self full
     later
     (placed_value c.in-Ok-Some.placed) c.put.new.self c.put.new.sink
-    c.skipped-in-Err-put.result c.in-Err-put.end took
+    c.skipped-in-Err-put.result c.in-Err-put.fault took
     (c.in-Err-put.ensures.puts each key first full.read full.sending))
 
 pub returns-in-Err-put-clause-skips : goal.returns-in-Err-put-clause-skips
@@ -92,7 +90,7 @@ returns-in-Err-put-clause-skips g c =
     let all = g.E.Edits.skips c.args.edits.now in
     let before = g.E.Edits.skips c.loop-turn.edits in
     let later = g.E.Edits.skips c.next_edit.new.self in
-    skips_within all later c.ended-in-Err-put.result _ c.ended-in-Err-put.ensures puts.1
+    skips_within all later c.ended-in-Err-put.result _ c.in-Err-put.fault c.ended-in-Err-put.ensures refl puts.1
     (stays_then all before later c.loop-turn.invariant.skips
     (rw c.in-Ok-Some.field-0-is at c.in-Ok-Some.ensures.skips))
     c.skipped-in-Err-put.ensures.within
@@ -128,31 +126,10 @@ returns-in-Err-next_edit-clause-sends g c =
     let filling = c.in_default.ensures.fills each key first it.read it.sending in
     let full = filled takes each key first c.loop-turn.sink old now c.loop-turn.turn
     c.loop-turn.sending it c.fill.new.self c.fill.new.sink filling in
-    let same : c.ended-in-Err-next_edit.result ≡ record {
-      edits = c.loop-turn.turn;
-      batches = c.fill.new.self.batches;
-      taken =
-          c.fill.new.self.taken;
-      serial = c.fill.new.self.serial;
-      skipped = c.skipped-in-Err-next_edit.result;
-      end = end_of_unread
-          c.in-Err-next_edit.unread;
-    } =
-    c.ended-in-Err-next_edit.ensures ∙ ap
-    (λ (e : End). record {
-      edits = c.loop-turn.turn;
-      batches = c.fill.new.self.batches;
-      taken =
-          c.fill.new.self.taken;
-      serial = c.fill.new.self.serial;
-      skipped = c.skipped-in-Err-next_edit.result;
-      end = e;
-    }) c.of_unread.ensures
-    in
     subst (λ (loaded : Loaded). Loads takes each key first c.fill.new.sink old later loaded)
-    (sym same)
+    (sym c.ended-in-Err-next_edit.ensures)
     (not_read takes each key first c.fill.new.sink old now c.loop-turn.turn c.fill.new.self full
-    later c.in-Err-next_edit.unread c.skipped-in-Err-next_edit.result c.in-Err-next_edit.ensures.gives filling.1)
+    later c.in-Err-next_edit.fault c.skipped-in-Err-next_edit.result c.in-Err-next_edit.ensures.gives filling.1)
 
 pub loop-turn-preserved : goal.loop-turn-preserved
 loop-turn-preserved g c =
@@ -212,7 +189,7 @@ returns-clause-sends g c =
       taken = l.taken;
       serial = l.serial;
       skipped = c.skipped-2.result;
-      end = ReadFailed;
+      fault = Some ReadFailed;
     })) last
     (too_many takes each key first c.loop-turn.sink old now c.loop-turn.turn l
     c.loop-turn.invariant.reads c.skipped-2.result))

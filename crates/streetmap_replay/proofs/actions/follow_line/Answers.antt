@@ -10,5 +10,5 @@ returns-in-Ok-apply_line g c =
     read_on g.K.Keeper.model c.args.bytes.now c.read_line-line.result c.read_line-line.ensures c.in-Ok.batch c.in-Ok-apply_line.reply c.in-Ok.ensures.exact c.in-Ok-apply_line.ensures
 
 pub returns-in-Err-apply_line : goal.returns-in-Err-apply_line
-returns-in-Err-apply_line g c = read_stopped g.K.Keeper.model c.args.bytes.now c.read_line-line.result c.read_line-line.ensures (batch_value c.in-Ok.batch) c.in-Err-apply_line.stop
+returns-in-Err-apply_line g c = read_stopped g.K.Keeper.model c.args.bytes.now c.read_line-line.result c.read_line-line.ensures (batch_value c.in-Ok.batch) c.in-Err-apply_line.fault
     c.in-Ok.ensures.exact c.in-Err-apply_line.ensures

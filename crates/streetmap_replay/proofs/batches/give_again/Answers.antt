@@ -1,5 +1,5 @@
 use Rattle.std.proofs.Common.{rules}
-use Rattle.streetmap_replay.proofs.CallsInTurn.{no_calls, call_of, failed}
+use Rattle.streetmap_replay.proofs.CallsInTurn.{no_calls, call_of}
 use Rattle.streetmap_replay.proofs.batches.give_again.Goals as goal
 
 pub returns-in-Ok-None-clause-calls : goal.returns-in-Ok-None-clause-calls

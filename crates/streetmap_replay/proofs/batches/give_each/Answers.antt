@@ -1,4 +1,4 @@
-use Rattle.std.proofs.Common.{◌≡◌, ℕ, ◌+◌, ◌<◌, length, ap, ◌∙◌, arith}
+use Rattle.std.proofs.Common.{◌≡◌, ℕ, ◌+◌, ◌<◌, length, ap, arith}
 use Rattle.streetmap_ledger.specs.KeptView.{keyed_batch}
 use Rattle.streetmap_ledger.proofs.Serials.{found_under}
 use Rattle.streetmap_replay.proofs.CallsInTurn.{no_calls, calls_then}
@@ -35,7 +35,7 @@ pub returns-in-Err-clause-gives : goal.returns-in-Err-clause-gives
 returns-in-Err-clause-gives g c = λ h s n t sound first there are.
     let says = c.in-Err.ensures in
     let it = c.loop-batch.invariant.given (says.calls.began_clean h) s n t sound first there are in
-    row_stop s it.0 (n + length c.args.part.now) (keyed_batch c.batch-item.result) c.in-Err.stop
+    row_stop s it.0 (n + length c.args.part.now) (keyed_batch c.batch-item.result) c.in-Err.fault
     (g.L.Keeper.model.represents c.give_again.new.fresh) (says.gives h it.0 it.2)
 
 pub loop-batch-preserved : goal.loop-batch-preserved

@@ -2,8 +2,8 @@ use Rattle.std.proofs.Common.{◌≡◌, ◌<◌, ℕ, true, false, length, take
 use Rattle.std.specs.FinMap.{entries}
 use Rattle.streetmap_replay.specs.Alike.{AreSame}
 use Rattle.streetmap_replay.specs.Calls.{AreReads}
-use Rattle.streetmap_replay.proofs.CallsInTurn.{no_reads, reads_then}
-use Rattle.streetmap_replay.proofs.SameCollections.{place_of, differs_at, unlike_kept, unlike_fresh, unlike_compares}
+use Rattle.streetmap_replay.proofs.CallsInTurn.{reads_then}
+use Rattle.streetmap_replay.proofs.SameCollections.{place_of, differs_at, unlike_kept, unlike_fresh, unlike_compares, stop_compares}
 use Rattle.streetmap_replay.proofs.SameCollections.{one_more, all_places}
 use Rattle.streetmap_replay.proofs.collections.compare_each.Goals as goal
 
@@ -39,6 +39,10 @@ returns-in-Err-clause-kept g c = reads_then c.loop-summary.invariant.kept_reads 
 
 pub returns-in-Err-clause-fresh : goal.returns-in-Err-clause-fresh
 returns-in-Err-clause-fresh g c = reads_then c.loop-summary.invariant.fresh_reads c.in-Err.ensures.fresh
+
+pub returns-in-Err-clause-compares : goal.returns-in-Err-clause-compares
+returns-in-Err-clause-compares g c = λ h j s t e o reported.
+    stop_compares s t (AreSame s t (entries s.collections)) c.in-Err.fault c.in-Err.ensures.stop
 
 pub loop-summary-preserved : goal.loop-summary-preserved
 loop-summary-preserved g c =

@@ -6,7 +6,7 @@ use Rattle.streetmap_ledger.specs.Summaries.{summary_in}
 use Rattle.streetmap_ledger.specs.SummaryView.{summary_value}
 use Rattle.streetmap_replay.specs.Alike.{IsSame}
 use Rattle.streetmap_replay.proofs.SameCollections.{reported_of, same_by_features, decided_as}
-use Rattle.streetmap_replay.proofs.CallsInTurn.{no_reads, read_of, failed_read, reads_then}
+use Rattle.streetmap_replay.proofs.CallsInTurn.{no_reads, read_of, reads_then}
 use Rattle.streetmap_replay.proofs.collections.is_alike.Goals as goal
 
 pub returns-then-is_declared_alike-clause-compares : goal.returns-then-is_declared_alike-clause-compares

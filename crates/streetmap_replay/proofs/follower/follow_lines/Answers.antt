@@ -1,9 +1,8 @@
-use Rattle.std.proofs.Common.{◌≡◌, ℕ, List, None, Ok, Err, sym, ap, subst, arith}
-use Rattle.streetmap_replay.specs.Calls.{AreCalls}
+use Rattle.std.proofs.Common.{◌≡◌, ℕ, List, Some, Ok, Err, ap, subst, arith}
 use Rattle.streetmap_replay.specs.FollowedLines.{follower}
-use Rattle.streetmap_replay.specs.Ends.{FollowsLines, end_answer}
+use Rattle.streetmap_replay.specs.Ends.{FollowsLines}
 use Rattle.streetmap_replay.specs.ParsedLines.{FollowsLine}
-use Rattle.streetmap_replay.specs.declared.follower.End.TheVariants as ends
+use Rattle.streetmap_replay.specs.declared.follow_fault.FollowFault.TheVariants as ends
 use Rattle.streetmap_text_lines.specs.declared.fault.LineFault.TheVariants.{ReadFailed}
 use Rattle.streetmap_replay.proofs.Beginning.{follower_by}
 use Rattle.streetmap_replay.proofs.CallsInTurn.{no_calls, no_fault, calls_then}
@@ -41,14 +40,14 @@ returns-in-loop-turn-clause-calls g c =
     elim c.match-next_whole_line.branch [
       | in-Ok-Line w ↦
           elim w.match-follow_line.branch [
-            | in-Ok+else-is_ok v ↦ rw (w.keeper-is, w.end-is, v.end-is) (calls_then inv.calls (no_fault v.in-Ok.ensures.followed.calls))
+            | in-Ok+else-is_ok v ↦ rw (w.keeper-is, w.fault-is, v.fault-is) (calls_then inv.calls (no_fault v.in-Ok.ensures.followed.calls))
             | in-Err-follow_line v ↦
-                rw (w.keeper-is, w.end-is, v.end-is)
-                (calls_then inv.calls (ends_by v.in-Err-follow_line.stop v.in-Err-follow_line.ensures.followed.calls))
+                rw (w.keeper-is, w.fault-is, v.fault-is)
+                (calls_then inv.calls (ends_by v.in-Err-follow_line.fault v.in-Err-follow_line.ensures.followed.of_line v.in-Err-follow_line.ensures.followed.calls))
           ]
-      | in-Ok-Cut w ↦ rw (w.keeper-is, w.end-is) inv.calls
-      | in-Ok-End w ↦ rw (w.keeper-is, w.end-is) inv.calls
-      | in-Err w ↦ rw (w.keeper-is, w.end-is) inv.calls
+      | in-Ok-Cut w ↦ rw (w.keeper-is, w.fault-is) inv.calls
+      | in-Ok-End w ↦ rw (w.keeper-is, w.fault-is) inv.calls
+      | in-Err w ↦ rw (w.keeper-is, w.fault-is) inv.calls
     ]
 
 pub returns-in-loop-turn-clause-follows : goal.returns-in-loop-turn-clause-follows
@@ -70,27 +69,27 @@ returns-in-loop-turn-clause-follows g c = λ h s e.
           elim w.match-follow_line.branch [
             | in-Ok+else-is_ok v ↦
                 let line = subst (λ (bytes : List ℕ). FollowsLine model k after bytes (Ok v.in-Ok.it)) w.as_slice.ensures.value v.in-Ok.ensures in
-                rw (w.keeper-is, w.replies-is, w.end-is, v.replies-is, v.end-is)
+                rw (w.keeper-is, w.replies-is, w.fault-is, v.replies-is, v.fault-is)
                 (not_reported model first k after s _ now later g.T.Replies.reports _ reported v.report.new.self turn it w.in-Ok-Line.line.items v.in-Ok.it line clean took.1 took.2 took.0)
             | in-Err-follow_line v ↦
-                let stop = v.in-Err-follow_line.stop in
-                let line = subst (λ (bytes : List ℕ). FollowsLine model k after bytes (Err stop)) w.as_slice.ensures.value v.in-Err-follow_line.ensures in
-                rw (w.keeper-is, w.replies-is, w.end-is, v.replies-is, v.end-is)
-                (stopped model first k after s _ now later g.T.Replies.reports _ reported reported turn it w.in-Ok-Line.line.items stop inv.calls line clean took.1 took.2 took.0)
+                let fault = v.in-Err-follow_line.fault in
+                let line = subst (λ (bytes : List ℕ). FollowsLine model k after bytes (Err fault)) w.as_slice.ensures.value v.in-Err-follow_line.ensures in
+                rw (w.keeper-is, w.replies-is, w.fault-is, v.replies-is, v.fault-is)
+                (stopped model first k after s _ now later g.T.Replies.reports _ reported reported turn it w.in-Ok-Line.line.items fault inv.calls line clean took.1 took.2 took.0)
           ]
       | in-Ok-Cut w ↦
           let it = inv.underway (rw w.keeper-is at h) s e in
           let took = rw w.in-Ok-Cut.field-0-is at w.in-Ok-Cut.ensures.taken in
-          rw (w.keeper-is, w.replies-is, w.end-is)
+          rw (w.keeper-is, w.replies-is, w.fault-is)
           (cut model first k k s _ now later g.T.Replies.reports _ reported reported turn it took)
       | in-Ok-End w ↦
           let it = inv.underway (rw w.keeper-is at h) s e in
           let took = rw w.in-Ok-End.field-0-is at w.in-Ok-End.ensures.taken in
-          rw (w.keeper-is, w.replies-is, w.end-is)
+          rw (w.keeper-is, w.replies-is, w.fault-is)
           (all model first k k s _ now later g.T.Replies.reports _ reported reported turn it took)
       | in-Err w ↦
           let it = inv.underway (rw w.keeper-is at h) s e in
-          rw (w.keeper-is, w.replies-is, w.end-is)
+          rw (w.keeper-is, w.replies-is, w.fault-is)
           (unread model first k k s _ now later g.T.Replies.reports _ reported reported turn it
           w.in-Err.fault (λ long. w.in-Err.ensures.too_long (ap (λ f. Err f) long)))
     ]
@@ -104,7 +103,7 @@ returns-clause-follows g c = λ h s e.
     let last : c.loop-turn.turn ≡ 18446744073709551615 =
     omega (arith, c.loop-turn-test.false, c.loop-turn.auto.turn-end) in
     subst (λ (n : ℕ). FollowsLines model c.args.keeper.now k s (g.R.Read.remaining c.args.reader.now) now g.T.Replies.reports
-    c.args.replies.now c.loop-turn.replies (record { count = n; end = ends.NotRead ReadFailed })) last
+    c.args.replies.now c.loop-turn.replies (record { count = n; fault = Some (ends.NotRead ReadFailed) })) last
     (unread model c.args.keeper.now k k s _ now now g.T.Replies.reports _ c.loop-turn.replies c.loop-turn.replies c.loop-turn.turn it ReadFailed (λ no. absurd cc))
 
 pub returns-in-loop-turn-clause-beginnings : goal.returns-in-loop-turn-clause-beginnings

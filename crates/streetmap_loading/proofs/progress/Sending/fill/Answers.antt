@@ -1,5 +1,5 @@
 use Rattle.std.proofs.Common.{◌≡◌, [], Err, refl, rules}
-use Rattle.streetmap_loading.specs.declared.end.End.TheVariants.{Memory}
+use Rattle.streetmap_loading.specs.declared.load_fault.LoadFault.TheVariants.{Memory}
 use Rattle.streetmap_loading.specs.declared.progress.Sending.{Sending}
 use Rattle.streetmap_loading.proofs.SendLemmas.{fill_memory, fill_some}
 use Rattle.streetmap_loading.proofs.progress.Sending.fill.Goals as goal

@@ -17,7 +17,7 @@ returns-in-Ok-clause-finishes g c = λ each key first read it.
       finish_ok g.S.Sink.takes each key first read c.args.self c.args.sink.now it
           c.in-Ok-Some.batch
           c.in-Ok.last c.take.new.self (length c.edits.result.now)
-          (rw c.in-Ok-Some.field-0-is at c.in-Ok-Some.ensures) c.in-Ok.ensures same,
+          (rw c.in-Ok-Some.field-0-is at c.in-Ok-Some.ensures) c.in-Ok.ensures.takes same,
       tt,
     )
 
@@ -25,10 +25,10 @@ pub returns-in-Ok-Some-clause-finishes : goal.returns-in-Ok-Some-clause-finishes
 returns-in-Ok-Some-clause-finishes g c = λ each key first read it.
     finish_stop g.S.Sink.takes each key first read c.args.self c.args.sink.now it
     c.in-Ok-Some.batch
-    c.in-Err-take.stop c.take.new.self c.deref.result.now c.of_stop.result
+    c.in-Err-take.fault c.take.new.self c.deref.result.now c.placed.result
     (rw c.in-Ok-Some.field-0-is at c.in-Ok-Some.ensures) c.deref.ensures.value
-    c.in-Err-take.ensures
-    c.of_stop.ensures
+    c.in-Err-take.ensures.takes c.in-Err-take.ensures.of_batch
+    c.placed.ensures
 
 pub returns-clause-finishes : goal.returns-clause-finishes
 returns-clause-finishes g c = λ each key first read it.

@@ -1,6 +1,6 @@
 use Rattle.std.proofs.Common.{◌≡◌, ◌∷◌, [], Err, refl, rules}
 use Rattle.streetmap_loading.specs.Sources.{placed_value}
-use Rattle.streetmap_loading.specs.declared.end.End.TheVariants.{Memory}
+use Rattle.streetmap_loading.specs.declared.load_fault.LoadFault.TheVariants.{Memory}
 use Rattle.streetmap_loading.specs.declared.progress.Sending.{Sending}
 use Rattle.streetmap_loading.proofs.SendLemmas.{put_memory, put_none, put_some}
 use Rattle.streetmap_loading.proofs.progress.Sending.put.Goals as goal
