@@ -8,7 +8,7 @@ use Rattle.sqlite_trees.specs.Tree.{Trees}
 use Rattle.streetmap_rows.proofs.Meaning.{Selection, IsSelect}
 use Rattle.streetmap_rows.proofs.Compiles.{selects_collections, select_collections_is}
 use Rattle.streetmap_rows.specs.Statements.{select_collections}
-use Rattle.streetmap_tables.proofs.SameDatabase.{select_bare, query_plain}
+use Rattle.streetmap_rows.proofs.SameDatabase.{select_bare, query_plain}
 use Rattle.streetmap_reading.specs.ShownQueries.{IsSimpleIn}
 use Rattle.streetmap_checking.proofs.Compiles.{selects_formats, select_formats_is}
 use Rattle.streetmap_checking.proofs.Compiles.{selects_features, select_features_is}

@@ -14,10 +14,10 @@ use Rattle.streetmap_ledger.specs.SummaryView.{summary_value, summary_values}
 use Rattle.streetmap_ledger.specs.declared.summary.Summary.{Summary}
 use Rattle.streetmap_rows.specs.KeptStates.{Keeps}
 use Rattle.streetmap_rows.specs.declared.fault.ReadFault.{ReadFault}
-use Rattle.streetmap_reading.specs.ReadResults.{Stays}
-use Rattle.streetmap_reading.specs.FoldStops.{Stopped}
-use Rattle.streetmap_reading.proofs.BetweenRows.{map_append, survives_still, clean_before, stopped_on}
-use Rattle.streetmap_reading.proofs.PageStatements.{survives_both}
+use Rattle.streetmap_rows.specs.TableReads.{Stays}
+use Rattle.streetmap_rows.specs.TableReads.{Stopped}
+use Rattle.streetmap_reading.proofs.BetweenRows.{map_append, survives_still}
+use Rattle.streetmap_rows.proofs.ReadsInTurn.{clean_before, stopped_on, survives_both}
 use Rattle.streetmap_reading.specs.Held.{head_of}
 use Rattle.streetmap_reading.specs.PassResults.{CompletesHead}
 use Rattle.streetmap_reading.proofs.ShownOutlines.{found_each}

@@ -1,4 +1,7 @@
+pub mod QueriesInside
+pub mod ReadsInTurn
 pub mod RowPut
+pub mod SameDatabase
 pub mod ResultCases
 pub mod BoundParameters
 pub mod ColumnCasts

@@ -12,6 +12,7 @@ ghost use Rattle.streetmap_tables.specs.Reasons.{IsOwn, HasReasonIn, IsReturnedF
 ghost use Rattle.streetmap_tables.specs.Part.{HasCarried};
 ghost use Rattle.streetmap_tables.specs.Migration.{CarryingRefusedFor, IsRefusedOld, CarriesInside};
 ghost use Rattle.streetmap_tables.specs.Migration.{CarriesAlone, MayCarry, Carries, IsNamedFault};
+ghost use Rattle.streetmap_rows.specs.TransactionCalls.{StaysInside};
 
 use crate::adoption::read_serials;
 use crate::features::{fault_of, put_rows, take_rows};
@@ -23,22 +24,10 @@ use streetmap_rows::{ReadFault, is_memory, probe};
 
 /// Migrates the tables, inside a transaction, and returns how many batches they have accepted.
 fn carry_inside<S: Alter>(tx: &mut Transaction<'_, S>, alloc: Global) -> Result<u64, ReadFault>
-    ensures reason { HasCleanDisk (state S.Store tx.new.conn.now) →
-        IfErr result (HasReasonIn (state S.Store tx.old.conn.now) (state S.Store tx.new.conn.now)) }
-    ensures same_reference { tx.new.conn.ghost_name ≡ tx.old.conn.ghost_name }
-    ensures carries { HasCleanDisk (state S.Store tx.new.conn.now)
-        → CarriesInside (state S.Store tx.old.conn.now) (state S.Store tx.new.conn.now) result }
+    ensures runs { StaysInside S.Store HasReasonIn CarriesInside tx.old tx.new result }
     ensures carried { HasCleanDisk (state S.Store tx.new.conn.now) →
         IsTrue (state S.Store tx.old.conn.now).in_transaction →
         OnOk result (HasCarried S.Store tx.old.conn.now tx.new.conn.now) }
-    ensures inside { HasCleanDisk (state S.Store tx.new.conn.now)
-        → IsTrue (state S.Store tx.old.conn.now).in_transaction
-        → OnOk result (IsTrue (state S.Store tx.new.conn.now).in_transaction) }
-    ensures kept { HasCleanDisk (state S.Store tx.new.conn.now)
-        → IsTrue (state S.Store tx.old.conn.now).in_transaction
-        → KeepsCommit (state S.Store tx.old.conn.now) (state S.Store tx.new.conn.now) }
-    ensures survives { Survives (state S.Store tx.old.conn.now) (state S.Store tx.new.conn.now)
-        (λ _. ⊥) }
 {
     let rows = take_rows(tx)?;
     match remake_tables(tx) {

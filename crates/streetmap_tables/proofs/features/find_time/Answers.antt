@@ -8,21 +8,51 @@ use Rattle.streetmap_tables.proofs.RestsAfterRead.{the_row}
 use Rattle.streetmap_tables.specs.Part.{IsMemoryOrStore}
 use Rattle.streetmap_tables.proofs.features.find_time.Goals as goal
 
-pub returns-in-Err-clause-finds : goal.returns-in-Err-clause-finds
-returns-in-Err-clause-finds g c clean limit t k represented there = let r = c.in-Err.ensures.reads_state clean limit t represented in subst IsMemoryOrStore (sym (c.fault_of.ensures.store r.0)) r.0
+pub returns-in-Err : goal.returns-in-Err
+returns-in-Err g c = record {
+  same_reference = search rules;
+  does = λ clean. record {
+    finds = λ limit t k represented there. let r = (c.in-Err.ensures.does clean).rows limit t represented in subst IsMemoryOrStore (sym (c.fault_of.ensures.store r.0)) r.0;
+    same = search rules;
+  };
+  inside = search rules;
+  kept = search rules;
+  reason = search rules;
+  survives = search rules;
+}
 
-pub returns-in-Ok-time_in-clause-finds : goal.returns-in-Ok-time_in-clause-finds
-returns-in-Ok-time_in-clause-finds g c clean limit t k represented there =
-    let r = c.in-Ok.ensures.reads_state clean limit t represented in
-    let found = the_row collection_view (get t.collections c.args.collection.now) c.deref.result.now c.in-Some.row.now (search rules) c.in-Some.ensures.value in
-    let reported = c.in-Ok-time_in.ensures.reads c.args.collection.now found.0 found.2 (represented.readable.collections c.args.collection.now found.0 found.1) in
-    let both : Some found.0 ≡ Some k = sym found.1 ∙ there in
-    let same : found.0 ≡ k = cc in
-    (reported ∙ ap (λ (x : Collection). x.time) same, r.1)
+pub returns-in-Ok-time_in : goal.returns-in-Ok-time_in
+returns-in-Ok-time_in g c = record {
+  same_reference = search rules;
+  does = λ clean. record {
+    finds = λ limit t k represented there.
+        let r = (c.in-Ok.ensures.does clean).rows limit t represented in
+        let found = the_row collection_view (get t.collections c.args.collection.now) c.deref.result.now c.in-Some.row.now (search rules) c.in-Some.ensures.value in
+        let reported = c.in-Ok-time_in.ensures.reads c.args.collection.now found.0 found.2 (represented.readable.collections c.args.collection.now found.0 found.1) in
+        let both : Some found.0 ≡ Some k = sym found.1 ∙ there in
+        let same : found.0 ≡ k = cc in
+        (reported ∙ ap (λ (x : Collection). x.time) same, r.1);
+    same = search rules;
+  };
+  inside = search rules;
+  kept = search rules;
+  reason = search rules;
+  survives = search rules;
+}
 
-pub returns-clause-finds : goal.returns-clause-finds
-returns-clause-finds g c clean limit t k represented there =
-    let r = c.in-Ok.ensures.reads_state clean limit t represented in
-    let found = the_row collection_view (get t.collections c.args.collection.now) c.deref.result.now c.in-Some.row.now (search rules) c.in-Some.ensures.value in
-    let reported = c.in-Err-time_in.ensures.reads c.args.collection.now found.0 found.2 (represented.readable.collections c.args.collection.now found.0 found.1) in
-    subst IsMemoryOrStore (sym (c.unread.ensures ∙ ap (λ e. if is_memory e then Memory else Unread) reported)) tt
+pub returns : goal.returns
+returns g c = record {
+  same_reference = search rules;
+  does = λ clean. record {
+    finds = λ limit t k represented there.
+        let r = (c.in-Ok.ensures.does clean).rows limit t represented in
+        let found = the_row collection_view (get t.collections c.args.collection.now) c.deref.result.now c.in-Some.row.now (search rules) c.in-Some.ensures.value in
+        let reported = c.in-Err-time_in.ensures.reads c.args.collection.now found.0 found.2 (represented.readable.collections c.args.collection.now found.0 found.1) in
+        subst IsMemoryOrStore (sym (c.unread.ensures ∙ ap (λ e. if is_memory e then Memory else Unread) reported)) tt;
+    same = search rules;
+  };
+  inside = search rules;
+  kept = search rules;
+  reason = search rules;
+  survives = search rules;
+}

@@ -1,3 +1,4 @@
+use Rattle.std.proofs.Common.{rules}
 use Rattle.sqlite.specs.Held.{state}
 use Rattle.streetmap_tables.proofs.BeforeCleanEnd.{is_handed}
 use Rattle.streetmap_tables.proofs.Drops.{dropped_by}
@@ -6,20 +7,36 @@ use Rattle.streetmap_rows.proofs.ResultCases.{err_handed_on}
 use Rattle.streetmap_rows.proofs.ErrorReasons.{run_inside}
 use Rattle.streetmap_tables.proofs.recreation.drop_table.Goals as goal
 
-pub returns-clause-dropped : goal.returns-clause-dropped
-returns-clause-dropped g c clean inside name table text can =
-    dropped_by c.args.sql.now name text (state g.S.Store c.args.tx.now.conn.now) (state g.S.Store c.execute.new.self.conn.now) table can _ (c.in_ok-execute.ensures.runs clean inside).0
+pub returns-clause-runs : goal.returns-clause-runs
+returns-clause-runs g c = record {
+  same_reference = search rules;
+  does = λ clean. record {
+    dropped = λ inside name table text can. dropped_by c.args.sql.now name text (state g.S.Store c.args.tx.now.conn.now) (state g.S.Store c.execute.new.self.conn.now) table can _ (c.in_ok-execute.ensures.runs clean inside).0;
+    reported = search rules;
+  };
+  inside = search rules;
+  kept = search rules;
+  reason = search rules;
+  survives = search rules;
+}
 
-pub returns-in_err-execute-clause-reported : goal.returns-in_err-execute-clause-reported
-returns-in_err-execute-clause-reported g c clean inside name table text can apart sound =
-    let e = c.in_err-execute.field-0.0 in
-    let handed = is_handed c.from_residual.result e c.from_residual.ensures.1 in
-    rw handed (reported_dropped c.args.sql.now name text (state g.S.Store c.args.tx.now.conn.now) (state g.S.Store c.execute.new.self.conn.now) table can apart sound e (c.in_err-execute.ensures.runs clean inside))
-
-pub returns-in_err-execute-clause-reason : goal.returns-in_err-execute-clause-reason
-returns-in_err-execute-clause-reason g c clean =
-    err_handed_on c.from_residual.result c.in_err-execute.field-0.0 _ c.from_residual.ensures.1
-    (run_inside (state g.S.Store c.args.tx.now.conn.now) (state g.S.Store c.execute.new.self.conn.now) _ _ _ c.in_err-execute.ensures.ended (c.in_err-execute.ensures.runs clean))
+pub returns-in_err-execute-clause-runs : goal.returns-in_err-execute-clause-runs
+returns-in_err-execute-clause-runs g c = record {
+  same_reference = search rules;
+  does = λ clean. record {
+    dropped = search rules;
+    reported = λ inside name table text can apart sound.
+        let e = c.in_err-execute.field-0.0 in
+        let handed = is_handed c.from_residual.result e c.from_residual.ensures.1 in
+        rw handed (reported_dropped c.args.sql.now name text (state g.S.Store c.args.tx.now.conn.now) (state g.S.Store c.execute.new.self.conn.now) table can apart sound e (c.in_err-execute.ensures.runs clean inside));
+  };
+  inside = search rules;
+  kept = search rules;
+  reason = λ clean.
+      err_handed_on c.from_residual.result c.in_err-execute.field-0.0 _ c.from_residual.ensures.1
+      (run_inside (state g.S.Store c.args.tx.now.conn.now) (state g.S.Store c.execute.new.self.conn.now) _ _ _ c.in_err-execute.ensures.ended (c.in_err-execute.ensures.runs clean));
+  survives = search rules;
+}
 
 pub returns-clause-ran : goal.returns-clause-ran
 returns-clause-ran g c clean inside = (_, c.in_ok-execute.ensures.runs clean inside)
