@@ -1,3 +1,4 @@
+pub mod CallsInside
 pub mod QueriesInside
 pub mod ReadsInTurn
 pub mod RowPut

@@ -1,9 +1,8 @@
 //! Format 1 is migrated, in one transaction.
-ghost use Rattle.std.specs.Prelude.{◌≡◌, ◌≤◌, IsTrue, OnOk, IfErr, false};
+ghost use Rattle.std.specs.Prelude.{◌≡◌, IsTrue, OnOk, IfErr, false};
 ghost use Rattle.sqlite.specs.Held.{state};
 ghost use Rattle.sqlite.specs.State.{HasCleanDisk, KeepsCommit, Survives};
 ghost use Rattle.sqlite.specs.Schema.{Schema};
-ghost use Rattle.sqlite.specs.View.{doubt};
 ghost use Rattle.streetmap_ledger.specs.State.{State};
 ghost use Rattle.streetmap_tables.specs.Adoption.{IsAsItWas, LeavesNoMore};
 ghost use Rattle.streetmap_tables.specs.Creation.{KeepsOtherTables};
@@ -50,9 +49,6 @@ fn carry_alone<S: Alter>(alloc: Global, conn: &mut Connection<S>) -> Result<u64,
     ensures carried { HasCleanDisk (state S.Store conn.new) →
         OnOk result (HasCarried S.Store conn.old conn.new) }
     ensures idle { conn.new.in_transaction ≡ false }
-    ensures clean { doubt (state S.Store conn.old).is_clean
-        ≤ doubt (state S.Store conn.new).is_clean }
-    ensures limit { (state S.Store conn.new).step_limit ≡ (state S.Store conn.old).step_limit }
     ensures fewer { HasCleanDisk (state S.Store conn.new) →
         IfErr result (λ fault. IsOwn fault →
         LeavesNoMore (state S.Store conn.old) (state S.Store conn.new)) }
@@ -132,9 +128,6 @@ pub fn carry_tables<S: Alter>(alloc: Global, conn: &mut Connection<S>) -> Result
     ensures carried { HasCleanDisk (state S.Store conn.new) →
         OnOk result (HasCarried S.Store conn.old conn.new) }
     ensures idle { conn.new.in_transaction ≡ false }
-    ensures clean { doubt (state S.Store conn.old).is_clean
-        ≤ doubt (state S.Store conn.new).is_clean }
-    ensures limit { (state S.Store conn.new).step_limit ≡ (state S.Store conn.old).step_limit }
     ensures reported { IfErr result IsNamedFault }
     ensures fewer { HasCleanDisk (state S.Store conn.new) →
         IfErr result (λ fault. fault ≡ TablesFault.Damaged →

@@ -1,4 +1,5 @@
-use Rattle.std.proofs.Common.{◌≡◌, [], sym, ◌∙◌, length, map, subst, rules}
+use Rattle.std.proofs.Common.{arith, ◌≡◌, [], sym, ◌∙◌, length, map, subst, rules}
+use Rattle.std.proofs.lemmas.Grind.{common_steps}
 use Rattle.sqlite.specs.Held.{state}
 use Rattle.sqlite.proofs.Callers.{unchanged_then}
 use Rattle.streetmap_rows.proofs.ReadsInTurn.{clean_before}
@@ -21,8 +22,8 @@ returns-in_err-check_format g c = record {
       let old = state g.S.Store c.args.conn.now in
       let one = state g.S.Store c.check_format.new.conn in
       handed _ _ old one _ _ (is_handed _ _ c.from_residual.ensures.1) (why_for (IsDamaged old) (NoFormat old) old one c.in_err-check_format.field-0.0 (λ none. by_format none) (c.in_err-check_format.ensures.shows clean));
-  mode = search rules;
-  survives = search rules;
+  mode = first_of (search rules, grind (arith, common_steps));
+  survives = first_of (search rules, grind (arith, common_steps));
 }
 
 pub returns-in_err-heads : goal.returns-in_err-heads
@@ -35,8 +36,8 @@ returns-in_err-heads g c = record {
       let limit = c.check_format.ensures.survives.limit in
       handed _ _ old two _ _ (is_handed _ _ c.from_residual-in_err-heads.ensures.1)
       (fault_on (IsDamaged old) (NoCollections one) old one two c.in_err-heads.field-0.0 same c.check_format.ensures.survives.counts c.check_collections.ensures.survives.counts (λ none. by_collections (none_on select_collections [] collections_simple AreCollectionRows old one same limit none)) (c.in_err-heads.ensures.shows clean));
-  mode = search rules;
-  survives = search rules;
+  mode = first_of (search rules, grind (arith, common_steps));
+  survives = first_of (search rules, grind (arith, common_steps));
 }
 
 pub returns-in_err-features : goal.returns-in_err-features
@@ -57,8 +58,8 @@ returns-in_err-features g c = record {
       let counts = counts_then old.faults one.faults two.faults c.check_format.ensures.survives.counts c.check_collections.ensures.survives.counts in
       handed _ _ old three _ _ (is_handed _ _ c.from_residual-in_err-features.ensures.1)
       (fault_on (IsDamaged old) (NoFeaturesOfAll all two) old two three c.in_err-features.field-0.0 same counts c.check_all_features.ensures.survives.counts (λ none. by_features all (heads_on all old one first heads.0) (no_features_all_on all old two same limit none)) reported);
-  mode = search rules;
-  survives = search rules;
+  mode = first_of (search rules, grind (arith, common_steps));
+  survives = first_of (search rules, grind (arith, common_steps));
 }
 
 pub returns-in_err-check_owners : goal.returns-in_err-check_owners
@@ -83,8 +84,8 @@ returns-in_err-check_owners g c = record {
       handed _ _ old four _ _ (is_handed _ _ c.from_residual-in_err-check_owners.ensures.1)
       (fault_on (IsDamaged old) (NoOwners all three) old three four c.in_err-check_owners.field-0.0 same counts c.check_owners.ensures.survives.counts
       (λ none. by_owners all (heads_on all old one first heads.0) (none_on select_owners [] owners_simple (AreOwnerRows (map (λ (k : Known). k.0) all)) old three same limit none)) (c.in_err-check_owners.ensures.shows clean));
-  mode = search rules;
-  survives = search rules;
+  mode = first_of (search rules, grind (arith, common_steps));
+  survives = first_of (search rules, grind (arith, common_steps));
 }
 
 pub returns-in_err-batches : goal.returns-in_err-batches
@@ -110,8 +111,8 @@ returns-in_err-batches g c = record {
       let counts = counts_then old.faults three.faults four.faults three_counts c.check_owners.ensures.survives.counts in
       handed _ _ old five _ _ (is_handed _ _ c.from_residual-in_err-batches.ensures.1)
       (fault_on (IsDamaged old) (NoBatches four) old four five c.in_err-batches.field-0.0 same counts c.check_batches.ensures.survives.counts (λ none. by_batches (none_on select_batches [] batches_simple AreBatchRows old four same limit none)) (c.in_err-batches.ensures.shows clean));
-  mode = search rules;
-  survives = search rules;
+  mode = first_of (search rules, grind (arith, common_steps));
+  survives = first_of (search rules, grind (arith, common_steps));
 }
 
 pub returns : goal.returns
@@ -148,6 +149,6 @@ returns g c = record {
         },
         unchanged_then old four five same4 batches.1,
       );
-  mode = search rules;
-  survives = search rules;
+  mode = first_of (search rules, grind (arith, common_steps));
+  survives = first_of (search rules, grind (arith, common_steps));
 }

@@ -1,4 +1,5 @@
-use Rattle.std.proofs.Common.{◌++◌, ◌∷◌, [], refl, sym, subst, take, rules}
+use Rattle.std.proofs.Common.{arith, ◌++◌, ◌∷◌, [], refl, sym, subst, take, rules}
+use Rattle.std.proofs.lemmas.Grind.{common_steps}
 use Rattle.std.proofs.lemmas.List.{take_all}
 use Rattle.sqlite.specs.Held.{state}
 use Rattle.sqlite.proofs.Callers.{unchanged_then}
@@ -44,8 +45,8 @@ returns g c = record {
   shows = λ clean live.
       let before = c.heads.invariant.1 in
       (subst (λ l. SeesAllFeatures (known l) c.heads.features (state g.S.Store c.args.conn.now)) (take_all c.heads.head-index c.args.heads.now (search rules)) (before.sees clean live), before.same clean live);
-  mode = search rules;
-  survives = search rules;
+  mode = first_of (search rules, grind (arith, common_steps));
+  survives = first_of (search rules, grind (arith, common_steps));
 }
 
 pub returns-in_err-count : goal.returns-in_err-count
@@ -59,8 +60,8 @@ returns-in_err-count g c = record {
       let same = before.same early live in
       handed _ _ old new _ _ (is_handed _ _ c.from_residual.ensures.1)
       (fault_on (NoFeaturesOfAll (known c.args.heads.now) old) (NoFeatures (known_of c.head-item.result) mid) old mid new c.in_err-count.field-0.0 same before.survives.counts c.check_features.ensures.survives.counts (λ none. none_of_all c.args.heads.now c.heads.head-index c.head-item.result old (search rules) c.head-item.is (no_features_on (known_of c.head-item.result) old mid same before.survives.limit none)) (c.in_err-count.ensures.shows clean same.0.is_open));
-  mode = search rules;
-  survives = search rules;
+  mode = first_of (search rules, grind (arith, common_steps));
+  survives = first_of (search rules, grind (arith, common_steps));
 }
 
 pub returns-in_err-features : goal.returns-in_err-features
@@ -74,6 +75,6 @@ returns-in_err-features g c = record {
       let was = before.same early live in
       let same = unchanged_then old mid new was (c.in_ok-count.ensures.shows clean was.0.is_open).1 in
       handed _ _ old new _ _ (is_handed _ _ c.from_residual-in_err-features.ensures.1) (stopped_then (NoFeaturesOfAll (known c.args.heads.now) old) old new c.in_err-features.field-0.0 same c.in_err-features.ensures);
-  mode = search rules;
-  survives = search rules;
+  mode = first_of (search rules, grind (arith, common_steps));
+  survives = first_of (search rules, grind (arith, common_steps));
 }

@@ -1,4 +1,5 @@
-use Rattle.std.proofs.Common.{rules}
+use Rattle.std.proofs.Common.{arith, rules}
+use Rattle.std.proofs.lemmas.Grind.{common_steps}
 use Rattle.sqlite.specs.Held.{state}
 use Rattle.sqlite.specs.State.{HasCleanDisk}
 use Rattle.sqlite.specs.Values.{bound}
@@ -14,8 +15,8 @@ returns-in-Err g c = record {
       let new = state g.S.Store c.query.follows.lender-at-none in
       let left = rw c.in-Err.is at c.query.follows.holds-at-none in
       refused c.args.sql.now (bound c.args.params.now) old new c.in-Err.error simple (left.err clean);
-  mode = search rules;
-  survives = search rules;
+  mode = first_of (search rules, grind (arith, common_steps));
+  survives = first_of (search rules, grind (arith, common_steps));
 }
 
 pub returns-in-Ok : goal.returns-in-Ok
@@ -39,6 +40,6 @@ returns-in-Ok g c = record {
       query.survives.counts rest.survives.counts took in
       some_at g.F.RowFold.holds g.F.RowFold.is_good sql params c.args.fold.now c.take_first.new.fold
       old new _ c.take_first.result (search rules) done;
-  mode = search rules;
-  survives = search rules;
+  mode = first_of (search rules, grind (arith, common_steps));
+  survives = first_of (search rules, grind (arith, common_steps));
 }

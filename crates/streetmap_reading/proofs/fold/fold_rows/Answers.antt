@@ -1,4 +1,5 @@
-use Rattle.std.proofs.Common.{◌≡◌, inl, refl, subst, true, rules}
+use Rattle.std.proofs.Common.{arith, ◌≡◌, inl, refl, subst, true, rules}
+use Rattle.std.proofs.lemmas.Grind.{common_steps}
 use Rattle.sqlite.specs.Held.{state}
 use Rattle.sqlite.specs.declared.error.Error.TheVariants.{SqliteFailure}
 use Rattle.sqlite.specs.declared.error.ErrorCode.TheVariants.{TooBig}
@@ -16,8 +17,8 @@ returns g c = record {
       let shown = subst (λ all. ShowsOrBegins all c.args.sql.now (bound c.args.params.now)
       (state g.S.Store c.args.conn.now) took.0.0) whole took.0.1 in
       ((took.0.0, shown, took.0.2), took.1);
-  mode = search rules;
-  survives = search rules;
+  mode = first_of (search rules, grind (arith, common_steps));
+  survives = first_of (search rules, grind (arith, common_steps));
 }
 
 pub returns-then-not-all : goal.returns-then-not-all
@@ -30,14 +31,14 @@ returns-then-not-all g c = record {
         inl took.1,
         other old new (SqliteFailure TooBig) refl,
       );
-  mode = search rules;
-  survives = search rules;
+  mode = first_of (search rules, grind (arith, common_steps));
+  survives = first_of (search rules, grind (arith, common_steps));
 }
 
 pub returns-in_err-all : goal.returns-in_err-all
 returns-in_err-all g c = record {
   shows = λ clean simple held.
       handed_on _ _ _ _ c.from_residual.ensures.1 (c.in_err-all.ensures.takes clean simple held);
-  mode = search rules;
-  survives = search rules;
+  mode = first_of (search rules, grind (arith, common_steps));
+  survives = first_of (search rules, grind (arith, common_steps));
 }

@@ -1,4 +1,5 @@
-use Rattle.std.proofs.Common.{◌∙◌, refl, rules, map, MatchResult}
+use Rattle.std.proofs.Common.{arith, ◌∙◌, refl, rules, map, MatchResult}
+use Rattle.std.proofs.lemmas.Grind.{common_steps}
 use Rattle.sqlite.specs.Held.{state}
 use Rattle.sqlite.specs.State.{HasCleanDisk, IsUnchanged}
 use Rattle.sqlite.specs.Values.{bound}
@@ -19,8 +20,8 @@ returns-in-Err g c = record {
       let left = rw c.in-Err.is at c.query.follows.holds-at-none in
       reported c.args.sql.now (bound c.args.params.now) (state g.S.Store c.args.conn.now)
       (state g.S.Store c.query.follows.lender-at-none) _ shows limit c.in-Err.error (left.err clean);
-  mode = search rules;
-  survives = search rules;
+  mode = first_of (search rules, grind (arith, common_steps));
+  survives = first_of (search rules, grind (arith, common_steps));
 }
 
 pub returns-in-Ok : goal.returns-in-Ok
@@ -44,6 +45,6 @@ returns-in-Ok g c = record {
       taken_on old mid new (λ found. AreFirst c.args.room all (keyed_batches found.items))
       c.next_batches.result begun.1 c.in-Ok.ensures.survives.counts took in
       search rules;
-  mode = search rules;
-  survives = search rules;
+  mode = first_of (search rules, grind (arith, common_steps));
+  survives = first_of (search rules, grind (arith, common_steps));
 }

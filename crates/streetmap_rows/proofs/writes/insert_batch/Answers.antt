@@ -1,4 +1,5 @@
-use Rattle.std.proofs.Common.{rules, ◌≡◌, pos, Ok, Err, sym, subst}
+use Rattle.std.proofs.Common.{arith, rules, ◌≡◌, pos, Ok, Err, sym, subst}
+use Rattle.std.proofs.lemmas.Grind.{common_steps}
 use Rattle.sqlite.specs.Held.{state}
 use Rattle.sqlite_value.specs.Value.{owned}
 use Rattle.sqlite.specs.State.{ExecutesInside}
@@ -14,7 +15,7 @@ use Rattle.streetmap_rows.proofs.writes.insert_batch.Goals as goal
 
 pub returns : goal.returns
 returns g c = record {
-  same_reference = search rules;
+  same_reference = first_of (search rules, grind (arith, common_steps));
   does = λ clean inside limit s t represented leads.
       let old = state g.S.Store c.args.tx.now.conn.now in
       let new = state g.S.Store c.execute.new.self.conn.now in
@@ -25,15 +26,15 @@ returns g c = record {
       let e7 : owned c.params-to_sql-7.result ≡ Int (pos c.args.serial) = search rules in
       let ran = subst (λ row. ExecutesInside 0 insert_batch row old new (Ok c.in_ok-execute.field-0)) (seven c.params-to_sql.ensures c.params-to_sql-2.ensures e3 e4 e5 e6 e7) (c.in_ok-execute.ensures.runs clean inside) in
       subst (λ x. StandsFor x new.now × IsSameElsewhere old.now new.now) (sym leads.is) (keep_represented old new s represented limit c.args.key.now (record { text = c.args.text.now; counts = c.args.counts; serial = c.args.serial }) leads.absent leads.next leads.counted _ ran.0);
-  inside = search rules;
-  kept = search rules;
-  reason = search rules;
-  survives = search rules;
+  inside = first_of (search rules, grind (arith, common_steps));
+  kept = first_of (search rules, grind (arith, common_steps));
+  reason = first_of (search rules, grind (arith, common_steps));
+  survives = first_of (search rules, grind (arith, common_steps));
 }
 
 pub returns-in_err-execute : goal.returns-in_err-execute
 returns-in_err-execute g c = record {
-  same_reference = search rules;
+  same_reference = first_of (search rules, grind (arith, common_steps));
   does = λ clean inside limit s t represented leads.
       let old = state g.S.Store c.args.tx.now.conn.now in
       let new = state g.S.Store c.execute.new.self.conn.now in
@@ -44,10 +45,10 @@ returns-in_err-execute g c = record {
       let e7 : owned c.params-to_sql-7.result ≡ Int (pos c.args.serial) = search rules in
       let ran = subst (λ row. ExecutesInside 0 insert_batch row old new (Err c.in_err-execute.field-0.0)) (seven c.params-to_sql.ensures c.params-to_sql-2.ensures e3 e4 e5 e6 e7) (c.in_err-execute.ensures.runs clean inside) in
       handed_on c.from_residual.result c.in_err-execute.field-0.0 _ _ c.from_residual.ensures.1 (keep_reported old new s represented limit c.args.key.now (record { text = c.args.text.now; counts = c.args.counts; serial = c.args.serial }) leads.absent leads.next leads.counted _ ran);
-  inside = search rules;
-  kept = search rules;
+  inside = first_of (search rules, grind (arith, common_steps));
+  kept = first_of (search rules, grind (arith, common_steps));
   reason = λ clean.
       err_handed_on c.from_residual.result c.in_err-execute.field-0.0 _ c.from_residual.ensures.1
       (run_inside (state g.S.Store c.args.tx.now.conn.now) (state g.S.Store c.execute.new.self.conn.now) _ _ _ c.in_err-execute.ensures.ended (c.in_err-execute.ensures.runs clean));
-  survives = search rules;
+  survives = first_of (search rules, grind (arith, common_steps));
 }

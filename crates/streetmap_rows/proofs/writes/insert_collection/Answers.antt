@@ -1,4 +1,5 @@
-use Rattle.std.proofs.Common.{rules, sym, subst}
+use Rattle.std.proofs.Common.{arith, rules, sym, subst}
+use Rattle.std.proofs.lemmas.Grind.{common_steps}
 use Rattle.sqlite.specs.Held.{state}
 use Rattle.streetmap_rows.specs.Representations.{StandsFor}
 use Rattle.streetmap_rows.specs.Elsewhere.{IsSameElsewhere}
@@ -10,30 +11,30 @@ use Rattle.streetmap_rows.proofs.writes.insert_collection.Goals as goal
 
 pub returns : goal.returns
 returns g c = record {
-  same_reference = search rules;
+  same_reference = first_of (search rules, grind (arith, common_steps));
   does = λ clean inside limit s t represented leads.
       let old = state g.S.Store c.args.tx.now.conn.now in
       let new = state g.S.Store c.execute.new.self.conn.now in
       let ran = rw (c.params-to_sql.ensures, c.params-to_sql-2.ensures, c.params-to_sql-3.ensures, text_bound c.args.time) at (c.in_ok-execute.ensures.runs clean inside) in
       subst (λ x. StandsFor x new.now × IsSameElsewhere old.now new.now) (sym leads.is) (open_represented old new s represented limit c.args.name.now c.args.title.now _ leads.absent leads.id leads.words leads.property _ ran.0);
-  inside = search rules;
-  kept = search rules;
-  reason = search rules;
-  survives = search rules;
+  inside = first_of (search rules, grind (arith, common_steps));
+  kept = first_of (search rules, grind (arith, common_steps));
+  reason = first_of (search rules, grind (arith, common_steps));
+  survives = first_of (search rules, grind (arith, common_steps));
 }
 
 pub returns-in_err-execute : goal.returns-in_err-execute
 returns-in_err-execute g c = record {
-  same_reference = search rules;
+  same_reference = first_of (search rules, grind (arith, common_steps));
   does = λ clean inside limit s t represented leads.
       let old = state g.S.Store c.args.tx.now.conn.now in
       let new = state g.S.Store c.execute.new.self.conn.now in
       let ran = rw (c.params-to_sql.ensures, c.params-to_sql-2.ensures, c.params-to_sql-3.ensures, text_bound c.args.time) at (c.in_err-execute.ensures.runs clean inside) in
       handed_on c.from_residual.result c.in_err-execute.field-0.0 _ _ c.from_residual.ensures.1 (open_reported old new s represented limit c.args.name.now c.args.title.now _ leads.absent _ ran);
-  inside = search rules;
-  kept = search rules;
+  inside = first_of (search rules, grind (arith, common_steps));
+  kept = first_of (search rules, grind (arith, common_steps));
   reason = λ clean.
       err_handed_on c.from_residual.result c.in_err-execute.field-0.0 _ c.from_residual.ensures.1
       (run_inside (state g.S.Store c.args.tx.now.conn.now) (state g.S.Store c.execute.new.self.conn.now) _ _ _ c.in_err-execute.ensures.ended (c.in_err-execute.ensures.runs clean));
-  survives = search rules;
+  survives = first_of (search rules, grind (arith, common_steps));
 }

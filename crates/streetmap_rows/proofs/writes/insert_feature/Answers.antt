@@ -1,4 +1,5 @@
-use Rattle.std.proofs.Common.{rules, ◌≡◌, ℤ, option_map, Ok, Err, sym, ap, subst, ◌∙◌}
+use Rattle.std.proofs.Common.{arith, rules, ◌≡◌, ℤ, option_map, Ok, Err, sym, ap, subst, ◌∙◌}
+use Rattle.std.proofs.lemmas.Grind.{common_steps}
 use Rattle.sqlite.specs.Held.{state}
 use Rattle.sqlite.specs.State.{ExecutesInside}
 use Rattle.sqlite.specs.Values.{or_null}
@@ -16,7 +17,7 @@ use Rattle.streetmap_rows.proofs.writes.insert_feature.Goals as goal
 
 pub returns : goal.returns
 returns g c = record {
-  same_reference = search rules;
+  same_reference = first_of (search rules, grind (arith, common_steps));
   does = λ clean. record {
     writes = λ inside f is limit s t represented leads.
         let old = state g.S.Store c.args.tx.now.conn.now in
@@ -33,15 +34,15 @@ returns g c = record {
         let ran = rw (c.params-to_sql.ensures, c.params-to_sql-2.ensures, c.params-to_sql-3.ensures) at (c.in_ok-execute.ensures.runs clean inside) in
         (_, c.in_ok-execute.field-0, ran);
   };
-  inside = search rules;
-  kept = search rules;
-  reason = search rules;
-  survives = search rules;
+  inside = first_of (search rules, grind (arith, common_steps));
+  kept = first_of (search rules, grind (arith, common_steps));
+  reason = first_of (search rules, grind (arith, common_steps));
+  survives = first_of (search rules, grind (arith, common_steps));
 }
 
 pub returns-in_err-execute : goal.returns-in_err-execute
 returns-in_err-execute g c = record {
-  same_reference = search rules;
+  same_reference = first_of (search rules, grind (arith, common_steps));
   does = λ clean. record {
     writes = λ inside f is limit s t represented leads.
         let old = state g.S.Store c.args.tx.now.conn.now in
@@ -54,12 +55,12 @@ returns-in_err-execute g c = record {
         let e9 : c.map-6.result ≡ option_map (λ (s : ℤ × ℤ). s.1) c.args.seconds = search rules in
         let ran = subst (λ row. ExecutesInside 0 insert_feature row old new (Err c.in_err-execute.field-0.0)) (nine c.params-to_sql.ensures c.params-to_sql-2.ensures c.params-to_sql-3.ensures (c.params-to_sql-4.ensures ∙ ap (or_null Int) e4) (c.params-to_sql-5.ensures ∙ ap (or_null Int) e5) (c.params-to_sql-6.ensures ∙ ap (or_null Int) e6) (c.params-to_sql-7.ensures ∙ ap (or_null Int) e7) (c.params-to_sql-8.ensures ∙ ap (or_null Int) e8) (c.params-to_sql-9.ensures ∙ ap (or_null Int) e9) ∙ feature_bound (c.args.collection.now, c.args.id.now) f _ _ _ is) (c.in_err-execute.ensures.runs clean inside) in
         handed_on c.from_residual.result c.in_err-execute.field-0.0 _ _ c.from_residual.ensures.1 (insert_reported old new s represented limit (c.args.collection.now, c.args.id.now) leads.collection leads.there f leads.absent _ ran);
-    ran = search rules;
+    ran = first_of (search rules, grind (arith, common_steps));
   };
-  inside = search rules;
-  kept = search rules;
+  inside = first_of (search rules, grind (arith, common_steps));
+  kept = first_of (search rules, grind (arith, common_steps));
   reason = λ clean.
       err_handed_on c.from_residual.result c.in_err-execute.field-0.0 _ c.from_residual.ensures.1
       (run_inside (state g.S.Store c.args.tx.now.conn.now) (state g.S.Store c.execute.new.self.conn.now) _ _ _ c.in_err-execute.ensures.ended (c.in_err-execute.ensures.runs clean));
-  survives = search rules;
+  survives = first_of (search rules, grind (arith, common_steps));
 }

@@ -1,4 +1,5 @@
-use Rattle.std.proofs.Common.{rules}
+use Rattle.std.proofs.Common.{arith, rules}
+use Rattle.std.proofs.lemmas.Grind.{common_steps}
 use Rattle.sqlite.specs.Held.{state}
 use Rattle.streetmap_tables.proofs.PutFormat.{format_put, format_reported}
 use Rattle.streetmap_tables.proofs.BeforeCleanEnd.{is_handed}
@@ -8,33 +9,33 @@ use Rattle.streetmap_tables.proofs.creation.insert_format.Goals as goal
 
 pub returns-clause-runs : goal.returns-clause-runs
 returns-clause-runs g c = record {
-  same_reference = search rules;
+  same_reference = first_of (search rules, grind (arith, common_steps));
   does = λ clean. record {
     put = λ inside limit s lacks sound. format_put s (state g.S.Store c.args.tx.now.conn.now) (state g.S.Store c.execute.new.self.conn.now) limit lacks sound _ (c.in_ok-execute.ensures.runs clean inside).0;
-    reported = search rules;
+    reported = first_of (search rules, grind (arith, common_steps));
   };
-  inside = search rules;
-  kept = search rules;
-  reason = search rules;
-  survives = search rules;
+  inside = first_of (search rules, grind (arith, common_steps));
+  kept = first_of (search rules, grind (arith, common_steps));
+  reason = first_of (search rules, grind (arith, common_steps));
+  survives = first_of (search rules, grind (arith, common_steps));
 }
 
 pub returns-in_err-execute-clause-runs : goal.returns-in_err-execute-clause-runs
 returns-in_err-execute-clause-runs g c = record {
-  same_reference = search rules;
+  same_reference = first_of (search rules, grind (arith, common_steps));
   does = λ clean. record {
-    put = search rules;
+    put = first_of (search rules, grind (arith, common_steps));
     reported = λ inside limit s lacks sound.
         let e = c.in_err-execute.field-0.0 in
         let handed = is_handed c.from_residual.result e c.from_residual.ensures.1 in
         rw handed (format_reported s (state g.S.Store c.args.tx.now.conn.now) (state g.S.Store c.execute.new.self.conn.now) limit lacks sound e (c.in_err-execute.ensures.runs clean inside));
   };
-  inside = search rules;
-  kept = search rules;
+  inside = first_of (search rules, grind (arith, common_steps));
+  kept = first_of (search rules, grind (arith, common_steps));
   reason = λ clean.
       err_handed_on c.from_residual.result c.in_err-execute.field-0.0 _ c.from_residual.ensures.1
       (run_inside (state g.S.Store c.args.tx.now.conn.now) (state g.S.Store c.execute.new.self.conn.now) _ _ _ c.in_err-execute.ensures.ended (c.in_err-execute.ensures.runs clean));
-  survives = search rules;
+  survives = first_of (search rules, grind (arith, common_steps));
 }
 
 pub returns-clause-ran : goal.returns-clause-ran

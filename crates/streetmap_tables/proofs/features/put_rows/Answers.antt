@@ -1,4 +1,5 @@
 use Rattle.std.proofs.Common.{rules, ◌+◌, ◌∷◌, refl, sym, ap, subst, ◌∙◌, arith, drop, drop_of_length-le, inl}
+use Rattle.std.proofs.lemmas.Grind.{common_steps}
 use Rattle.std.proofs.lemmas.List.{drop_more}
 use Rattle.sqlite.specs.Held.{state}
 use Rattle.sqlite.specs.State.{HasCleanDisk}
@@ -23,7 +24,7 @@ rows-init g c = (
 
 pub returns-in_err-put_row-clause-runs : goal.returns-in_err-put_row-clause-runs
 returns-in_err-put_row-clause-runs g c = record {
-  same_reference = search rules;
+  same_reference = first_of (search rules, grind (arith, common_steps));
   does = λ clean limit inside s t well represented lacks.
       let inv = c.rows.invariant in
       let i = c.rows.row-index in
@@ -32,12 +33,12 @@ returns-in_err-put_row-clause-runs g c = record {
       let r = inv.3 early limit inside s t well represented lacks in
       let rest = drop_more c.args.rows.now i row (omega arith) ∙ ap (λ x. x ∷ drop (i + 1) c.args.rows.now) (sym c.row-item.is) in
       handed_on _ _ _ _ c.from_residual.ensures.1 (c.in_err-put_row.ensures.runs.does clean (inv.1.limit ∙ limit) (inv.2 early inside).0 s r.0 (drop (i + 1) c.args.rows.now) well r.1 (subst (λ l. Lacks l s r.0) rest r.2));
-  inside = search rules;
-  kept = search rules;
+  inside = first_of (search rules, grind (arith, common_steps));
+  kept = first_of (search rules, grind (arith, common_steps));
   reason = λ clean.
       handed_in _ (state g.S.Store c.args.tx.now.conn.now) (state g.S.Store c.put_row.new.tx.conn.now) _ c.from_residual.ensures.1
       (reason_in_later (state g.S.Store c.args.tx.now.conn.now) (state g.S.Store c.rows.tx.conn.now) (state g.S.Store c.put_row.new.tx.conn.now) _ _ _ c.rows.invariant.1 c.put_row.ensures.runs.survives clean (c.in_err-put_row.ensures.runs.reason clean));
-  survives = search rules;
+  survives = first_of (search rules, grind (arith, common_steps));
 }
 
 pub rows-preserved : goal.rows-preserved
@@ -68,15 +69,15 @@ rows-preserved g c =
 
 pub returns-clause-runs : goal.returns-clause-runs
 returns-clause-runs g c = record {
-  same_reference = search rules;
+  same_reference = first_of (search rules, grind (arith, common_steps));
   does = λ clean limit inside s t well represented lacks.
       let new = state g.S.Store c.rows.tx.conn.now in
       let r = c.rows.invariant.3 clean limit inside s t well represented lacks in
       (subst (λ u. StandsFor u new.now) (lacks_none s r.0 (subst (λ l. Lacks l s r.0) (drop_of_length-le c.args.rows.now (omega arith)) r.2)) r.1, r.3);
-  inside = search rules;
-  kept = search rules;
-  reason = search rules;
-  survives = search rules;
+  inside = first_of (search rules, grind (arith, common_steps));
+  kept = first_of (search rules, grind (arith, common_steps));
+  reason = first_of (search rules, grind (arith, common_steps));
+  survives = first_of (search rules, grind (arith, common_steps));
 }
 
 pub returns-clause-ran : goal.returns-clause-ran
