@@ -38,6 +38,7 @@ pub mod FixedRefused
 pub mod Resolving
 pub mod InsertRuns
 pub mod Schemas
+pub mod StatementsInside
 pub mod EndsByCause
 pub mod DiskUntouched
 pub mod ReadFails

@@ -14,11 +14,11 @@ use Rattle.streetmap_tables.proofs.adoption.find_inside.Goals as goal
 pub returns-in_err-rows-clause-runs : goal.returns-in_err-rows-clause-runs
 returns-in_err-rows-clause-runs g c =
     runs_err (runs_of c.in_err-rows.ensures) c.from_residual.ensures.1 (λ clean. record {
-  finds = first_of (search rules, grind (arith, common_steps));
-  reports =
-      let handed = is_handed c.from_residual.result c.in_err-rows.field-0.0 c.from_residual.ensures.1 in
-      subst (IsFoundIn (state g.S.Store c.args.tx.now.conn.now)) (sym handed) (λ other. (c.in_err-rows.ensures.does clean).reports other);
-  })
+      finds = first_of (search rules, grind (arith, common_steps));
+      reports =
+          let handed = is_handed c.from_residual.result c.in_err-rows.field-0.0 c.from_residual.ensures.1 in
+          subst (IsFoundIn (state g.S.Store c.args.tx.now.conn.now)) (sym handed) (λ other. (c.in_err-rows.ensures.does clean).reports other);
+    })
 
 pub returns-clause-runs : goal.returns-clause-runs
 returns-clause-runs g c = record {
@@ -55,15 +55,15 @@ returns-clause-runs g c = record {
 pub returns-in-Ok-clause-runs : goal.returns-in-Ok-clause-runs
 returns-in-Ok-clause-runs g c =
     runs_ok (runs_both (runs_of c.in_ok-rows.ensures) (runs_of c.in-Ok.ensures)) (λ clean. record {
-  finds = first_of (search rules, grind (arith, common_steps));
-  reports =
-      let old = state g.S.Store c.args.tx.now.conn.now in
-      let mid = state g.S.Store c.read_format.new.tx.conn.now in
-      let new = state g.S.Store c.read_serials.new.tx.conn.now in
-      let early : HasCleanDisk mid = clean_back mid new _ c.read_serials.ensures.survives clean in
-      let reported = (c.in_ok-rows.ensures.does early).reports in
-      let same = reported.1.0 in
-      let format : format_in c.in_ok-rows.rows.items ≡ Some (pos 2) = search rules in
-      let counted : c.len.result ≡ length c.in-Ok.serials.items = search rules in
-      ((c.in_ok-rows.rows.items, reported.0, format), (c.in-Ok.serials.items, serials_there mid old same.now_is c.read_format.ensures.survives.limit (λ _. same.was_open) c.in-Ok.serials.items ((c.in-Ok.ensures.does clean).reports).0, counted));
-  })
+      finds = first_of (search rules, grind (arith, common_steps));
+      reports =
+          let old = state g.S.Store c.args.tx.now.conn.now in
+          let mid = state g.S.Store c.read_format.new.tx.conn.now in
+          let new = state g.S.Store c.read_serials.new.tx.conn.now in
+          let early : HasCleanDisk mid = clean_back mid new _ c.read_serials.ensures.survives clean in
+          let reported = (c.in_ok-rows.ensures.does early).reports in
+          let same = reported.1.0 in
+          let format : format_in c.in_ok-rows.rows.items ≡ Some (pos 2) = search rules in
+          let counted : c.len.result ≡ length c.in-Ok.serials.items = search rules in
+          ((c.in_ok-rows.rows.items, reported.0, format), (c.in-Ok.serials.items, serials_there mid old same.now_is c.read_format.ensures.survives.limit (λ _. same.was_open) c.in-Ok.serials.items ((c.in-Ok.ensures.does clean).reports).0, counted));
+    })
