@@ -97,11 +97,3 @@ reported_all s left reported none t = go t.rest t.whole (sym (ap summary_values 
 pub none_left : (xs : List Summary) → length xs ≡ 0 → xs ≡ []
 none_left [] h = refl
 none_left (x ∷ xs) h = absurd (omega arith)
-
--- a read after another
-pub read_on : {A : Type 0} (a b c : Seen) (P Q : A → Type 0) (r : Result A ReadFault)
-    → IsUnchanged a b → a.faults ≤ b.faults → ((x : A) → P x → Q x)
-    → MatchResult r (λ x. P x × IsUnchanged b c) (Stopped b c)
-    → MatchResult r (λ x. Q x × IsUnchanged a c) (Stopped a c)
-read_on a b c P Q (Ok x) same counts f h = (f x h.0, unchanged_then a b c same h.1)
-read_on a b c P Q (Err fault) same counts f h = stopped_on a b c fault same counts h

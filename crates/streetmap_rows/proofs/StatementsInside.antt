@@ -21,13 +21,13 @@ no_success (Err x) e P is = tt
 module _ {S : Type 0} {g : Ghosts S} {old new : Transaction S} (sql : List ℕ) (params : Row)
     (same : new.conn.ghost_name ≡ old.conn.ghost_name)
     (survives : Survives (state g old.conn.now) (state g new.conn.now) (λ _. ⊥)) where
-  pub ran_inside : {A : Type 0} {Means : Seen → Seen → Result A Error → Type 0} {count : ℕ} {x : A}
+  pub ran_inside : {A : Type 0} {Means : Seen → Seen → Result A Error → Type 0} {x : A} (count : ℕ)
       → (HasCleanDisk (state g new.conn.now) → IsTrue (state g old.conn.now).in_transaction
       → ExecutesInside 0 sql params (state g old.conn.now) (state g new.conn.now) (Ok count))
       → (HasCleanDisk (state g new.conn.now)
       → Means (state g old.conn.now) (state g new.conn.now) (Ok x))
       → StaysInside g HasReason Means old new (Ok x)
-  ran_inside {count = count} runs means = record {
+  ran_inside count runs means = record {
     same_reference = same;
     does = means;
     inside = λ clean inside. (runs clean inside).1.mode;

@@ -17,7 +17,7 @@ use Rattle.streetmap_rows.proofs.writes.insert_batch.Goals as goal
 pub returns : goal.returns
 returns g c =
     let run = c.in_ok-execute.ensures in
-    ran_inside _ _ run.same_reference run.survives run.runs (λ clean inside limit s t represented leads.
+    ran_inside _ _ run.same_reference run.survives _ run.runs (λ clean inside limit s t represented leads.
     let old = state g.S.Store c.args.tx.now.conn.now in
     let new = state g.S.Store c.execute.new.self.conn.now in
     let e3 : owned c.params-to_sql-3.result ≡ Int (pos c.args.counts.opened) = search rules in

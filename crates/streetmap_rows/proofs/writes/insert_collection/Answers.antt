@@ -13,7 +13,7 @@ use Rattle.streetmap_rows.proofs.writes.insert_collection.Goals as goal
 pub returns : goal.returns
 returns g c =
     let run = c.in_ok-execute.ensures in
-    ran_inside _ _ run.same_reference run.survives run.runs (λ clean inside limit s t represented leads.
+    ran_inside _ _ run.same_reference run.survives _ run.runs (λ clean inside limit s t represented leads.
     let old = state g.S.Store c.args.tx.now.conn.now in
     let new = state g.S.Store c.execute.new.self.conn.now in
     let ran = rw (c.params-to_sql.ensures, c.params-to_sql-2.ensures, c.params-to_sql-3.ensures, text_bound c.args.time) at (c.in_ok-execute.ensures.runs clean inside) in

@@ -12,7 +12,7 @@ use Rattle.streetmap_tables.proofs.recreation.drop_table.Goals as goal
 pub returns-clause-runs : goal.returns-clause-runs
 returns-clause-runs g c =
     let run = c.in_ok-execute.ensures in
-    ran_inside _ _ run.same_reference run.survives run.runs (λ clean. record {
+    ran_inside _ _ run.same_reference run.survives _ run.runs (λ clean. record {
       dropped = λ inside name table text can. dropped_by c.args.sql.now name text (state g.S.Store c.args.tx.now.conn.now) (state g.S.Store c.execute.new.self.conn.now) table can _ (c.in_ok-execute.ensures.runs clean inside).0;
       reported = first_of (search rules, grind (arith, common_steps));
     })
