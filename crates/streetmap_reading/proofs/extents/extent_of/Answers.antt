@@ -14,6 +14,3 @@ returns-in-Some g c =
     reads_on (reads_both c.in_ok-most.ensures c.in_ok-few.ensures) (λ clean shows s limit keeps.
     let found = shows s limit keeps in
     (subst (λ o. IsExtentIfIn c.args.collection.now s o) c.in-Some.is found.0, found.1))
-
-pub returns : goal.returns
-returns g c = reads_both (reads_both c.in_ok-most.ensures c.in_ok-few.ensures) c.extent_by_rows.ensures
