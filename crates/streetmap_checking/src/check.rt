@@ -8,9 +8,8 @@ ghost use Rattle.streetmap_rows.specs.KeptStates.{Rests};
 ghost use Rattle.streetmap_tables.specs.Adoption.{IsAsItWas};
 ghost use Rattle.streetmap_checking.specs.QueryResults.{ShowsOrWhyNot};
 ghost use Rattle.streetmap_checking.specs.CheckResults.{ShowsState, ShowsTotals, IsDamaged};
-ghost use Rattle.streetmap_checking.specs.CheckResults.{ChecksBy};
-ghost use Rattle.streetmap_checking.specs.CheckResults.{ChecksFor};
-ghost use Rattle.streetmap_checking.specs.CheckResults.{ChecksState};
+ghost use Rattle.streetmap_checking.specs.CheckResults.{ChecksBy, ChecksFor, ChecksState};
+ghost use Rattle.streetmap_rows.specs.TableReads.{Queries};
 
 use crate::queries::{
     check_all_features, check_batches, check_collections, check_format, check_owners,
@@ -69,12 +68,9 @@ impl CheckFault {
 
 /// The totals, or the fault that a read met.
 fn read_all_tables<S: Alter>(alloc: Global, conn: &mut Connection<S>) -> Result<Totals, ReadFault>
-    ensures shows { HasCleanDisk (state S.Store conn.new)
-        → ShowsOrWhyNot (λ totals. ShowsTotals totals (state S.Store conn.old))
-        (IsDamaged (state S.Store conn.old)) (state S.Store conn.old) (state S.Store conn.new)
-        result }
-    ensures mode { conn.old.in_transaction ≡ false → conn.new.in_transaction ≡ false }
-    ensures survives { Survives (state S.Store conn.old) (state S.Store conn.new) (λ _. ⊥) }
+    ensures { Queries S.Store
+        (λ old. ShowsOrWhyNot (λ totals. ShowsTotals totals old) (IsDamaged old) old)
+        (λ _ _. ⊥) conn.old conn.new result }
 {
     check_format(conn)?;
     let heads = check_collections(alloc, conn)?;

@@ -1,15 +1,13 @@
 //! The queries of a check, one after the other.
-ghost use Rattle.std.specs.Prelude.{◌≡◌, false, IsTrue};
-ghost use Rattle.sqlite.specs.Held.{state};
-ghost use Rattle.sqlite.specs.State.{HasCleanDisk, Survives};
+ghost use Rattle.std.specs.Prelude.{IsTrue};
 ghost use Rattle.streetmap_checking.specs.Held.{known};
 ghost use Rattle.streetmap_checking.specs.KnownCollections.{known_of};
 ghost use Rattle.streetmap_checking.specs.QueryResults.{ShowsOrWhyNot, SeesFormat, SeesCollections};
-ghost use Rattle.streetmap_checking.specs.QueryResults.{SeesFeatures};
-ghost use Rattle.streetmap_checking.specs.QueryResults.{SeesAllFeatures, SeesOwners, SeesBatches};
-ghost use Rattle.streetmap_checking.specs.QueryResults.{NoFormat, NoCollections, NoFeatures};
-ghost use Rattle.streetmap_checking.specs.QueryResults.{NoFeaturesOfAll};
-ghost use Rattle.streetmap_checking.specs.QueryResults.{NoOwners, NoBatches};
+ghost use Rattle.streetmap_checking.specs.QueryResults.{SeesFeatures, SeesAllFeatures, SeesOwners};
+ghost use Rattle.streetmap_checking.specs.QueryResults.{SeesBatches, NoFormat, NoCollections};
+ghost use Rattle.streetmap_checking.specs.QueryResults.{NoFeatures, NoFeaturesOfAll, NoOwners};
+ghost use Rattle.streetmap_checking.specs.QueryResults.{NoBatches};
+ghost use Rattle.streetmap_rows.specs.TableReads.{Queries};
 
 use crate::batches::{BatchRows, are_serials};
 use crate::cells::sum_of;
@@ -20,16 +18,12 @@ use crate::owners::OwnerRows;
 use sqlite::{Alter, Connection, params};
 use std::alloc::Global;
 use streetmap_reading::fold_rows;
-use streetmap_rows::ReadFault;
+use streetmap_rows::{ReadFault, SELECT_COLLECTIONS};
 
 /// Whether the row of the format exists, and no other.
 pub fn check_format<S: Alter>(conn: &mut Connection<S>) -> Result<(), ReadFault>
-    ensures shows { HasCleanDisk (state S.Store conn.new)
-        → ShowsOrWhyNot (λ _. SeesFormat (state S.Store conn.old))
-        (NoFormat (state S.Store conn.old))
-        (state S.Store conn.old) (state S.Store conn.new) result }
-    ensures mode { conn.old.in_transaction ≡ false → conn.new.in_transaction ≡ false }
-    ensures survives { Survives (state S.Store conn.old) (state S.Store conn.new) (λ _. ⊥) }
+    ensures { Queries S.Store (λ old. ShowsOrWhyNot (λ _. SeesFormat old) (NoFormat old) old)
+        (λ _ _. ⊥) conn.old conn.new result }
 {
     let mut rows = FormatRows { found: 0 };
     fold_rows(
@@ -49,21 +43,13 @@ pub fn check_collections<S: Alter>(
     alloc: Global,
     conn: &mut Connection<S>,
 ) -> Result<Vec<Head>, ReadFault>
-    ensures shows { HasCleanDisk (state S.Store conn.new)
-        → ShowsOrWhyNot (λ heads. SeesCollections (known heads.items) (state S.Store conn.old))
-        (NoCollections (state S.Store conn.old)) (state S.Store conn.old) (state S.Store conn.new)
-        result }
-    ensures mode { conn.old.in_transaction ≡ false → conn.new.in_transaction ≡ false }
-    ensures survives { Survives (state S.Store conn.old) (state S.Store conn.new) (λ _. ⊥) }
+    ensures { Queries S.Store (λ old. ShowsOrWhyNot
+        (λ heads. SeesCollections (known heads.items) old) (NoCollections old) old)
+        (λ _ _. ⊥) conn.old conn.new result }
 {
     let heads = Vec::new(alloc);
     let mut rows = CollectionRows { heads };
-    fold_rows(
-        conn,
-        "SELECT id, title, time FROM streetmap_collections ORDER BY id",
-        params![],
-        &mut rows,
-    )?;
+    fold_rows(conn, SELECT_COLLECTIONS, params![], &mut rows)?;
     Ok(rows.heads)
 }
 
@@ -73,13 +59,9 @@ fn check_features<S: Alter>(
     conn: &mut Connection<S>,
     head: &Head,
 ) -> Result<u64, ReadFault>
-    ensures shows { HasCleanDisk (state S.Store conn.new)
-        → IsTrue (state S.Store conn.old).is_open
-        → ShowsOrWhyNot (λ count. SeesFeatures (known_of head.now) count (state S.Store conn.old))
-        (NoFeatures (known_of head.now) (state S.Store conn.old)) (state S.Store conn.old)
-        (state S.Store conn.new) result }
-    ensures mode { conn.old.in_transaction ≡ false → conn.new.in_transaction ≡ false }
-    ensures survives { Survives (state S.Store conn.old) (state S.Store conn.new) (λ _. ⊥) }
+    ensures { Queries S.Store (λ old new r. IsTrue old.is_open → ShowsOrWhyNot
+        (λ count. SeesFeatures (known_of head.now) count old) (NoFeatures (known_of head.now) old)
+        old new r) (λ _ _. ⊥) conn.old conn.new result }
 {
     let id = head.id.as_str();
     let copy = copy_of(head)?;
@@ -104,13 +86,9 @@ pub fn check_all_features<S: Alter>(
     conn: &mut Connection<S>,
     heads: &[Head],
 ) -> Result<u64, ReadFault>
-    ensures shows { HasCleanDisk (state S.Store conn.new)
-        → IsTrue (state S.Store conn.old).is_open
-        → ShowsOrWhyNot (λ count. SeesAllFeatures (known heads.now) count (state S.Store conn.old))
-        (NoFeaturesOfAll (known heads.now) (state S.Store conn.old)) (state S.Store conn.old)
-        (state S.Store conn.new) result }
-    ensures mode { conn.old.in_transaction ≡ false → conn.new.in_transaction ≡ false }
-    ensures survives { Survives (state S.Store conn.old) (state S.Store conn.new) (λ _. ⊥) }
+    ensures { Queries S.Store (λ old new r. IsTrue old.is_open → ShowsOrWhyNot
+        (λ count. SeesAllFeatures (known heads.now) count old)
+        (NoFeaturesOfAll (known heads.now) old) old new r) (λ _ _. ⊥) conn.old conn.new result }
 {
     let mut features: u64 = 0;
     'heads: for head in heads {
@@ -122,12 +100,8 @@ pub fn check_all_features<S: Alter>(
 
 /// Whether each feature is in one of these collections.
 pub fn check_owners<S: Alter>(conn: &mut Connection<S>, heads: Vec<Head>) -> Result<(), ReadFault>
-    ensures shows { HasCleanDisk (state S.Store conn.new)
-        → ShowsOrWhyNot (λ _. SeesOwners (known heads.items) (state S.Store conn.old))
-        (NoOwners (known heads.items) (state S.Store conn.old)) (state S.Store conn.old)
-        (state S.Store conn.new) result }
-    ensures mode { conn.old.in_transaction ≡ false → conn.new.in_transaction ≡ false }
-    ensures survives { Survives (state S.Store conn.old) (state S.Store conn.new) (λ _. ⊥) }
+    ensures { Queries S.Store (λ old. ShowsOrWhyNot (λ _. SeesOwners (known heads.items) old)
+        (NoOwners (known heads.items) old) old) (λ _ _. ⊥) conn.old conn.new result }
 {
     let mut rows = OwnerRows { heads };
     fold_rows(
@@ -140,12 +114,9 @@ pub fn check_owners<S: Alter>(conn: &mut Connection<S>, heads: Vec<Head>) -> Res
 
 /// The number of batches, whose serials are the numbers from 1 to it.
 pub fn check_batches<S: Alter>(alloc: Global, conn: &mut Connection<S>) -> Result<u64, ReadFault>
-    ensures shows { HasCleanDisk (state S.Store conn.new)
-        → ShowsOrWhyNot (λ count. SeesBatches count (state S.Store conn.old))
-        (NoBatches (state S.Store conn.old)) (state S.Store conn.old) (state S.Store conn.new)
-        result }
-    ensures mode { conn.old.in_transaction ≡ false → conn.new.in_transaction ≡ false }
-    ensures survives { Survives (state S.Store conn.old) (state S.Store conn.new) (λ _. ⊥) }
+    ensures { Queries S.Store
+        (λ old. ShowsOrWhyNot (λ count. SeesBatches count old) (NoBatches old) old)
+        (λ _ _. ⊥) conn.old conn.new result }
 {
     let serials = Vec::new(alloc);
     let mut rows = BatchRows {

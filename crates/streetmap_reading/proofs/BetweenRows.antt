@@ -14,7 +14,7 @@ use Rattle.sqlite.proofs.Callers.{unchanged_then}
 use Rattle.streetmap_geojson.specs.FeatureValue.{FeatureValue}
 use Rattle.streetmap_rows.specs.Rows.{feature_text}
 use Rattle.streetmap_reading.specs.Candidates.{candidate_row}
-use Rattle.streetmap_reading.specs.FoldStops.{Stopped}
+use Rattle.streetmap_rows.specs.TableReads.{Stopped}
 use Rattle.streetmap_rows.specs.declared.fault.ReadFault.{ReadFault}
 use Rattle.streetmap_rows.specs.declared.fault.ReadFault.TheVariants.{Memory, Store, Unread}
 
@@ -38,15 +38,3 @@ survives_still s P = record { clean = omega arith; shield = λ h. h; counts = om
 
 pub survives_on : (a b c : Seen) → Survives a b (λ _. ⊥) → Survives b c (λ _. ⊥) → Survives a c (λ _. ⊥)
 survives_on a b c p q = survives_then a b c (λ _. ⊥) (λ _. ⊥) (λ _. ⊥) (λ clean db h. h) (λ clean db h. h) p q
-
-pub clean_before : (a b : Seen) (P : Trees → Type 0) → Survives a b P → HasCleanDisk b → HasCleanDisk a
-clean_before a b P it clean = omega (arith, clean, it.clean)
-
-pub keeps_on : (a b c : Seen) → IsUnchanged a b → KeepsCommit b c → KeepsCommit a c
-keeps_on a b c same kept = keeps_then a b c (record { was_open = λ _. same.0.was_open; committed = λ _. same.0.committed_is }) kept
-
-pub stopped_on : (a b c : Seen) (fault : ReadFault) → IsUnchanged a b → a.faults ≤ b.faults
-    → Stopped b c fault → Stopped a c fault
-stopped_on a b c Memory same counts h = unchanged_then a b c same h
-stopped_on a b c (Store e) same counts h = (h.0, (λ live reports. omega (arith, counts, h.1 same.0.is_open reports)), keeps_on a b c same h.2)
-stopped_on a b c Unread same counts h = h

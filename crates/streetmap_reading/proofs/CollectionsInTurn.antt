@@ -14,10 +14,10 @@ use Rattle.streetmap_ledger.specs.SummaryView.{summary_value, summary_values}
 use Rattle.streetmap_ledger.specs.declared.summary.Summary.{Summary}
 use Rattle.streetmap_rows.specs.KeptStates.{Keeps}
 use Rattle.streetmap_rows.specs.declared.fault.ReadFault.{ReadFault}
-use Rattle.streetmap_reading.specs.ReadResults.{Stays}
-use Rattle.streetmap_reading.specs.FoldStops.{Stopped}
-use Rattle.streetmap_reading.proofs.BetweenRows.{map_append, survives_still, clean_before, stopped_on}
-use Rattle.streetmap_reading.proofs.PageStatements.{survives_both}
+use Rattle.streetmap_rows.specs.TableReads.{Stays}
+use Rattle.streetmap_rows.specs.TableReads.{Stopped}
+use Rattle.streetmap_reading.proofs.BetweenRows.{map_append, survives_still}
+use Rattle.streetmap_rows.proofs.ReadsInTurn.{clean_before, stopped_on, survives_both}
 use Rattle.streetmap_reading.specs.Held.{head_of}
 use Rattle.streetmap_reading.specs.PassResults.{CompletesHead}
 use Rattle.streetmap_reading.proofs.ShownOutlines.{found_each}
@@ -97,11 +97,3 @@ reported_all s left reported none t = go t.rest t.whole (sym (ap summary_values 
 pub none_left : (xs : List Summary) → length xs ≡ 0 → xs ≡ []
 none_left [] h = refl
 none_left (x ∷ xs) h = absurd (omega arith)
-
--- a read after another
-pub read_on : {A : Type 0} (a b c : Seen) (P Q : A → Type 0) (r : Result A ReadFault)
-    → IsUnchanged a b → a.faults ≤ b.faults → ((x : A) → P x → Q x)
-    → MatchResult r (λ x. P x × IsUnchanged b c) (Stopped b c)
-    → MatchResult r (λ x. Q x × IsUnchanged a c) (Stopped a c)
-read_on a b c P Q (Ok x) same counts f h = (f x h.0, unchanged_then a b c same h.1)
-read_on a b c P Q (Err fault) same counts f h = stopped_on a b c fault same counts h

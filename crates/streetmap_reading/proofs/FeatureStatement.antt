@@ -43,7 +43,7 @@ use Rattle.streetmap_rows.specs.declared.fault.ReadFault.TheVariants.{Memory}
 use Rattle.streetmap_reading.specs.Candidates.{dated_row, ShowsOf}
 use Rattle.streetmap_reading.specs.ReadResults.{IsTextRowIfFound}
 use Rattle.streetmap_rows.specs.Stored.{IsStored}
-use Rattle.streetmap_reading.specs.FoldStops.{Stopped}
+use Rattle.streetmap_rows.specs.TableReads.{Stopped}
 use Rattle.streetmap_reading.proofs.PageRowsShown.{shows_by}
 
 -- ---- a row that passes two tests, of which one alone is passed by one row at most

@@ -13,7 +13,7 @@ use Rattle.streetmap_rows.specs.declared.fault.ReadFault.TheVariants.{Memory, St
 use Rattle.streetmap_reading.specs.Candidates.{ShowsSuch, ShowsOf}
 use Rattle.streetmap_reading.specs.FoldEffects.{TakesAll, TakesSome, StopsQuery}
 use Rattle.streetmap_reading.specs.ShownQueries.{QueryBegins, QueryIsRefused}
-use Rattle.streetmap_reading.specs.FoldStops.{Stopped}
+use Rattle.streetmap_rows.specs.TableReads.{Stopped}
 use Rattle.streetmap_reading.proofs.WholeQueries.{answered}
 use Rattle.streetmap_reading.proofs.ShownQueries.{plain_simple, undone_keeps}
 use Rattle.streetmap_reading.proofs.QueryFails.{reported}
@@ -55,7 +55,7 @@ module _ {F : Type 0} (Holds : F → F → List Row → Type 0) (IsGood : F → 
 
       -- the rows of a query that no rule refuses are taken, if they are good
       pub folded_such : (r : Result (Unit {0}) ReadFault)
-          → TakesAll Holds IsGood sql params old new before after r → Holds before before []
+          → TakesAll Holds IsGood sql params before after old new r → Holds before before []
           → MatchResult r (λ _. ((rows : List Row) × Are rows × Holds before after rows)
           × IsUnchanged old new) (Stopped old new)
       folded_such (Ok u) all held =
@@ -67,7 +67,7 @@ module _ {F : Type 0} (Holds : F → F → List Row → Type 0) (IsGood : F → 
 
       -- if the first rows are taken, and these are all
       pub folded_some : (r : Result Bool ReadFault)
-          → TakesSome Holds IsGood sql params old new before after r → Holds before before []
+          → TakesSome Holds IsGood sql params before after old new r → Holds before before []
           → MatchResult r (λ all. (IsTrue all
           → (rows : List Row) × Are rows × Holds before after rows) × IsUnchanged old new)
           (Stopped old new)
@@ -84,7 +84,7 @@ module _ {F : Type 0} (Holds : F → F → List Row → Type 0) (IsGood : F → 
   -- the same of a query that shows these rows
   pub folded : (rows : List Row) → ShowsOf sql params old.now rows → old.step_limit ≡ None
       → IsGood before rows → (r : Result (Unit {0}) ReadFault)
-      → TakesAll Holds IsGood sql params old new before after r → Holds before before []
+      → TakesAll Holds IsGood sql params before after old new r → Holds before before []
       → MatchResult r (λ _. Holds before after rows × IsUnchanged old new) (Stopped old new)
   folded rows shows limit good r all held =
       only r (folded_such (λ given. given ≡ rows) shows limit

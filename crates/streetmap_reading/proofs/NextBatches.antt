@@ -13,9 +13,9 @@ use Rattle.sqlite_rules.specs.Lists.{Has}
 use Rattle.sqlite_rules.proofs.ListLemmas.{all_from}
 use Rattle.streetmap_ledger.specs.State.{State}
 use Rattle.streetmap_ledger.specs.WellFormed.{IsState}
-use Rattle.streetmap_reading.specs.FoldStops.{Stopped}
+use Rattle.streetmap_rows.specs.TableReads.{Stopped}
 use Rattle.streetmap_rows.specs.declared.fault.ReadFault.{ReadFault}
-use Rattle.streetmap_reading.proofs.BetweenRows.{stopped_on}
+use Rattle.streetmap_rows.proofs.ReadsInTurn.{stopped_on}
 use Rattle.streetmap_ledger.specs.Kept.{KeyedBatch, batch_in, batch_count, batches_next}
 use Rattle.streetmap_ledger.specs.Kept.{batches_after, AreNext}
 use Rattle.streetmap_ledger.proofs.AllThere.{as_many}

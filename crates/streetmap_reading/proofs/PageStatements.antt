@@ -25,11 +25,11 @@ use Rattle.streetmap_rows.specs.declared.fault.ReadFault.{ReadFault}
 use Rattle.streetmap_reading.specs.Candidates.{candidate_row, ShowsOf}
 use Rattle.streetmap_rows.specs.Stored.{IsStored}
 use Rattle.streetmap_reading.specs.declared.candidates.PageRows.{PageRows}
-use Rattle.streetmap_reading.specs.FoldStops.{Stopped}
+use Rattle.streetmap_rows.specs.TableReads.{Stopped}
 use Rattle.streetmap_reading.specs.FoldEffects.{TakesAll}
 use Rattle.streetmap_reading.specs.Held.{IsCandidate, HoldsPage}
 use Rattle.streetmap_reading.specs.Choices.{chosen_of, TakesChosen}
-use Rattle.streetmap_reading.specs.ReadResults.{Stays}
+use Rattle.streetmap_rows.specs.TableReads.{Stays}
 use Rattle.streetmap_rows.specs.Views.{collection_view}
 use Rattle.streetmap_reading.proofs.Folded.{folded}
 use Rattle.streetmap_reading.proofs.PageRowsShown.{chosen_stored}
@@ -37,11 +37,11 @@ use Rattle.streetmap_reading.proofs.OneRowMore.{candidates_fine, page_begun}
 
 -- the rows of the chosen features are taken
 pub takes_by : (sql : List ℕ) (params : Row) (box : Option BoxValue) (interval : Option IntervalValue) (name : Text) (old new : Seen) (before after : PageRows) (r : Result (Unit {0}) ReadFault)
-    → TakesAll HoldsPage (λ start. AllByRecursion (IsCandidate (option_copied start.property))) sql params old new before
-    after r
+    → TakesAll HoldsPage (λ start. AllByRecursion (IsCandidate (option_copied start.property))) sql params before
+    after old new r
     → ((s : State) (c : Collection) → Keeps s old.now → get s.collections name ≡ Some c
     → ShowsOf sql params old.now (map candidate_row (chosen_of box interval c)))
-    → TakesChosen (chosen_of box interval) name old new before after r
+    → TakesChosen (chosen_of box interval) name before after old new r
 takes_by sql params box interval name old new before after r all shows q s c limit keeps collected same held =
     let fs = chosen_of box interval c in
     let stored : AllByRecursion (IsStored (option_copied before.property)) fs = subst (λ p. AllByRecursion (IsStored p) fs) same (chosen_stored s old.now keeps name c collected box interval) in
@@ -55,20 +55,6 @@ takes_by sql params box interval name old new before after r all shows q s c lim
         → MatchResult r (λ _. IsFoldOf q after.fold (chosen_of box interval c) × IsUnchanged old new) (Stopped old new)
     result_map (Ok u) f h = (f h.0, h.1)
     result_map (Err fault) f h = h
-
--- a query of the database of a state commits nothing
-pub stays_by : (sql : List ℕ) (params : Row) (old new : Seen) → Survives old new (CommitsShowing sql params old) → ((s : State) → Keeps s old.now → IsPlain (understood old.now.schema sql)) → Stays old new
-stays_by sql params old new kept plain clean s limit keeps trees left =
-    elim (kept.crash clean trees left) [
-      | inl was ↦ was
-      | inr commits ↦ absurd (never_commits sql params old trees (plain s keeps) commits)
-    ]
-
-pub survives_any : (old new : Seen) (P : Trees → Type 0) → Survives old new P → Survives old new (λ _. Unit {0})
-survives_any old new P kept = survives_weaker old new P (λ _. Unit {0}) (λ clean db h. tt) kept
-
-pub survives_both : (a b c : Seen) → Survives a b (λ _. Unit {0}) → Survives b c (λ _. Unit {0}) → Survives a c (λ _. Unit {0})
-survives_both a b c p q = survives_then a b c (λ _. Unit {0}) (λ _. Unit {0}) (λ _. Unit {0}) (λ clean db h. h) (λ clean db h. h) p q
 
 -- ---- no selected feature is left out
 
@@ -92,9 +78,6 @@ page_is q property fs h = same_page (query_value q) (length (candidates (query_v
 pub there_is : (o : Option Collection) (row : Row) → Some row ≡ option_map collection_view o → (d : Collection) × (o ≡ Some d) × (row ≡ collection_view d)
 there_is None row e = absurd (cc)
 there_is (Some d) row e = (d, refl, let same : row ≡ collection_view d = cc in same)
-
-pub keeps_still : (s : State) (a b : Seen) → IsUnchanged a b → Keeps s a.now → Keeps s b.now
-keeps_still s a b same keeps = subst (Keeps s) (sym same.0.now_is) keeps
 
 -- the last of at most one row
 pub popped : (o r : Option Row) (rest rows : List Row) (n m : ℕ) → rows ≡ option_to_list o → rows ≡ rest ++ option_to_list r → length rows ≡ n → MatchOption r ((n ≡ 0) × (m ≡ 0)) (λ _. m + 1 ≡ n) → r ≡ o

@@ -27,7 +27,7 @@ use Rattle.streetmap_reading.specs.Candidates.{candidate_row, ShowsOf}
 use Rattle.streetmap_reading.specs.FoldEffects.{TakesAll}
 use Rattle.streetmap_reading.specs.Held.{HoldsRun, IsCandidate}
 use Rattle.streetmap_reading.specs.Statements.{select_run}
-use Rattle.streetmap_reading.specs.FoldStops.{Stopped}
+use Rattle.streetmap_rows.specs.TableReads.{Stopped}
 use Rattle.streetmap_reading.proofs.ChosenInOrder.{page_query, lists_chosen}
 use Rattle.streetmap_reading.proofs.Compiles.{select_run_means, select_run_never}
 use Rattle.streetmap_reading.proofs.Folded.{folded}
@@ -87,7 +87,7 @@ run_more start before after feature rows row held same more reads = record {
 
 -- the rows of the features with ids between two are taken
 pub runs_by : (name first last : Text) (old new : Seen) (before after : FeatureRows) (r : Result (Unit {0}) ReadFault)
-    → TakesAll HoldsRun (λ start. AllByRecursion (IsCandidate (option_copied start.property))) select_run (run_params name first last) old new before after r → before.features.items ≡ []
+    → TakesAll HoldsRun (λ start. AllByRecursion (IsCandidate (option_copied start.property))) select_run (run_params name first last) before after old new r → before.features.items ≡ []
     → (s : State) (c : Collection) → old.step_limit ≡ None → Keeps s old.now → get s.collections name ≡ Some c → c.time ≡ option_copied before.property
     → MatchResult r (λ _. (after.features.items ≡ run_of first last c) × IsUnchanged old new) (Stopped old new)
 runs_by name first last old new before after r all none s c limit keeps there property = go r (folded HoldsRun (λ start. AllByRecursion (IsCandidate (option_copied start.property))) select_run (run_params name first last) old new before after (map candidate_row fs) (run_at old.now s keeps name c there first last) limit (candidates_fine (option_copied before.property) fs stored) r all (run_begun before))

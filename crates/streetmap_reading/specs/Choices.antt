@@ -16,7 +16,7 @@ use Rattle.streetmap_ledger.specs.Folds.{IsFoldOf}
 use Rattle.streetmap_rows.specs.KeptStates.{Keeps}
 use Rattle.streetmap_rows.specs.declared.fault.ReadFault.{ReadFault}
 use Rattle.streetmap_reading.specs.declared.candidates.PageRows.{PageRows}
-use Rattle.streetmap_reading.specs.FoldStops.{Stopped}
+use Rattle.streetmap_rows.specs.TableReads.{Stopped}
 
 -- the extent overlaps the box, and the seconds those of the interval, if a box or an interval is
 -- given
@@ -34,9 +34,9 @@ candidates_of q = chosen_of q.bbox (requested_interval q)
 
 -- the chosen features of an existing collection, with the page's time property, were taken into the
 -- page, in order of ids
-abbrev pub TakesChosen : (Collection → List FeatureValue) → Text → Seen → Seen → PageRows
-    → PageRows → Result (Unit {0}) ReadFault → Type 0
-TakesChosen chosen name old new before after result =
+abbrev pub TakesChosen : (Collection → List FeatureValue) → Text → PageRows → PageRows → Seen
+    → Seen → Result (Unit {0}) ReadFault → Type 0
+TakesChosen chosen name before after old new result =
     (q : QueryValue) (s : State) (c : Collection) → old.step_limit ≡ None → Keeps s old.now
     → get s.collections name ≡ Some c → c.time ≡ option_copied before.property
     → IsFoldOf q before.fold []

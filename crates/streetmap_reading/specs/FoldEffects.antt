@@ -55,16 +55,16 @@ module _ {F : Type 0} (Holds : F → F → List Row → Type 0)
       × HasReason old new e
 
   -- all rows that the query shows were taken
-  abbrev pub TakesAll : List ℕ → Row → Seen → Seen → F → F
+  abbrev pub TakesAll : List ℕ → Row → F → F → Seen → Seen
       → Result (Unit {0}) ReadFault → Type 0
-  TakesAll sql params old new before after result =
+  TakesAll sql params before after old new result =
       IsSimpleIn old.now.schema sql → Holds before before []
       → MatchResult result (λ _. ((rows : List Row) × QueryShows sql params old rows
       × Holds before after rows) × IsUnchanged old new) (StopsQuery sql params before old new)
 
   -- rows that the query shows were taken, the first ones or all, as the result says
-  abbrev pub TakesSome : List ℕ → Row → Seen → Seen → F → F → Result Bool ReadFault → Type 0
-  TakesSome sql params old new before after result =
+  abbrev pub TakesSome : List ℕ → Row → F → F → Seen → Seen → Result Bool ReadFault → Type 0
+  TakesSome sql params before after old new result =
       IsSimpleIn old.now.schema sql → Holds before before []
       → MatchResult result (λ all. ((rows : List Row) × ShowsOrBegins all sql params old rows
       × Holds before after rows) × IsUnchanged old new) (StopsQuery sql params before old new)

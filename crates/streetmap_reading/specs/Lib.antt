@@ -5,7 +5,6 @@ pub mod Held
 pub mod ReadResults
 pub mod ShownQueries
 pub mod Statements
-pub mod FoldStops
 pub mod PassResults
 pub mod Views
 pub mod BatchStatements

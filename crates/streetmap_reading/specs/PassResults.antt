@@ -18,7 +18,7 @@ use Rattle.streetmap_ledger.specs.SummaryView.{summary_value, summary_values}
 use Rattle.streetmap_ledger.specs.declared.outline.FeatureOutline.{FeatureOutline}
 use Rattle.streetmap_ledger.specs.declared.summary.Summary.{Summary}
 use Rattle.streetmap_rows.specs.declared.fault.ReadFault.{ReadFault}
-use Rattle.streetmap_reading.specs.ReadResults.{ReadsState}
+use Rattle.streetmap_rows.specs.TableReads.{ReadsState}
 use Rattle.streetmap_reading.specs.Held.{head_of}
 
 -- the summary of the collection with this id; none if it does not exist

@@ -5,8 +5,7 @@ use Rattle.std.specs.Option.{option_to_list}
 use Rattle.std.specs.FinMap.{get, values}
 use Rattle.std.specs.declared.alloc.Global.{Global}
 use Rattle.sqlite.specs.Order.{Row}
-use Rattle.sqlite.specs.State.{State as Seen, HasCleanDisk, IsUnchanged}
-use Rattle.sqlite_trees.specs.Tree.{Trees}
+use Rattle.sqlite.specs.State.{State as Seen, IsUnchanged}
 use Rattle.streetmap_geojson.specs.FeatureValue.{FeatureValue}
 use Rattle.streetmap_query.specs.QueryValue.{QueryValue}
 use Rattle.streetmap_batch.specs.Text.{Text}
@@ -15,22 +14,10 @@ use Rattle.streetmap_ledger.specs.Pages.{page_in, page_over, feature_in, run_of}
 use Rattle.streetmap_ledger.specs.PageView.{page_value}
 use Rattle.streetmap_ledger.specs.declared.page.Page.{Page}
 use Rattle.streetmap_rows.specs.KeptStates.{Keeps}
+use Rattle.streetmap_rows.specs.TableReads.{Stopped}
 use Rattle.streetmap_rows.specs.Views.{collection_view}
 use Rattle.streetmap_rows.specs.declared.fault.ReadFault.{ReadFault}
 use Rattle.streetmap_reading.specs.Candidates.{dated_row, ShowsOf}
-use Rattle.streetmap_reading.specs.FoldStops.{Stopped}
-
--- a read of the database of a state: the result is as it is in the state, and nothing changes
-abbrev pub ReadsState : {A : Type 0} → (State → A → Type 0) → Seen → Seen → Result A ReadFault
-    → Type 0
-ReadsState Is old new result =
-    (s : State) → old.step_limit ≡ None → Keeps s old.now
-    → MatchResult result (λ a. Is s a × IsUnchanged old new) (Stopped old new)
-
--- a crash leaves of a state's database what it could leave before
-abbrev pub Stays : Seen → Seen → Type 0
-Stays old new = HasCleanDisk new → (s : State) → old.step_limit ≡ None → Keeps s old.now
-    → (trees : Trees) → new.may_leave trees → old.may_leave trees
 
 -- what is kept of a collection
 abbrev pub IsCollectionRow : Text → State → Option Row → Type 0

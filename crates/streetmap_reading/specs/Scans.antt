@@ -9,7 +9,7 @@ use Rattle.sqlite.specs.Order.{Row}
 use Rattle.sqlite.specs.State.{State as Seen, IsUnchanged}
 use Rattle.sqlite.specs.Store.{Ghosts}
 use Rattle.streetmap_reading.specs.Candidates.{ShowsOf}
-use Rattle.streetmap_reading.specs.FoldStops.{Stopped}
+use Rattle.streetmap_rows.specs.TableReads.{Stopped}
 use Rattle.streetmap_rows.specs.declared.fault.ReadFault.{ReadFault}
 use Rattle.streetmap_ledger.specs.Kept.{KeyedBatch, text_bytes}
 use Rattle.streetmap_ledger.specs.KeptView.{keyed_batch, keyed_batches}

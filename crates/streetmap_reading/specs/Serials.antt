@@ -1,10 +1,13 @@
 -- The results of reads by a serial.
-use Rattle.std.specs.Prelude.{◌≡◌, ℕ, ◌-◌, ◌^◌, min, Option, Vec, nat_lt, if◌then◌else◌}
+use Rattle.std.specs.Prelude.{◌≡◌, ℕ, ℤ, pos, Result, ◌-◌, ◌^◌, min, Option, Vec, nat_lt, if◌then◌else◌}
 use Rattle.std.specs.Option.{option_map}
 use Rattle.std.specs.declared.alloc.Global.{Global}
 use Rattle.sqlite.specs.Order.{Row}
+use Rattle.sqlite.specs.State.{State as Seen}
 use Rattle.streetmap_ledger.specs.State.{State}
 use Rattle.streetmap_rows.specs.Rows.{batch_cells}
+use Rattle.streetmap_rows.specs.TableReads.{ReadsState}
+use Rattle.streetmap_rows.specs.declared.fault.ReadFault.{ReadFault}
 use Rattle.streetmap_ledger.specs.Kept.{KeyedBatch, batch_in, AreNext}
 use Rattle.streetmap_ledger.specs.KeptView.{keyed_batch, keyed_batches}
 use Rattle.streetmap_ledger.specs.declared.kept_batch.KeptBatch.{KeptBatch}
@@ -16,6 +19,11 @@ row_of b = batch_cells b.0 b.1
 -- the row of the batch that is kept with a serial, or none
 abbrev pub IsBatchRow : ℕ → State → Option Row → Type 0
 IsBatchRow n s row = row ≡ option_map row_of (batch_in s n)
+
+-- the row of the batch that is kept with a serial, if that is one
+abbrev pub ReadsBatchRow : ℤ → Seen → Seen → Result (Option Row) ReadFault → Type 0
+ReadsBatchRow serial old new result =
+    (n : ℕ) → serial ≡ pos n → ReadsState (IsBatchRow n) old new result
 
 -- the batch that is kept with a serial, or none
 abbrev pub IsBatchOf : ℕ → State → Option KeptBatch → Type 0

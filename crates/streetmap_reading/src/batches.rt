@@ -1,9 +1,7 @@
 //! Reads by a serial.
-ghost use Rattle.std.specs.Prelude.{◌≡◌, ℕ, pos, false};
-ghost use Rattle.sqlite.specs.Held.{state};
-ghost use Rattle.sqlite.specs.State.{HasCleanDisk, Survives};
-ghost use Rattle.streetmap_reading.specs.ReadResults.{ReadsState, Stays};
-ghost use Rattle.streetmap_reading.specs.Serials.{column_serial, most_serial, IsBatchRow};
+ghost use Rattle.std.specs.Prelude.{◌≡◌, pos};
+ghost use Rattle.streetmap_rows.specs.TableReads.{ReadsState, ReadsTables};
+ghost use Rattle.streetmap_reading.specs.Serials.{column_serial, most_serial, ReadsBatchRow};
 ghost use Rattle.streetmap_reading.specs.Serials.{IsBatchOf, AreNextOf};
 
 use crate::batch_cells::batch_in;
@@ -35,11 +33,7 @@ fn most_of(serial: u64) -> i64
 
 /// The row of the batch that is kept with a serial, if any.
 fn batch_row<S: Alter>(conn: &mut Connection<S>, serial: i64) -> Result<Option<Row>, ReadFault>
-    ensures finds { (n : ℕ) → serial ≡ pos n → HasCleanDisk (state S.Store conn.new) →
-        ReadsState (IsBatchRow n) (state S.Store conn.old) (state S.Store conn.new) result }
-    ensures mode { conn.old.in_transaction ≡ false → conn.new.in_transaction ≡ false }
-    ensures survives { Survives (state S.Store conn.old) (state S.Store conn.new) (λ _. Unit {0}) }
-    ensures stays { Stays (state S.Store conn.old) (state S.Store conn.new) }
+    ensures { ReadsTables S.Store (ReadsBatchRow serial) conn.old conn.new result }
 {
     match conn.query_all(
         "SELECT key, body, opened, inserted, replaced, deleted, serial FROM streetmap_batches WHERE serial = ?1",
@@ -62,11 +56,7 @@ pub fn batch_of<S: Alter>(
     conn: &mut Connection<S>,
     serial: u64,
 ) -> Result<Option<KeptBatch>, ReadFault>
-    ensures shows { HasCleanDisk (state S.Store conn.new) →
-        ReadsState (IsBatchOf serial) (state S.Store conn.old) (state S.Store conn.new) result }
-    ensures mode { conn.old.in_transaction ≡ false → conn.new.in_transaction ≡ false }
-    ensures survives { Survives (state S.Store conn.old) (state S.Store conn.new) (λ _. Unit {0}) }
-    ensures stays { Stays (state S.Store conn.old) (state S.Store conn.new) }
+    ensures { ReadsTables S.Store (ReadsState (IsBatchOf serial)) conn.old conn.new result }
 {
     let Some(row) = batch_row(conn, number_of(serial))? else {
         return Ok(None);
@@ -87,11 +77,7 @@ pub fn batches_of<S: Alter>(
     after: u64,
     room: usize,
 ) -> Result<Vec<KeptBatch>, ReadFault>
-    ensures shows { HasCleanDisk (state S.Store conn.new) →
-        ReadsState (AreNextOf after room) (state S.Store conn.old) (state S.Store conn.new) result }
-    ensures mode { conn.old.in_transaction ≡ false → conn.new.in_transaction ≡ false }
-    ensures survives { Survives (state S.Store conn.old) (state S.Store conn.new) (λ _. Unit {0}) }
-    ensures stays { Stays (state S.Store conn.old) (state S.Store conn.new) }
+    ensures { ReadsTables S.Store (ReadsState (AreNextOf after room)) conn.old conn.new result }
 {
     first_batches(
         alloc,

@@ -1,14 +1,12 @@
 //! Extents of collections, folded from the extents of their features.
-ghost use Rattle.std.specs.Prelude.{◌≡◌, List, Option, option_map, ◌++◌, false, MatchResult};
+ghost use Rattle.std.specs.Prelude.{◌≡◌, List, Option, option_map, ◌++◌, MatchResult};
 ghost use Rattle.std.specs.Prelude.{IfErr, IfSome};
-ghost use Rattle.sqlite.specs.Held.{state};
-ghost use Rattle.sqlite.specs.State.{HasCleanDisk, Survives};
 ghost use Rattle.streetmap_grid.specs.Bounds.{AreBounds};
 ghost use Rattle.streetmap_grid.specs.Values.{BoxValue, PositionValue};
 ghost use Rattle.streetmap_grid.specs.Views.{box_value};
 ghost use Rattle.streetmap_grid.specs.WellFormed.{IsBox};
+ghost use Rattle.streetmap_rows.specs.TableReads.{ReadsState, ReadsTables};
 ghost use Rattle.streetmap_reading.specs.FoldEffects.{Refuses};
-ghost use Rattle.streetmap_reading.specs.ReadResults.{ReadsState, Stays};
 ghost use Rattle.streetmap_reading.specs.PassResults.{IsExtentIn, IsExtentIfIn};
 ghost use Rattle.streetmap_reading.specs.Views.{extent_row};
 
@@ -62,12 +60,8 @@ fn extent_by_ids<S: Alter>(
     collection: &str,
     most: u64,
 ) -> Result<Option<Option<GridBox>>, ReadFault>
-    ensures shows { HasCleanDisk (state S.Store conn.new)
-        → ReadsState (IsExtentIfIn collection.now) (state S.Store conn.old) (state S.Store conn.new)
-        result }
-    ensures mode { conn.old.in_transaction ≡ false → conn.new.in_transaction ≡ false }
-    ensures survives { Survives (state S.Store conn.old) (state S.Store conn.new) (λ _. Unit {0}) }
-    ensures stays { Stays (state S.Store conn.old) (state S.Store conn.new) }
+    ensures { ReadsTables S.Store (ReadsState (IsExtentIfIn collection.now))
+        conn.old conn.new result }
 {
     let mut extent = None;
     let all = fold_first(
@@ -88,12 +82,8 @@ fn extent_by_rows<S: Alter>(
     conn: &mut Connection<S>,
     collection: &str,
 ) -> Result<Option<GridBox>, ReadFault>
-    ensures shows { HasCleanDisk (state S.Store conn.new)
-        → ReadsState (IsExtentIn collection.now) (state S.Store conn.old) (state S.Store conn.new)
-        result }
-    ensures mode { conn.old.in_transaction ≡ false → conn.new.in_transaction ≡ false }
-    ensures survives { Survives (state S.Store conn.old) (state S.Store conn.new) (λ _. Unit {0}) }
-    ensures stays { Stays (state S.Store conn.old) (state S.Store conn.new) }
+    ensures { ReadsTables S.Store (ReadsState (IsExtentIn collection.now))
+        conn.old conn.new result }
 {
     let mut extent = None;
     fold_rows(
@@ -111,12 +101,8 @@ pub fn extent_of<S: Alter>(
     conn: &mut Connection<S>,
     collection: &str,
 ) -> Result<Option<GridBox>, ReadFault>
-    ensures shows { HasCleanDisk (state S.Store conn.new)
-        → ReadsState (IsExtentIn collection.now) (state S.Store conn.old) (state S.Store conn.new)
-        result }
-    ensures mode { conn.old.in_transaction ≡ false → conn.new.in_transaction ≡ false }
-    ensures survives { Survives (state S.Store conn.old) (state S.Store conn.new) (λ _. Unit {0}) }
-    ensures stays { Stays (state S.Store conn.old) (state S.Store conn.new) }
+    ensures { ReadsTables S.Store (ReadsState (IsExtentIn collection.now))
+        conn.old conn.new result }
 {
     let most = most_by_ids(conn)?;
     let few = extent_by_ids(conn, collection, most)?;

@@ -1,11 +1,11 @@
 //! One feature, by its collection and its id.
-ghost use Rattle.std.specs.Prelude.{◌≡◌, None, IsTrue, false, string_bytes};
-ghost use Rattle.sqlite.specs.Held.{state};
-ghost use Rattle.sqlite.specs.State.{HasCleanDisk, Survives, CommitsShowing};
+ghost use Rattle.std.specs.Prelude.{◌≡◌, None, IsTrue, string_bytes};
+ghost use Rattle.sqlite.specs.State.{CommitsShowing};
 ghost use Rattle.sqlite.specs.Values.{bound};
 ghost use Rattle.streetmap_geojson.specs.FeatureValue.{FeatureValue};
+ghost use Rattle.streetmap_rows.specs.TableReads.{ReadsState, ReadsTables, Queries};
 ghost use Rattle.streetmap_reading.specs.Candidates.{dated_row};
-ghost use Rattle.streetmap_reading.specs.ReadResults.{ReadsState, Stays, IsTextRow, IsFeatureOf};
+ghost use Rattle.streetmap_reading.specs.ReadResults.{IsTextRow, IsFeatureOf};
 ghost use Rattle.streetmap_reading.specs.ReadResults.{IsOnlyRow, IsTextRowIfFound, IsFeatureIn};
 ghost use Rattle.streetmap_reading.specs.ReadResults.{IsFeatureFound};
 
@@ -25,12 +25,8 @@ fn only_row<S: Alter>(
     sql: &str,
     params: &[ValueRef<'_>],
 ) -> Result<Option<Row>, ReadFault>
-    ensures finds { HasCleanDisk (state S.Store conn.new)
-        → IsOnlyRow sql.now (bound params.now) (state S.Store conn.old) (state S.Store conn.new)
-        result }
-    ensures mode { conn.old.in_transaction ≡ false → conn.new.in_transaction ≡ false }
-    ensures survives { Survives (state S.Store conn.old) (state S.Store conn.new)
-        (CommitsShowing sql.now (bound params.now) (state S.Store conn.old)) }
+    ensures { Queries S.Store (IsOnlyRow sql.now (bound params.now))
+        (CommitsShowing sql.now (bound params.now)) conn.old conn.new result }
 {
     match conn.query_all(sql, params) {
         Ok(mut rows) => Ok(rows.pop()),
@@ -45,12 +41,8 @@ fn text_row<S: Alter>(
     collection: &str,
     id: &str,
 ) -> Result<Option<Row>, ReadFault>
-    ensures finds { HasCleanDisk (state S.Store conn.new)
-        → ReadsState (IsTextRow collection.now id.now) (state S.Store conn.old)
-        (state S.Store conn.new) result }
-    ensures mode { conn.old.in_transaction ≡ false → conn.new.in_transaction ≡ false }
-    ensures survives { Survives (state S.Store conn.old) (state S.Store conn.new) (λ _. Unit {0}) }
-    ensures stays { Stays (state S.Store conn.old) (state S.Store conn.new) }
+    ensures { ReadsTables S.Store (ReadsState (IsTextRow collection.now id.now))
+        conn.old conn.new result }
 {
     only_row(
         conn,
@@ -66,12 +58,8 @@ fn text_row_at<S: Alter>(
     id: &str,
     rowid: i64,
 ) -> Result<Option<Row>, ReadFault>
-    ensures finds { HasCleanDisk (state S.Store conn.new)
-        → ReadsState (IsTextRowIfFound collection.now id.now) (state S.Store conn.old)
-        (state S.Store conn.new) result }
-    ensures mode { conn.old.in_transaction ≡ false → conn.new.in_transaction ≡ false }
-    ensures survives { Survives (state S.Store conn.old) (state S.Store conn.new) (λ _. Unit {0}) }
-    ensures stays { Stays (state S.Store conn.old) (state S.Store conn.new) }
+    ensures { ReadsTables S.Store (ReadsState (IsTextRowIfFound collection.now id.now))
+        conn.old conn.new result }
 {
     only_row(
         conn,
@@ -87,12 +75,9 @@ fn outlined_row<S: Alter>(
     collection: &str,
     outline: &FeatureOutline,
 ) -> Result<Option<Row>, ReadFault>
-    ensures finds { HasCleanDisk (state S.Store conn.new)
-        → ReadsState (IsTextRow collection.now (string_bytes outline.now.id))
-        (state S.Store conn.old) (state S.Store conn.new) result }
-    ensures mode { conn.old.in_transaction ≡ false → conn.new.in_transaction ≡ false }
-    ensures survives { Survives (state S.Store conn.old) (state S.Store conn.new) (λ _. Unit {0}) }
-    ensures stays { Stays (state S.Store conn.old) (state S.Store conn.new) }
+    ensures { ReadsTables S.Store
+        (ReadsState (IsTextRow collection.now (string_bytes outline.now.id)))
+        conn.old conn.new result }
 {
     let id = outline.id.as_str();
     let Some(rowid) = outline.rowid else {
@@ -119,12 +104,7 @@ fn timed_feature<S: Alter>(
     collection: &str,
     row: &Row,
 ) -> Result<Feature, ReadFault>
-    ensures shows { HasCleanDisk (state S.Store conn.new)
-        → IsFeatureIn collection.now row.now (state S.Store conn.old) (state S.Store conn.new)
-        result }
-    ensures mode { conn.old.in_transaction ≡ false → conn.new.in_transaction ≡ false }
-    ensures survives { Survives (state S.Store conn.old) (state S.Store conn.new) (λ _. Unit {0}) }
-    ensures stays { Stays (state S.Store conn.old) (state S.Store conn.new) }
+    ensures { ReadsTables S.Store (IsFeatureIn collection.now row.now) conn.old conn.new result }
 {
     let Some(head) = collection_row(conn, collection)? else {
         return Err(ReadFault::Unread);
@@ -142,12 +122,7 @@ fn feature_in<S: Alter>(
     collection: &str,
     row: &Row,
 ) -> Result<Feature, ReadFault>
-    ensures shows { HasCleanDisk (state S.Store conn.new)
-        → IsFeatureIn collection.now row.now (state S.Store conn.old) (state S.Store conn.new)
-        result }
-    ensures mode { conn.old.in_transaction ≡ false → conn.new.in_transaction ≡ false }
-    ensures survives { Survives (state S.Store conn.old) (state S.Store conn.new) (λ _. Unit {0}) }
-    ensures stays { Stays (state S.Store conn.old) (state S.Store conn.new) }
+    ensures { ReadsTables S.Store (IsFeatureIn collection.now row.now) conn.old conn.new result }
 {
     if is_timeless(row) {
         read_row(alloc, scratch, row, None)
@@ -164,12 +139,7 @@ fn found_feature<S: Alter>(
     collection: &str,
     found: Option<Row>,
 ) -> Result<Option<Feature>, ReadFault>
-    ensures shows { HasCleanDisk (state S.Store conn.new)
-        → IsFeatureFound collection.now found (state S.Store conn.old) (state S.Store conn.new)
-        result }
-    ensures mode { conn.old.in_transaction ≡ false → conn.new.in_transaction ≡ false }
-    ensures survives { Survives (state S.Store conn.old) (state S.Store conn.new) (λ _. Unit {0}) }
-    ensures stays { Stays (state S.Store conn.old) (state S.Store conn.new) }
+    ensures { ReadsTables S.Store (IsFeatureFound collection.now found) conn.old conn.new result }
 {
     let Some(row) = found else {
         return Ok(None);
@@ -190,12 +160,8 @@ pub fn feature_of<S: Alter>(
     collection: &str,
     id: &str,
 ) -> Result<Option<Feature>, ReadFault>
-    ensures shows { HasCleanDisk (state S.Store conn.new)
-        → ReadsState (IsFeatureOf collection.now id.now) (state S.Store conn.old)
-        (state S.Store conn.new) result }
-    ensures mode { conn.old.in_transaction ≡ false → conn.new.in_transaction ≡ false }
-    ensures survives { Survives (state S.Store conn.old) (state S.Store conn.new) (λ _. Unit {0}) }
-    ensures stays { Stays (state S.Store conn.old) (state S.Store conn.new) }
+    ensures { ReadsTables S.Store (ReadsState (IsFeatureOf collection.now id.now))
+        conn.old conn.new result }
 {
     let found = text_row(conn, collection, id)?;
     found_feature(alloc, scratch, conn, collection, found)
@@ -215,12 +181,9 @@ pub fn feature_outlined_of<S: Alter>(
     collection: &str,
     outline: &FeatureOutline,
 ) -> Result<Option<Feature>, ReadFault>
-    ensures shows { HasCleanDisk (state S.Store conn.new)
-        → ReadsState (IsFeatureOf collection.now (string_bytes outline.now.id))
-        (state S.Store conn.old) (state S.Store conn.new) result }
-    ensures mode { conn.old.in_transaction ≡ false → conn.new.in_transaction ≡ false }
-    ensures survives { Survives (state S.Store conn.old) (state S.Store conn.new) (λ _. Unit {0}) }
-    ensures stays { Stays (state S.Store conn.old) (state S.Store conn.new) }
+    ensures { ReadsTables S.Store
+        (ReadsState (IsFeatureOf collection.now (string_bytes outline.now.id)))
+        conn.old conn.new result }
 {
     let found = outlined_row(conn, collection, outline)?;
     found_feature(alloc, scratch, conn, collection, found)

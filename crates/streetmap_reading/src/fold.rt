@@ -4,6 +4,7 @@ ghost use Rattle.sqlite.specs.Held.{state};
 ghost use Rattle.sqlite.specs.Order.{Row as Cells};
 ghost use Rattle.sqlite.specs.State.{HasCleanDisk, Survives, CommitsShowing};
 ghost use Rattle.sqlite.specs.Values.{bound};
+ghost use Rattle.streetmap_rows.specs.TableReads.{Queries};
 ghost use Rattle.streetmap_reading.specs.FoldEffects.{TakesRow, TakesNext, TakesFirst};
 ghost use Rattle.streetmap_reading.specs.FoldEffects.{TakesSome, TakesAll};
 
@@ -84,12 +85,9 @@ pub fn fold_first<S: Alter, F: RowFold>(
     fold: &mut F,
     most: u64,
 ) -> Result<bool, ReadFault>
-    ensures takes { HasCleanDisk (state S.Store conn.new)
-        → TakesSome F.holds F.is_good sql.now (bound params.now) (state S.Store conn.old)
-        (state S.Store conn.new) fold.old fold.new result }
-    ensures mode { conn.old.in_transaction ≡ false → conn.new.in_transaction ≡ false }
-    ensures survives { Survives (state S.Store conn.old) (state S.Store conn.new)
-        (CommitsShowing sql.now (bound params.now) (state S.Store conn.old)) }
+    ensures { Queries S.Store
+        (TakesSome F.holds F.is_good sql.now (bound params.now) fold.old fold.new)
+        (CommitsShowing sql.now (bound params.now)) conn.old conn.new result }
 {
     match conn.query(sql, params) {
         Ok(mut rows) => take_first(&mut rows, fold, most),
@@ -109,12 +107,9 @@ pub fn fold_rows<S: Alter, F: RowFold>(
     params: &[ValueRef<'_>],
     fold: &mut F,
 ) -> Result<(), ReadFault>
-    ensures takes { HasCleanDisk (state S.Store conn.new)
-        → TakesAll F.holds F.is_good sql.now (bound params.now) (state S.Store conn.old)
-        (state S.Store conn.new) fold.old fold.new result }
-    ensures mode { conn.old.in_transaction ≡ false → conn.new.in_transaction ≡ false }
-    ensures survives { Survives (state S.Store conn.old) (state S.Store conn.new)
-        (CommitsShowing sql.now (bound params.now) (state S.Store conn.old)) }
+    ensures { Queries S.Store
+        (TakesAll F.holds F.is_good sql.now (bound params.now) fold.old fold.new)
+        (CommitsShowing sql.now (bound params.now)) conn.old conn.new result }
 {
     let all = fold_first(conn, sql, params, fold, u64::MAX)?;
     if !all {

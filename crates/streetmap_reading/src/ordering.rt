@@ -1,12 +1,9 @@
 //! The order in which the rows of a whole collection are read.
-ghost use Rattle.std.specs.Prelude.{◌≡◌, false};
-ghost use Rattle.sqlite.specs.Held.{state};
-ghost use Rattle.sqlite.specs.State.{HasCleanDisk, Survives};
-ghost use Rattle.streetmap_reading.specs.ReadResults.{ReadsState, Stays};
+ghost use Rattle.streetmap_rows.specs.TableReads.{ReadsState, ReadsTables};
 
 use crate::fold::{RowFold, fold_first};
 use sqlite::{Alter, Connection, Row, params};
-use streetmap_rows::ReadFault;
+use streetmap_rows::{ReadFault, SELECT_COLLECTIONS};
 
 /// The most rows of a collection that are read in order of ids, in a file of few collections.
 const MOST_BY_IDS: u64 = 32_768;
@@ -33,15 +30,11 @@ impl RowFold for Passing {
 /// table, which takes several times as long as the step to the next one. But if a file has many
 /// collections, a pass over all rows for each of them would take longer.
 pub fn most_by_ids<S: Alter>(conn: &mut Connection<S>) -> Result<u64, ReadFault>
-    ensures shows { HasCleanDisk (state S.Store conn.new)
-        → ReadsState (λ _ _. Unit {0}) (state S.Store conn.old) (state S.Store conn.new) result }
-    ensures mode { conn.old.in_transaction ≡ false → conn.new.in_transaction ≡ false }
-    ensures survives { Survives (state S.Store conn.old) (state S.Store conn.new) (λ _. Unit {0}) }
-    ensures stays { Stays (state S.Store conn.old) (state S.Store conn.new) }
+    ensures { ReadsTables S.Store (ReadsState (λ _ _. Unit {0})) conn.old conn.new result }
 {
     let few = fold_first(
         conn,
-        "SELECT id, title, time FROM streetmap_collections ORDER BY id",
+        SELECT_COLLECTIONS,
         params![],
         &mut Passing,
         FEW_COLLECTIONS + 1,

@@ -1,9 +1,7 @@
 //! Outlines of the features of a collection.
-ghost use Rattle.std.specs.Prelude.{◌≡◌, Some, false, IfErr, MatchResult};
-ghost use Rattle.sqlite.specs.Held.{state};
-ghost use Rattle.sqlite.specs.State.{HasCleanDisk, Survives};
+ghost use Rattle.std.specs.Prelude.{◌≡◌, Some, IfErr, MatchResult};
 ghost use Rattle.streetmap_ledger.specs.OutlineView.{feature_outline_value};
-ghost use Rattle.streetmap_reading.specs.ReadResults.{ReadsState, Stays};
+ghost use Rattle.streetmap_rows.specs.TableReads.{ReadsState, ReadsTables};
 ghost use Rattle.streetmap_reading.specs.FoldEffects.{IsForMemory, Refuses};
 ghost use Rattle.streetmap_reading.specs.PassResults.{AreOutlinesOf, AreOutlinesIn};
 ghost use Rattle.streetmap_reading.specs.PassResults.{AreOutlinesIfIn, comes_before};
@@ -62,12 +60,8 @@ fn outlines_by_ids<S: Alter>(
     collection: &str,
     most: u64,
 ) -> Result<Option<Vec<FeatureOutline>>, ReadFault>
-    ensures shows { HasCleanDisk (state S.Store conn.new)
-        → ReadsState (AreOutlinesIfIn collection.now) (state S.Store conn.old)
-        (state S.Store conn.new) result }
-    ensures mode { conn.old.in_transaction ≡ false → conn.new.in_transaction ≡ false }
-    ensures survives { Survives (state S.Store conn.old) (state S.Store conn.new) (λ _. Unit {0}) }
-    ensures stays { Stays (state S.Store conn.old) (state S.Store conn.new) }
+    ensures { ReadsTables S.Store (ReadsState (AreOutlinesIfIn collection.now))
+        conn.old conn.new result }
 {
     let mut outlines = Vec::new(alloc);
     let all = fold_first(
@@ -98,13 +92,8 @@ fn outlines_by_rows<S: Alter>(
     conn: &mut Connection<S>,
     collection: &str,
 ) -> Result<Vec<FeatureOutline>, ReadFault>
-    ensures shows { HasCleanDisk (state S.Store conn.new)
-        → ReadsState (AreOutlinesIn collection.now) (state S.Store conn.old) (state S.Store
-        conn.new)
-        result }
-    ensures mode { conn.old.in_transaction ≡ false → conn.new.in_transaction ≡ false }
-    ensures survives { Survives (state S.Store conn.old) (state S.Store conn.new) (λ _. Unit {0}) }
-    ensures stays { Stays (state S.Store conn.old) (state S.Store conn.new) }
+    ensures { ReadsTables S.Store (ReadsState (AreOutlinesIn collection.now))
+        conn.old conn.new result }
 {
     let mut outlines = Vec::new(alloc);
     fold_rows(
@@ -123,13 +112,8 @@ fn outlines_in<S: Alter>(
     conn: &mut Connection<S>,
     collection: &str,
 ) -> Result<Vec<FeatureOutline>, ReadFault>
-    ensures shows { HasCleanDisk (state S.Store conn.new)
-        → ReadsState (AreOutlinesIn collection.now) (state S.Store conn.old) (state S.Store
-        conn.new)
-        result }
-    ensures mode { conn.old.in_transaction ≡ false → conn.new.in_transaction ≡ false }
-    ensures survives { Survives (state S.Store conn.old) (state S.Store conn.new) (λ _. Unit {0}) }
-    ensures stays { Stays (state S.Store conn.old) (state S.Store conn.new) }
+    ensures { ReadsTables S.Store (ReadsState (AreOutlinesIn collection.now))
+        conn.old conn.new result }
 {
     let most = most_by_ids(conn)?;
     let few = outlines_by_ids(alloc, conn, collection, most)?;
@@ -150,13 +134,8 @@ pub fn outlines_of<S: Alter>(
     conn: &mut Connection<S>,
     collection: &str,
 ) -> Result<Option<Vec<FeatureOutline>>, ReadFault>
-    ensures shows { HasCleanDisk (state S.Store conn.new)
-        → ReadsState (AreOutlinesOf collection.now) (state S.Store conn.old) (state S.Store
-        conn.new)
-        result }
-    ensures mode { conn.old.in_transaction ≡ false → conn.new.in_transaction ≡ false }
-    ensures survives { Survives (state S.Store conn.old) (state S.Store conn.new) (λ _. Unit {0}) }
-    ensures stays { Stays (state S.Store conn.old) (state S.Store conn.new) }
+    ensures { ReadsTables S.Store (ReadsState (AreOutlinesOf collection.now))
+        conn.old conn.new result }
 {
     let Some(_row) = collection_row(conn, collection)? else {
         return Ok(None);

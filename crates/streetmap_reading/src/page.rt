@@ -1,16 +1,15 @@
 //! Pages, through the stored extents and seconds.
-ghost use Rattle.std.specs.Prelude.{◌≡◌, Option, None, Some, Ok, false};
+ghost use Rattle.std.specs.Prelude.{◌≡◌, Option, None, Some, Ok};
 ghost use Rattle.std.specs.Prelude.{MatchResult, option_map, string_bytes};
 ghost use Rattle.std.specs.Option.{option_copied};
-ghost use Rattle.sqlite.specs.Held.{state};
-ghost use Rattle.sqlite.specs.State.{HasCleanDisk, Survives};
 ghost use Rattle.streetmap_grid.specs.Views.{box_value};
 ghost use Rattle.streetmap_moment.specs.Views.{interval_value};
 ghost use Rattle.streetmap_query.specs.Views.{query_value};
 ghost use Rattle.streetmap_ledger.specs.State.{Collection};
 ghost use Rattle.streetmap_rows.specs.Representations.{HasTextNames};
+ghost use Rattle.streetmap_rows.specs.TableReads.{ReadsState, ReadsTables};
 ghost use Rattle.streetmap_reading.specs.Choices.{TakesChosen, chosen_of, candidates_of};
-ghost use Rattle.streetmap_reading.specs.ReadResults.{ReadsState, Stays, IsCollectionRow, IsPageOf};
+ghost use Rattle.streetmap_reading.specs.ReadResults.{IsCollectionRow, IsPageOf};
 ghost use Rattle.streetmap_reading.specs.ReadResults.{IsPageUnder};
 ghost use Rattle.streetmap_rows.specs.Views.{collection_view};
 
@@ -23,7 +22,7 @@ use streetmap_grid::GridBox;
 use streetmap_ledger::{Page, PageFold};
 use streetmap_moment::Interval;
 use streetmap_query::Query;
-use streetmap_rows::{ReadFault, time_in, unread};
+use streetmap_rows::{ReadFault, SELECT_COLLECTION, time_in, unread};
 
 /// Takes all features of a collection.
 fn take_all<S: Alter>(
@@ -31,12 +30,9 @@ fn take_all<S: Alter>(
     collection: &str,
     page: &mut PageRows<'_>,
 ) -> Result<(), ReadFault>
-    ensures takes { HasCleanDisk (state S.Store conn.new)
-        → TakesChosen (chosen_of None None) collection.now (state S.Store conn.old)
-        (state S.Store conn.new) page.old page.new result }
-    ensures mode { conn.old.in_transaction ≡ false → conn.new.in_transaction ≡ false }
-    ensures survives { Survives (state S.Store conn.old) (state S.Store conn.new) (λ _. Unit {0}) }
-    ensures stays { Stays (state S.Store conn.old) (state S.Store conn.new) }
+    ensures { ReadsTables S.Store
+        (TakesChosen (chosen_of None None) collection.now page.old page.new)
+        conn.old conn.new result }
 {
     fold_rows(
         conn,
@@ -53,12 +49,9 @@ fn take_in_box<S: Alter>(
     area: &GridBox,
     page: &mut PageRows<'_>,
 ) -> Result<(), ReadFault>
-    ensures takes { HasCleanDisk (state S.Store conn.new)
-        → TakesChosen (chosen_of (Some (box_value area.now)) None) collection.now
-        (state S.Store conn.old) (state S.Store conn.new) page.old page.new result }
-    ensures mode { conn.old.in_transaction ≡ false → conn.new.in_transaction ≡ false }
-    ensures survives { Survives (state S.Store conn.old) (state S.Store conn.new) (λ _. Unit {0}) }
-    ensures stays { Stays (state S.Store conn.old) (state S.Store conn.new) }
+    ensures { ReadsTables S.Store
+        (TakesChosen (chosen_of (Some (box_value area.now)) None) collection.now page.old page.new)
+        conn.old conn.new result }
 {
     fold_rows(
         conn,
@@ -75,12 +68,8 @@ fn take_in_time<S: Alter>(
     interval: &Interval,
     page: &mut PageRows<'_>,
 ) -> Result<(), ReadFault>
-    ensures takes { HasCleanDisk (state S.Store conn.new)
-        → TakesChosen (chosen_of None (Some (interval_value interval.now))) collection.now
-        (state S.Store conn.old) (state S.Store conn.new) page.old page.new result }
-    ensures mode { conn.old.in_transaction ≡ false → conn.new.in_transaction ≡ false }
-    ensures survives { Survives (state S.Store conn.old) (state S.Store conn.new) (λ _. Unit {0}) }
-    ensures stays { Stays (state S.Store conn.old) (state S.Store conn.new) }
+    ensures { ReadsTables S.Store (TakesChosen (chosen_of None (Some (interval_value interval.now)))
+        collection.now page.old page.new) conn.old conn.new result }
 {
     let (start, end) = interval.seconds();
     fold_rows(
@@ -100,12 +89,9 @@ fn take_in_both<S: Alter>(
     interval: &Interval,
     page: &mut PageRows<'_>,
 ) -> Result<(), ReadFault>
-    ensures takes { HasCleanDisk (state S.Store conn.new)
-        → TakesChosen (chosen_of (Some (box_value area.now)) (Some (interval_value interval.now)))
-        collection.now (state S.Store conn.old) (state S.Store conn.new) page.old page.new result }
-    ensures mode { conn.old.in_transaction ≡ false → conn.new.in_transaction ≡ false }
-    ensures survives { Survives (state S.Store conn.old) (state S.Store conn.new) (λ _. Unit {0}) }
-    ensures stays { Stays (state S.Store conn.old) (state S.Store conn.new) }
+    ensures { ReadsTables S.Store (TakesChosen
+        (chosen_of (Some (box_value area.now)) (Some (interval_value interval.now))) collection.now
+        page.old page.new) conn.old conn.new result }
 {
     let (start, end) = interval.seconds();
     fold_rows(
@@ -123,12 +109,9 @@ fn take_candidates<S: Alter>(
     query: &Query,
     page: &mut PageRows<'_>,
 ) -> Result<(), ReadFault>
-    ensures takes { HasCleanDisk (state S.Store conn.new)
-        → TakesChosen (candidates_of (query_value query.now)) collection.now
-        (state S.Store conn.old) (state S.Store conn.new) page.old page.new result }
-    ensures mode { conn.old.in_transaction ≡ false → conn.new.in_transaction ≡ false }
-    ensures survives { Survives (state S.Store conn.old) (state S.Store conn.new) (λ _. Unit {0}) }
-    ensures stays { Stays (state S.Store conn.old) (state S.Store conn.new) }
+    ensures { ReadsTables S.Store
+        (TakesChosen (candidates_of (query_value query.now)) collection.now page.old page.new)
+        conn.old conn.new result }
 {
     match &query.bbox {
         None => match &query.datetime {
@@ -147,17 +130,9 @@ pub fn collection_row<S: Alter>(
     conn: &mut Connection<S>,
     id: &str,
 ) -> Result<Option<Row>, ReadFault>
-    ensures finds { HasCleanDisk (state S.Store conn.new)
-        → ReadsState (IsCollectionRow id.now) (state S.Store conn.old) (state S.Store conn.new)
-        result }
-    ensures mode { conn.old.in_transaction ≡ false → conn.new.in_transaction ≡ false }
-    ensures survives { Survives (state S.Store conn.old) (state S.Store conn.new) (λ _. Unit {0}) }
-    ensures stays { Stays (state S.Store conn.old) (state S.Store conn.new) }
+    ensures { ReadsTables S.Store (ReadsState (IsCollectionRow id.now)) conn.old conn.new result }
 {
-    match conn.query_all(
-        "SELECT title, time FROM streetmap_collections WHERE id = ?1",
-        params![id],
-    ) {
+    match conn.query_all(SELECT_COLLECTION, params![id]) {
         Ok(mut rows) => Ok(rows.pop()),
         Err(error) => Err(ReadFault::Store(error)),
     }
@@ -183,12 +158,9 @@ fn page_under<S: Alter>(
     query: &Query,
     property: Option<&str>,
 ) -> Result<Page, ReadFault>
-    ensures shows { HasCleanDisk (state S.Store conn.new)
-        → IsPageUnder collection.now (query_value query.now) (option_copied property.entry)
-        (state S.Store conn.old) (state S.Store conn.new) result }
-    ensures mode { conn.old.in_transaction ≡ false → conn.new.in_transaction ≡ false }
-    ensures survives { Survives (state S.Store conn.old) (state S.Store conn.new) (λ _. Unit {0}) }
-    ensures stays { Stays (state S.Store conn.old) (state S.Store conn.new) }
+    ensures { ReadsTables S.Store
+        (IsPageUnder collection.now (query_value query.now) (option_copied property.entry))
+        conn.old conn.new result }
 {
     let fold = PageFold::new(alloc, query);
     let mut page = PageRows {
@@ -217,12 +189,8 @@ pub fn page_of<S: Alter>(
     collection: &str,
     query: &Query,
 ) -> Result<Option<Page>, ReadFault>
-    ensures shows { HasCleanDisk (state S.Store conn.new)
-        → ReadsState (IsPageOf collection.now (query_value query.now)) (state S.Store conn.old)
-        (state S.Store conn.new) result }
-    ensures mode { conn.old.in_transaction ≡ false → conn.new.in_transaction ≡ false }
-    ensures survives { Survives (state S.Store conn.old) (state S.Store conn.new) (λ _. Unit {0}) }
-    ensures stays { Stays (state S.Store conn.old) (state S.Store conn.new) }
+    ensures { ReadsTables S.Store (ReadsState (IsPageOf collection.now (query_value query.now)))
+        conn.old conn.new result }
 {
     let Some(row) = collection_row(conn, collection)? else {
         return Ok(None);

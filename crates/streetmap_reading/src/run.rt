@@ -1,10 +1,8 @@
 //! Runs: the features of a collection whose ids lie between two.
-ghost use Rattle.std.specs.Prelude.{◌≡◌, false};
 ghost use Rattle.std.specs.Option.{option_copied};
-ghost use Rattle.sqlite.specs.Held.{state};
-ghost use Rattle.sqlite.specs.State.{HasCleanDisk, Survives};
 ghost use Rattle.streetmap_ledger.specs.Keep.{IsRunOf};
-ghost use Rattle.streetmap_reading.specs.ReadResults.{ReadsState, Stays, IsRunUnder};
+ghost use Rattle.streetmap_rows.specs.TableReads.{ReadsState, ReadsTables};
+ghost use Rattle.streetmap_reading.specs.ReadResults.{IsRunUnder};
 
 use crate::candidates::read_row;
 use crate::fold::{RowFold, fold_rows};
@@ -50,12 +48,9 @@ fn run_under<S: Alter>(
     last: &str,
     property: Option<&str>,
 ) -> Result<Vec<Feature>, ReadFault>
-    ensures shows { HasCleanDisk (state S.Store conn.new)
-        → IsRunUnder collection.now first.now last.now (option_copied property.entry)
-        (state S.Store conn.old) (state S.Store conn.new) result }
-    ensures mode { conn.old.in_transaction ≡ false → conn.new.in_transaction ≡ false }
-    ensures survives { Survives (state S.Store conn.old) (state S.Store conn.new) (λ _. Unit {0}) }
-    ensures stays { Stays (state S.Store conn.old) (state S.Store conn.new) }
+    ensures { ReadsTables S.Store
+        (IsRunUnder collection.now first.now last.now (option_copied property.entry))
+        conn.old conn.new result }
 {
     let features = Vec::new(alloc);
     let mut run = FeatureRows {
@@ -86,12 +81,8 @@ pub fn run_of<S: Alter>(
     first: &str,
     last: &str,
 ) -> Result<Option<Vec<Feature>>, ReadFault>
-    ensures shows { HasCleanDisk (state S.Store conn.new)
-        → ReadsState (IsRunOf collection.now first.now last.now) (state S.Store conn.old)
-        (state S.Store conn.new) result }
-    ensures mode { conn.old.in_transaction ≡ false → conn.new.in_transaction ≡ false }
-    ensures survives { Survives (state S.Store conn.old) (state S.Store conn.new) (λ _. Unit {0}) }
-    ensures stays { Stays (state S.Store conn.old) (state S.Store conn.new) }
+    ensures { ReadsTables S.Store (ReadsState (IsRunOf collection.now first.now last.now))
+        conn.old conn.new result }
 {
     let Some(row) = collection_row(conn, collection)? else {
         return Ok(None);

@@ -3,6 +3,7 @@ ghost use Rattle.std.specs.Prelude.{◌≡◌, false};
 ghost use Rattle.sqlite.specs.Held.{state};
 ghost use Rattle.sqlite.specs.State.{HasCleanDisk, Survives, CommitsShowing};
 ghost use Rattle.sqlite.specs.Values.{bound};
+ghost use Rattle.streetmap_rows.specs.TableReads.{Queries};
 ghost use Rattle.streetmap_reading.specs.Scans.{TakesBatch, TakesBatches, TakesFirst};
 
 use crate::batch_cells::batch_in;
@@ -75,12 +76,8 @@ pub fn first_batches<S: Alter>(
     params: &[ValueRef<'_>],
     room: usize,
 ) -> Result<Vec<KeptBatch>, ReadFault>
-    ensures takes { HasCleanDisk (state S.Store conn.new) →
-        TakesFirst room sql.now (bound params.now) (state S.Store conn.old)
-        (state S.Store conn.new) result }
-    ensures mode { conn.old.in_transaction ≡ false → conn.new.in_transaction ≡ false }
-    ensures survives { Survives (state S.Store conn.old) (state S.Store conn.new)
-        (CommitsShowing sql.now (bound params.now) (state S.Store conn.old)) }
+    ensures { Queries S.Store (TakesFirst room sql.now (bound params.now))
+        (CommitsShowing sql.now (bound params.now)) conn.old conn.new result }
 {
     match conn.query(sql, params) {
         Ok(mut rows) => next_batches(alloc, &mut rows, room),

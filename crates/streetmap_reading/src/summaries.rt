@@ -1,14 +1,12 @@
 //! Summaries of collections.
-ghost use Rattle.std.specs.Prelude.{◌≡◌, false, IfErr, MatchResult};
-ghost use Rattle.sqlite.specs.Held.{state};
-ghost use Rattle.sqlite.specs.State.{HasCleanDisk, Survives};
+ghost use Rattle.std.specs.Prelude.{◌≡◌, IfErr, MatchResult};
 ghost use Rattle.streetmap_batch.specs.Text.{Text};
 ghost use Rattle.streetmap_ledger.specs.State.{Collection};
 ghost use Rattle.streetmap_ledger.specs.SummaryView.{summary_value};
-ghost use Rattle.streetmap_reading.specs.ReadResults.{ReadsState, Stays};
 ghost use Rattle.streetmap_rows.specs.Rows.{collection_cells};
 ghost use Rattle.streetmap_rows.specs.Representations.{HasTextNames};
 ghost use Rattle.streetmap_rows.specs.Views.{collection_view};
+ghost use Rattle.streetmap_rows.specs.TableReads.{ReadsState, ReadsTables};
 ghost use Rattle.streetmap_reading.specs.FoldEffects.{IsForMemory, Refuses};
 ghost use Rattle.streetmap_reading.specs.Held.{head_of};
 ghost use Rattle.streetmap_reading.specs.PassResults.{IsSummaryOf, AreSummaries, AreHeads};
@@ -22,7 +20,7 @@ use crate::page::collection_row;
 use sqlite::{Alter, Connection, Row, params};
 use std::alloc::Global;
 use streetmap_ledger::Summary;
-use streetmap_rows::ReadFault;
+use streetmap_rows::{ReadFault, SELECT_COLLECTIONS};
 
 /// The summary of a collection before its extent is known, from its row without its id.
 fn head_under(alloc: Global, id: &str, row: &Row) -> Result<Summary, ReadFault>
@@ -76,11 +74,7 @@ impl RowFold for Vec<Summary> {
 
 /// The summary of a collection, with its extent.
 fn with_extent<S: Alter>(conn: &mut Connection<S>, head: Summary) -> Result<Summary, ReadFault>
-    ensures shows { HasCleanDisk (state S.Store conn.new)
-        → ReadsState (CompletesHead head) (state S.Store conn.old) (state S.Store conn.new) result }
-    ensures mode { conn.old.in_transaction ≡ false → conn.new.in_transaction ≡ false }
-    ensures survives { Survives (state S.Store conn.old) (state S.Store conn.new) (λ _. Unit {0}) }
-    ensures stays { Stays (state S.Store conn.old) (state S.Store conn.new) }
+    ensures { ReadsTables S.Store (ReadsState (CompletesHead head)) conn.old conn.new result }
 {
     let extent = extent_of(conn, head.id.as_str())?;
     Ok(Summary { extent, ..head })
@@ -98,11 +92,7 @@ pub fn summary_of<S: Alter>(
     conn: &mut Connection<S>,
     id: &str,
 ) -> Result<Option<Summary>, ReadFault>
-    ensures shows { HasCleanDisk (state S.Store conn.new)
-        → ReadsState (IsSummaryOf id.now) (state S.Store conn.old) (state S.Store conn.new) result }
-    ensures mode { conn.old.in_transaction ≡ false → conn.new.in_transaction ≡ false }
-    ensures survives { Survives (state S.Store conn.old) (state S.Store conn.new) (λ _. Unit {0}) }
-    ensures stays { Stays (state S.Store conn.old) (state S.Store conn.new) }
+    ensures { ReadsTables S.Store (ReadsState (IsSummaryOf id.now)) conn.old conn.new result }
 {
     let Some(row) = collection_row(conn, id)? else {
         return Ok(None);
@@ -114,19 +104,10 @@ pub fn summary_of<S: Alter>(
 
 /// The summaries of all collections before their extents are known, in byte order of ids.
 fn heads<S: Alter>(alloc: Global, conn: &mut Connection<S>) -> Result<Vec<Summary>, ReadFault>
-    ensures shows { HasCleanDisk (state S.Store conn.new)
-        → ReadsState AreHeads (state S.Store conn.old) (state S.Store conn.new) result }
-    ensures mode { conn.old.in_transaction ≡ false → conn.new.in_transaction ≡ false }
-    ensures survives { Survives (state S.Store conn.old) (state S.Store conn.new) (λ _. Unit {0}) }
-    ensures stays { Stays (state S.Store conn.old) (state S.Store conn.new) }
+    ensures { ReadsTables S.Store (ReadsState AreHeads) conn.old conn.new result }
 {
     let mut heads = Vec::new(alloc);
-    fold_rows(
-        conn,
-        "SELECT id, title, time FROM streetmap_collections ORDER BY id",
-        params![],
-        &mut heads,
-    )?;
+    fold_rows(conn, SELECT_COLLECTIONS, params![], &mut heads)?;
     Ok(heads)
 }
 
@@ -136,11 +117,7 @@ fn with_extents<S: Alter>(
     conn: &mut Connection<S>,
     heads: Vec<Summary>,
 ) -> Result<Vec<Summary>, ReadFault>
-    ensures shows { HasCleanDisk (state S.Store conn.new)
-        → ReportsCollections heads (state S.Store conn.old) (state S.Store conn.new) result }
-    ensures mode { conn.old.in_transaction ≡ false → conn.new.in_transaction ≡ false }
-    ensures survives { Survives (state S.Store conn.old) (state S.Store conn.new) (λ _. Unit {0}) }
-    ensures stays { Stays (state S.Store conn.old) (state S.Store conn.new) }
+    ensures { ReadsTables S.Store (ReportsCollections heads) conn.old conn.new result }
 {
     let mut summaries = Vec::new(alloc);
     for head in heads {
@@ -159,11 +136,7 @@ pub fn summaries_of<S: Alter>(
     alloc: Global,
     conn: &mut Connection<S>,
 ) -> Result<Vec<Summary>, ReadFault>
-    ensures shows { HasCleanDisk (state S.Store conn.new)
-        → ReadsState AreSummaries (state S.Store conn.old) (state S.Store conn.new) result }
-    ensures mode { conn.old.in_transaction ≡ false → conn.new.in_transaction ≡ false }
-    ensures survives { Survives (state S.Store conn.old) (state S.Store conn.new) (λ _. Unit {0}) }
-    ensures stays { Stays (state S.Store conn.old) (state S.Store conn.new) }
+    ensures { ReadsTables S.Store (ReadsState AreSummaries) conn.old conn.new result }
 {
     let heads = heads(alloc, conn)?;
     with_extents(alloc, conn, heads)

@@ -1,4 +1,8 @@
+pub mod CallsInside
+pub mod QueriesInside
+pub mod ReadsInTurn
 pub mod RowPut
+pub mod SameDatabase
 pub mod ResultCases
 pub mod BoundParameters
 pub mod ColumnCasts
@@ -34,6 +38,7 @@ pub mod FixedRefused
 pub mod Resolving
 pub mod InsertRuns
 pub mod Schemas
+pub mod StatementsInside
 pub mod EndsByCause
 pub mod DiskUntouched
 pub mod ReadFails

@@ -11,5 +11,7 @@ pub mod Shapes
 pub mod Representations
 pub mod Statements
 pub mod Stored
+pub mod TableReads
 pub mod Tables
+pub mod TransactionCalls
 pub mod Views

@@ -1,11 +1,9 @@
 //! Rows of several features, inserted by one statement, inside a transaction.
-ghost use Rattle.std.specs.Prelude.{◌≡◌, ◌++◌, IfErr, IfOk, OnOk, List, IsTrue, length};
-ghost use Rattle.sqlite.specs.Held.{state};
-ghost use Rattle.sqlite.specs.State.{HasCleanDisk, KeepsCommit, Survives};
+ghost use Rattle.std.specs.Prelude.{◌≡◌, ◌++◌, IfOk, OnOk, length};
 ghost use Rattle.sqlite.specs.Values.{bound};
 ghost use Rattle.streetmap_rows.specs.Failures.{HasReason};
-ghost use Rattle.streetmap_rows.specs.FeatureRows.{Entry, AreRowsOf, PutsAllOrNone};
 ghost use Rattle.streetmap_rows.specs.FeatureRows.{values_of, values_in};
+ghost use Rattle.streetmap_rows.specs.TransactionCalls.{StaysInside, InsertsFeatures};
 
 use crate::failures::is_of_store;
 use sqlite::{Alter, Error, ErrorCode, Transaction, params};
@@ -82,22 +80,8 @@ pub fn insert_features<S: Alter>(
     rows: &[FeatureRow<'_>],
 ) -> Result<bool, Error>
     requires { length rows.now ≡ 25 }
-    ensures same_reference { tx.new.conn.ghost_name ≡ tx.old.conn.ghost_name }
-    ensures puts { HasCleanDisk (state S.Store tx.new.conn.now)
-        → IsTrue (state S.Store tx.old.conn.now).in_transaction
-        → (entries : List Entry) → AreRowsOf entries rows.now
-        → PutsAllOrNone collection.now entries
-        (state S.Store tx.old.conn.now) (state S.Store tx.new.conn.now) result }
-    ensures inside { HasCleanDisk (state S.Store tx.new.conn.now)
-        → IsTrue (state S.Store tx.old.conn.now).in_transaction
-        → OnOk result (IsTrue (state S.Store tx.new.conn.now).in_transaction) }
-    ensures kept { HasCleanDisk (state S.Store tx.new.conn.now)
-        → IsTrue (state S.Store tx.old.conn.now).in_transaction
-        → KeepsCommit (state S.Store tx.old.conn.now) (state S.Store tx.new.conn.now) }
-    ensures reason { HasCleanDisk (state S.Store tx.new.conn.now) →
-        IfErr result (HasReason (state S.Store tx.old.conn.now) (state S.Store tx.new.conn.now)) }
-    ensures survives { Survives (state S.Store tx.old.conn.now) (state S.Store tx.new.conn.now)
-        (λ _. ⊥) }
+    ensures { StaysInside S.Store HasReason (InsertsFeatures collection.now rows.now)
+        tx.old tx.new result }
 {
     let Ok(values) = values_of(alloc, collection, rows) else {
         return Err(Error::SqliteFailure(ErrorCode::OutOfMemory));

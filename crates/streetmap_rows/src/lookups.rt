@@ -1,7 +1,6 @@
 //! Reads by a key.
-ghost use Rattle.std.specs.Prelude.{◌≡◌, ◌≤◌, IfErr, MatchResult, false, is_some, option_map};
+ghost use Rattle.std.specs.Prelude.{◌≡◌, IfErr, MatchResult, false, is_some, option_map};
 ghost use Rattle.std.specs.Prelude.{string_bytes};
-ghost use Rattle.sqlite.specs.View.{doubt};
 ghost use Rattle.sqlite.specs.Tree.{Trees};
 ghost use Rattle.streetmap_batch.specs.Text.{Text};
 ghost use Rattle.streetmap_ledger.specs.State.{State, Collection};
@@ -11,8 +10,10 @@ ghost use Rattle.sqlite.specs.State.{HasCleanDisk, Survives};
 ghost use Rattle.streetmap_rows.specs.Rows.{feature_at};
 ghost use Rattle.streetmap_rows.specs.Representations.{StandsFor, HasTextNames, ReadsInState};
 ghost use Rattle.streetmap_rows.specs.Calls.{ReadsRows};
+ghost use Rattle.streetmap_rows.specs.TransactionCalls.{RunsInside, StaysInside, ReadsCollection};
 ghost use Rattle.streetmap_rows.specs.Views as views;
 
+use crate::statements::SELECT_COLLECTION;
 use sqlite::{Alter, Connection, Error, Row, Transaction, params};
 
 /// What is kept for a key, outside of a transaction: a row of its text, its counts and its serial,
@@ -27,9 +28,6 @@ pub fn kept_rows<S: Alter>(conn: &mut Connection<S>, key: &str) -> Result<Vec<Ro
     ensures reason { HasCleanDisk (state S.Store conn.new) →
         IfErr result (HasReason (state S.Store conn.old) (state S.Store conn.new)) }
     ensures survives { Survives (state S.Store conn.old) (state S.Store conn.new) (λ _. Unit {0}) }
-    ensures clean { doubt (state S.Store conn.old).is_clean
-        ≤ doubt (state S.Store conn.new).is_clean }
-    ensures limit { (state S.Store conn.new).step_limit ≡ (state S.Store conn.old).step_limit }
     ensures crash { HasCleanDisk (state S.Store conn.new) → (s : State)
         → StandsFor s (state S.Store conn.old).now → (trees : Trees)
         → (state S.Store conn.new).may_leave trees → (state S.Store conn.old).may_leave trees }
@@ -42,24 +40,13 @@ pub fn kept_rows<S: Alter>(conn: &mut Connection<S>, key: &str) -> Result<Vec<Ro
 
 /// What is kept of a collection, inside a transaction: a row of its title and its time property, or
 /// none.
-#[tactic(auto, using(crate::proofs::ErrorReasons::queried_inside))]
 pub fn collection_rows<S: Alter>(
     tx: &mut Transaction<'_, S>,
     collection: &str,
 ) -> Result<Vec<Row>, Error>
-    ensures same_reference { tx.new.conn.ghost_name ≡ tx.old.conn.ghost_name }
-    ensures reads_state { HasCleanDisk (state S.Store tx.new.conn.now)
-        → ReadsRows (views.collection_rows collection.now) (state S.Store tx.old.conn.now)
-        (state S.Store tx.new.conn.now) result }
-    ensures reason { HasCleanDisk (state S.Store tx.new.conn.now) →
-        IfErr result (HasReason (state S.Store tx.old.conn.now) (state S.Store tx.new.conn.now)) }
-    ensures survives { Survives (state S.Store tx.old.conn.now) (state S.Store tx.new.conn.now)
-        (λ _. ⊥) }
+    ensures { StaysInside S.Store HasReason (ReadsCollection collection.now) tx.old tx.new result }
 {
-    tx.query_all(
-        "SELECT title, time FROM streetmap_collections WHERE id = ?1",
-        params![collection],
-    )
+    tx.query_all(SELECT_COLLECTION, params![collection])
 }
 
 /// The time property in the row of a collection. The error is that memory ran out.
@@ -74,20 +61,13 @@ pub fn time_in(row: &Row) -> Result<Option<String>, Error>
 }
 
 /// Whether a collection has a feature with this id.
-#[tactic(auto, using(crate::proofs::ErrorReasons::queried_inside))]
 pub fn has_feature<S: Alter>(
     tx: &mut Transaction<'_, S>,
     collection: &str,
     id: &str,
 ) -> Result<bool, Error>
-    ensures same_reference { tx.new.conn.ghost_name ≡ tx.old.conn.ghost_name }
-    ensures reads_state { HasCleanDisk (state S.Store tx.new.conn.now)
-        → ReadsInState (λ s. is_some (feature_at s (collection.now, id.now)))
-        (state S.Store tx.old.conn.now) (state S.Store tx.new.conn.now) result }
-    ensures reason { HasCleanDisk (state S.Store tx.new.conn.now) →
-        IfErr result (HasReason (state S.Store tx.old.conn.now) (state S.Store tx.new.conn.now)) }
-    ensures survives { Survives (state S.Store tx.old.conn.now) (state S.Store tx.new.conn.now)
-        (λ _. ⊥) }
+    ensures { RunsInside S.Store HasReason
+        (ReadsInState (λ s. is_some (feature_at s (collection.now, id.now)))) tx.old tx.new result }
 {
     let rows = tx.query_all(
         "SELECT id FROM streetmap_features WHERE collection = ?1 AND id = ?2",

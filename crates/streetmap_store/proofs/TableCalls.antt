@@ -28,8 +28,7 @@ use Rattle.streetmap_rows.specs.KeptStates.{Rests, MayLeave, MayBecome, AreTrees
 use Rattle.streetmap_rows.proofs.CrashLeaves.{leaves_only, leaves_either}
 use Rattle.streetmap_rows.proofs.OneState.{trees_of_one}
 use Rattle.streetmap_rows.proofs.ErrorReasons.{counts_then, more_before, more_later, stops_settled}
-use Rattle.streetmap_reading.specs.ReadResults.{ReadsState, Stays}
-use Rattle.streetmap_reading.specs.FoldStops.{Stopped}
+use Rattle.streetmap_rows.specs.TableReads.{Stopped, ReadsState, Stays}
 use Rattle.streetmap_tables.specs.BatchEffects.{Applied, IsByStoreError, LeavesOtherTables}
 use Rattle.streetmap_tables.proofs.BeforeCleanEnd.{clean_back}
 use Rattle.streetmap_tables.proofs.CallsInTransaction.{same_all}

@@ -149,37 +149,6 @@ module _ (old new : Seen) (s : State) (keeps : Keeps s old.now) where
     pub serials_reported : (e : Error) → FailsToQuery serials_text [] old new e ⊎ IsTooLate serials_text [] old new e → IsOfStore e
     serials_reported = serials_unrefused old new roots.batches in_batches limit
 
--- ---- in a transaction a query commits nothing, whatever it is
-
-module _ (sql : List ℕ) (params : Row) (old new : Seen) (inside : IsTrue old.in_transaction) where
-  pub keeps_shown : (rows : List Row) → Shown sql params old new rows → KeepsCommit old new
-  unfolding Shown
-  keeps_shown rows h = go h.0.returning h.2
-    where
-      go : (o : Option Returning) → ShowsRows old new sql h.0 (timed params h.0.formats h.1.now) rows o → KeepsCommit old new
-      go None it = unchanged_keeps old new (inl it.3)
-      go (Some what) it = record { was_open = λ _. it.1.shown.was_open; committed = λ _. rw inside at it.1.shown.committed_is }
-
-  pub inside_shown : (rows : List Row) → Shown sql params old new rows → IsTrue new.in_transaction
-  unfolding Shown
-  inside_shown rows h = go h.0.returning h.2
-    where
-      go : (o : Option Returning) → ShowsRows old new sql h.0 (timed params h.0.formats h.1.now) rows o → IsTrue new.in_transaction
-      go None it = subst IsTrue (sym it.3.0.mode) inside
-      go (Some what) it = subst IsTrue (sym it.1.shown.mode) inside
-
-  pub keeps_failed : (e : Error) → FailsToQuery sql params old new e ⊎ IsTooLate sql params old new e → KeepsCommit old new
-  unfolding FailsToQuery IsNotRun
-  keeps_failed e (inr late) = unchanged_keeps old new (inl late.5)
-  keeps_failed e (inl (inl (inl none))) = unchanged_keeps old new (inl none.1)
-  keeps_failed e (inl (inl (inr failed))) = unchanged_keeps old new (inr failed.3)
-  keeps_failed e (inl (inr h)) = go h.0.returning h.2
-    where
-      go : (o : Option Returning) → FailsToShow old new sql h.0 (timed params h.0.formats h.1.now) e o → KeepsCommit old new
-      go None it = unchanged_keeps old new (inl it.3)
-      go (Some what) (inl refused) = unchanged_keeps old new (inl refused.1)
-      go (Some what) (inr failed) = unchanged_keeps old new (inr failed.3)
-
 -- a transaction that is undone leaves what was there when it began
 pub back : (start begun last end : Seen) → begun.committed ≡ start.committed → KeepsCommit begun last → IsRolledBack last end → IsAsItWas start end
 back start begun last end same kept rolled settled live =

@@ -22,7 +22,6 @@ pub mod Reasons
 pub mod Refusals
 pub mod CreateRefused
 pub mod RemadeTables
-pub mod SameDatabase
 pub mod SelectOld
 pub mod Serials
 pub mod BeforeCleanEnd

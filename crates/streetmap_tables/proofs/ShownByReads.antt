@@ -23,8 +23,8 @@ use Rattle.streetmap_tables.specs.declared.adoption.AdoptFault.{AdoptFault}
 use Rattle.streetmap_tables.specs.declared.adoption.AdoptFault.TheVariants.{NotOurs, OldFormat}
 use Rattle.streetmap_tables.specs.declared.adoption.AdoptFault.TheVariants.{NewFormat, Damaged}
 use Rattle.streetmap_tables.specs.declared.adoption.AdoptFault.TheVariants.{Device, Memory}
-use Rattle.streetmap_tables.proofs.SameDatabase.{IsBare, select_bare, was_unchanged, shown_there}
-use Rattle.streetmap_tables.proofs.SameDatabase.{fails_there, not_too_late}
+use Rattle.streetmap_rows.proofs.SameDatabase.{IsBare, select_bare, was_unchanged, shown_there}
+use Rattle.streetmap_rows.proofs.SameDatabase.{fails_there, not_too_late}
 use Rattle.streetmap_tables.proofs.SelectOld.{selects_rows, select_rows_is}
 use Rattle.streetmap_tables.proofs.Serials.{selects_serials, select_serials_is}
 

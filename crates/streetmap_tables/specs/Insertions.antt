@@ -60,6 +60,12 @@ KeepsKnown was known old r =
     old.step_limit ≡ None → IsTrue old.in_transaction → (s : State) → StandsFor s old.now
     → IsKnown was s → OnOk r (IsKnown known s)
 
+-- the call means this, and what is known afterwards holds
+pub record Knowing {A : Type 0} (Means : Seen → Seen → Result A Error → Type 0)
+    (was known : Option KnownCollection) (old new : Seen) (result : Result A Error) : Type 0 where
+  pub edits : Means old new result
+  pub knows : KeepsKnown was known old result
+
 -- what is found is the collection with this name, or none; the database stays
 abbrev pub FindsCollection : Text → Seen → Seen → Result (Option KnownCollection) Error → Type 0
 FindsCollection name old new r =

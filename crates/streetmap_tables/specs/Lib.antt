@@ -13,3 +13,4 @@ pub mod QueryResults
 pub mod EditEffects
 pub mod BatchEffects
 pub mod StoredFeatures
+pub mod TableCalls

@@ -1,7 +1,7 @@
 -- A state whose features are inserted one after the other.
 use Rattle.std.specs.Prelude.{◌≡◌, ◌≢◌, ◌⊎◌, ℕ, codes, List, [], ◌∷◌, map, Option, None, Some}
 use Rattle.std.specs.Prelude.{option_map, Result, Ok, Vec, String, string_bytes, MatchResult}
-use Rattle.std.specs.Prelude.{IsTrue}
+use Rattle.std.specs.Prelude.{IsTrue, IfOk, OnOk}
 use Rattle.std.specs.List.{AllByRecursion}
 use Rattle.std.specs.FinMap.{get, empty, entries, from_entries}
 use Rattle.std.specs.declared.alloc.Global.{Global}
@@ -117,6 +117,18 @@ remaking_texts = codes "DROP TABLE streetmap_features" ∷ codes "DROP TABLE str
 -- the rows of the features in format 1
 abbrev pub old_rows_text : List ℕ
 old_rows_text = codes "SELECT collection, id, body FROM streetmap_features"
+
+-- they are taken; and whatever the tables are, they are what the query shows, and nothing changes
+pub record TakesOldRows (old new : Seen) (result : Result (Vec Row Global) ReadFault) : Type 0 where
+  pub takes : TakesRows old new result
+  pub shown : IfOk result (λ (rows : Vec Row Global). Sees old_rows_text old rows.items)
+  pub same : OnOk result (new.now ≡ old.now)
+
+-- the time property is found; and whatever the tables are, nothing changes
+pub record FindsTimeOf (name : Text) (old new : Seen)
+    (result : Result (Option (String Global)) ReadFault) : Type 0 where
+  pub finds : FindsTime name old new result
+  pub same : OnOk result (new.now ≡ old.now)
 
 module _ {S : Type 0} (g : Ghosts S) where
   -- a statement ran, inside a transaction

@@ -9,7 +9,7 @@ use Rattle.sqlite.specs.declared.types.Value.TheVariants.{Int}
 use Rattle.sqlite.specs.State.{State as Seen, IsUnchanged, Shown, FailsToQuery}
 use Rattle.streetmap_rows.specs.Failures.{IsOfStore}
 use Rattle.streetmap_rows.specs.Statements.{select_format}
-use Rattle.streetmap_tables.specs.Adoption.{serials_text}
+use Rattle.streetmap_tables.specs.Adoption.{serials_text, FindsFormat, FindsSerials, FindsKeys}
 use Rattle.streetmap_tables.specs.declared.adoption.Found.{Found}
 use Rattle.streetmap_tables.specs.declared.adoption.Found.TheVariants.{Keys, Unread, Other}
 use Rattle.streetmap_tables.specs.declared.adoption.AdoptFault.{AdoptFault}
@@ -88,3 +88,17 @@ AdoptsBy seen (Err NewFormat) = ShowsFault seen NewFormat
 AdoptsBy seen (Err Damaged) = LosesKeys seen
 AdoptsBy seen (Err (Device e)) = IsOfStore e
 AdoptsBy seen (Err Memory) = Unit {0}
+
+-- ---- the reads, of a state's tables and of any
+
+pub record ReadsFormat (old new : Seen) (result : Result (Vec Row Global) Error) : Type 0 where
+  pub finds : FindsFormat old new result
+  pub reports : ShowsRows select_format old new result
+
+pub record ReadsSerials (old new : Seen) (result : Result (Vec Row Global) Error) : Type 0 where
+  pub finds : FindsSerials old result
+  pub reports : ShowsRows serials_text old new result
+
+pub record FindsBatches (old new : Seen) (result : Result Found Error) : Type 0 where
+  pub finds : FindsKeys old result
+  pub reports : IsFoundIn old result

@@ -1,5 +1,5 @@
 -- What is written of a feature.
-use Rattle.std.specs.Prelude.{◌≡◌, ℤ, Option, None, Some, Result, Ok, Err, MatchResult, IsTrue}
+use Rattle.std.specs.Prelude.{◌≡◌, ℤ, Option, None, Some, Result, Ok, Err, MatchResult, IfOk, IsTrue}
 use Rattle.std.specs.Prelude.{String, string_bytes}
 use Rattle.std.specs.Option.{option_map}
 use Rattle.std.specs.FinMap.{get}
@@ -12,6 +12,7 @@ use Rattle.streetmap_batch.specs.Text.{Text}
 use Rattle.streetmap_ledger.specs.State.{State, Collection, timed, with_feature}
 use Rattle.streetmap_ledger.specs.declared.reply.Refusal.{Refusal}
 use Rattle.streetmap_rows.specs.Failures.{IsOfStore}
+use Rattle.streetmap_rows.specs.Calls.{RanInsert}
 use Rattle.streetmap_rows.specs.Representations.{StandsFor}
 use Rattle.streetmap_rows.specs.Rows.{feature_text, extent_in, seconds_in}
 use Rattle.streetmap_tables.specs.EditEffects.{KeepsRest}
@@ -51,3 +52,10 @@ Puts name property f old new r =
     → get c.features f.id ≡ None
     → MatchResult r (λ o. WasPut s name c f new o × IsTrue new.in_transaction
     × KeepsRest old new) (λ e. IsOfStore e × KeepsCommit old new)
+
+-- and the row that is inserted has its id and its text
+pub record PutsWithText (name : Text) (property : Option Text) (f : FeatureValue) (old new : Seen)
+    (r : Result (Option Refusal) Error) : Type 0 where
+  pub puts : Puts name property f old new r
+  pub ran : IsTrue old.in_transaction → IfOk r (λ refusal. refusal ≡ None
+      → RanInsert (name, f.id) (feature_text f) old new)

@@ -1,11 +1,10 @@
 //! A batch inside a transaction.
-ghost use Rattle.std.specs.Prelude.{◌≡◌, IfErr, ◌<◌, ◌^◌, ◌-◌};
-ghost use Rattle.sqlite.specs.Held.{state};
-ghost use Rattle.sqlite.specs.State.{HasCleanDisk, Survives};
+ghost use Rattle.std.specs.Prelude.{◌≡◌, ◌<◌, ◌^◌, ◌-◌};
 ghost use Rattle.streetmap_batch.specs.BatchText.{batch_text};
 ghost use Rattle.streetmap_batch.specs.BatchView.{batch_value};
 ghost use Rattle.streetmap_tables.specs.BatchEffects.{ActsInside};
 ghost use Rattle.streetmap_rows.specs.Failures.{HasReason};
+ghost use Rattle.streetmap_rows.specs.TransactionCalls.{RunsInside};
 
 use crate::edits::edit_each;
 use sqlite::{Alter, Error, Transaction};
@@ -23,14 +22,8 @@ pub fn act_inside<S: Alter>(
 ) -> Result<Reply, Error>
     requires its_text { text.now ≡ batch_text (batch_value batch.now) }
     requires room { count < 2 ^ 63 - 1 }
-    ensures same_reference { tx.new.conn.ghost_name ≡ tx.old.conn.ghost_name }
-    ensures acts { HasCleanDisk (state S.Store tx.new.conn.now)
-        → ActsInside (batch_value batch.now) count (state S.Store tx.old.conn.now)
-        (state S.Store tx.new.conn.now) result }
-    ensures reason { HasCleanDisk (state S.Store tx.new.conn.now) →
-        IfErr result (HasReason (state S.Store tx.old.conn.now) (state S.Store tx.new.conn.now)) }
-    ensures survives { Survives (state S.Store tx.old.conn.now) (state S.Store tx.new.conn.now)
-        (λ _. ⊥) }
+    ensures { RunsInside S.Store HasReason (ActsInside (batch_value batch.now) count)
+        tx.old tx.new result }
 {
     batch.facts();
     if let Some((place, why)) = edit_each(tx, alloc, batch.edits())? {

@@ -1,17 +1,15 @@
 //! Opening existing tables: the format row is read, and one row for each accepted batch.
-ghost use Rattle.std.specs.Prelude.{◌≡◌, ◌≢◌, IfErr, MatchResult, Some, pos, false, IsTrue, OnOk};
+ghost use Rattle.std.specs.Prelude.{◌≡◌, ◌≢◌, IfErr, MatchResult, Some, pos, false, IsTrue};
 ghost use Rattle.sqlite.specs.Held.{state};
 ghost use Rattle.sqlite.specs.State.{HasCleanDisk, KeepsCommit, Survives};
 ghost use Rattle.streetmap_ledger.specs.State.{State};
 ghost use Rattle.streetmap_rows.specs.Failures.{HasReason, IsOfStore};
 ghost use Rattle.streetmap_tables.specs.Reasons.{AdoptsFor};
 ghost use Rattle.streetmap_rows.specs.KeptStates.{Rests};
-ghost use Rattle.streetmap_rows.specs.Statements.{select_format};
-ghost use Rattle.streetmap_tables.specs.Adoption.{serials_text, FindsFormat, FindsSerials};
 ghost use Rattle.streetmap_tables.specs.Adoption.{FindsKeys, IsAsItWas, StaysOpen, Adopts};
-ghost use Rattle.streetmap_tables.specs.QueryResults.{format_in, ShowsRows, IsFoundIn};
-ghost use Rattle.streetmap_tables.specs.QueryResults.{IsRefusedFor};
-ghost use Rattle.streetmap_tables.specs.QueryResults.{AdoptsBy};
+ghost use Rattle.streetmap_tables.specs.QueryResults.{format_in, IsFoundIn, IsRefusedFor, AdoptsBy};
+ghost use Rattle.streetmap_tables.specs.QueryResults.{ReadsFormat, ReadsSerials, FindsBatches};
+ghost use Rattle.streetmap_rows.specs.TransactionCalls.{RunsInside, StaysInside};
 
 use sqlite::types::ValueRef;
 use sqlite::{Alter, Connection, Error, Row, Transaction};
@@ -80,24 +78,8 @@ enum Found {
 }
 
 /// The values of the format row.
-#[tactic(auto, using(streetmap_rows::proofs::ErrorReasons::queried_inside))]
 fn read_format<S: Alter>(tx: &mut Transaction<'_, S>) -> Result<Vec<Row>, Error>
-    ensures reason { HasCleanDisk (state S.Store tx.new.conn.now) →
-        IfErr result (HasReason (state S.Store tx.old.conn.now) (state S.Store tx.new.conn.now)) }
-    ensures same_reference { tx.new.conn.ghost_name ≡ tx.old.conn.ghost_name }
-    ensures finds { HasCleanDisk (state S.Store tx.new.conn.now)
-        → FindsFormat (state S.Store tx.old.conn.now) (state S.Store tx.new.conn.now) result }
-    ensures reports { HasCleanDisk (state S.Store tx.new.conn.now)
-        → ShowsRows select_format (state S.Store tx.old.conn.now) (state S.Store tx.new.conn.now)
-        result }
-    ensures inside { HasCleanDisk (state S.Store tx.new.conn.now)
-        → IsTrue (state S.Store tx.old.conn.now).in_transaction
-        → OnOk result (IsTrue (state S.Store tx.new.conn.now).in_transaction) }
-    ensures kept { HasCleanDisk (state S.Store tx.new.conn.now)
-        → IsTrue (state S.Store tx.old.conn.now).in_transaction
-        → KeepsCommit (state S.Store tx.old.conn.now) (state S.Store tx.new.conn.now) }
-    ensures survives { Survives (state S.Store tx.old.conn.now) (state S.Store tx.new.conn.now)
-        (λ _. ⊥) }
+    ensures { StaysInside S.Store HasReason ReadsFormat tx.old tx.new result }
 {
     tx.query_all(
         "SELECT value FROM streetmap_meta WHERE name = 'format'",
@@ -106,24 +88,8 @@ fn read_format<S: Alter>(tx: &mut Transaction<'_, S>) -> Result<Vec<Row>, Error>
 }
 
 /// The serials of all batches, a row for each.
-#[tactic(auto, using(streetmap_rows::proofs::ErrorReasons::queried_inside))]
 pub fn read_serials<S: Alter>(tx: &mut Transaction<'_, S>) -> Result<Vec<Row>, Error>
-    ensures reason { HasCleanDisk (state S.Store tx.new.conn.now) →
-        IfErr result (HasReason (state S.Store tx.old.conn.now) (state S.Store tx.new.conn.now)) }
-    ensures same_reference { tx.new.conn.ghost_name ≡ tx.old.conn.ghost_name }
-    ensures finds { HasCleanDisk (state S.Store tx.new.conn.now)
-        → FindsSerials (state S.Store tx.old.conn.now) result }
-    ensures reports { HasCleanDisk (state S.Store tx.new.conn.now)
-        → ShowsRows serials_text (state S.Store tx.old.conn.now) (state S.Store tx.new.conn.now)
-        result }
-    ensures inside { HasCleanDisk (state S.Store tx.new.conn.now)
-        → IsTrue (state S.Store tx.old.conn.now).in_transaction
-        → OnOk result (IsTrue (state S.Store tx.new.conn.now).in_transaction) }
-    ensures kept { HasCleanDisk (state S.Store tx.new.conn.now)
-        → IsTrue (state S.Store tx.old.conn.now).in_transaction
-        → KeepsCommit (state S.Store tx.old.conn.now) (state S.Store tx.new.conn.now) }
-    ensures survives { Survives (state S.Store tx.old.conn.now) (state S.Store tx.new.conn.now)
-        (λ _. ⊥) }
+    ensures { StaysInside S.Store HasReason ReadsSerials tx.old tx.new result }
 {
     tx.query_all("SELECT serial FROM streetmap_batches", &[])
 }
@@ -157,18 +123,10 @@ fn unread_by(error: Error) -> Result<Found, Error>
 
 /// The format and, if it is 2, the number of keys.
 fn find_inside<S: Alter>(tx: &mut Transaction<'_, S>) -> Result<Found, Error>
-    ensures reason { HasCleanDisk (state S.Store tx.new.conn.now) →
-        IfErr result (HasReason (state S.Store tx.old.conn.now) (state S.Store tx.new.conn.now)) }
-    ensures same_reference { tx.new.conn.ghost_name ≡ tx.old.conn.ghost_name }
-    ensures finds { HasCleanDisk (state S.Store tx.new.conn.now)
-        → FindsKeys (state S.Store tx.old.conn.now) result }
-    ensures reports { HasCleanDisk (state S.Store tx.new.conn.now)
-        → IsFoundIn (state S.Store tx.old.conn.now) result }
+    ensures runs { RunsInside S.Store HasReason FindsBatches tx.old tx.new result }
     ensures kept { HasCleanDisk (state S.Store tx.new.conn.now)
         → IsTrue (state S.Store tx.old.conn.now).in_transaction
         → KeepsCommit (state S.Store tx.old.conn.now) (state S.Store tx.new.conn.now) }
-    ensures survives { Survives (state S.Store tx.old.conn.now) (state S.Store tx.new.conn.now)
-        (λ _. ⊥) }
 {
     let rows = read_format(tx)?;
     match format_of(&rows) {

@@ -1,30 +1,22 @@
 //! Making the tables, in one transaction.
-ghost use Rattle.std.specs.Prelude.{◌≡◌, ◌≤◌, ◌↔◌, ◌∷◌, [], IsTrue, OnOk, IfErr, None, Err, false};
+ghost use Rattle.std.specs.Prelude.{◌≡◌, ◌≤◌, ◌↔◌, [], IsTrue, OnOk, IfErr, Err, false};
 ghost use Rattle.sqlite.specs.Held.{state};
-ghost use Rattle.sqlite.specs.State.{HasCleanDisk, KeepsCommit, Survives};
+ghost use Rattle.sqlite.specs.State.{HasCleanDisk, Survives};
 ghost use Rattle.sqlite.specs.View.{doubt};
-ghost use Rattle.sqlite.specs.Does.{lacks_sequence};
-ghost use Rattle.sqlite.specs.Effect.{IsDatabase};
-ghost use Rattle.sqlite.specs.Table.{Table};
-ghost use Rattle.sqlite_catalog.specs.Change.{created, is_used};
-ghost use Rattle.streetmap_ledger.specs.State.{State, opening_state};
-ghost use Rattle.streetmap_rows.specs.Failures.{IsOfStore, HasReason};
-ghost use Rattle.streetmap_rows.specs.KeptStates.{Keeps};
-ghost use Rattle.streetmap_rows.specs.Representations.{StandsFor};
-ghost use Rattle.streetmap_rows.specs.Elsewhere.{IsSameElsewhere};
-ghost use Rattle.streetmap_tables.specs.Made.{IsTableText, Created};
-ghost use Rattle.streetmap_tables.specs.CreationRefusals.{IsOurText, our_tables, IsCreateError};
-ghost use Rattle.streetmap_tables.specs.CreationRefusals.{IsReturned};
+ghost use Rattle.sqlite_catalog.specs.Change.{is_used};
+ghost use Rattle.streetmap_rows.specs.Failures.{HasReason};
+ghost use Rattle.streetmap_tables.specs.CreationRefusals.{our_tables, IsCreateError, IsReturned};
 ghost use Rattle.streetmap_tables.specs.CreationRefusals.{IsReasoned};
 ghost use Rattle.streetmap_tables.specs.Adoption.{IsAsItWas};
 ghost use Rattle.streetmap_tables.specs.Part.{Ran};
-ghost use Rattle.streetmap_tables.specs.Creation.{is_taken, HasRoom, IsReady, LacksFormat};
-ghost use Rattle.streetmap_tables.specs.Creation.{format_text};
-ghost use Rattle.streetmap_tables.specs.Creation.{KeepsOtherTables, MayOpen, MakesAlone, Makes};
+ghost use Rattle.streetmap_tables.specs.Creation.{is_taken, IsReady, format_text, KeepsOtherTables};
+ghost use Rattle.streetmap_tables.specs.Creation.{MayOpen, MakesAlone, Makes};
+ghost use Rattle.streetmap_rows.specs.TransactionCalls.{StaysInside};
+ghost use Rattle.streetmap_tables.specs.TableCalls.{CreatesTable, InsertsFormat, MakesInside};
 
 use sqlite::{Alter, Connection, Error, Transaction};
 use sqlite_schema::schema::Schema;
-use streetmap_rows::{is_memory, probe};
+use streetmap_rows::{CREATE_FEATURES, CREATE_META, is_memory, probe};
 
 /// Why tables were not made.
 #[derive(Drop)]
@@ -88,31 +80,10 @@ fn is_one_used(schema: &Schema) -> bool
 /// Makes a table by its text, which is one CREATE TABLE. The text of one of our tables, whose name
 /// is free, is refused only if the store fails or the schema has no place for the table.
 pub fn create_table<S: Alter>(tx: &mut Transaction<'_, S>, sql: &str) -> Result<(), Error>
-    ensures same_reference { tx.new.conn.ghost_name ≡ tx.old.conn.ghost_name }
+    ensures runs { StaysInside S.Store HasReason (CreatesTable sql.now) tx.old tx.new result }
     ensures ran { HasCleanDisk (state S.Store tx.new.conn.now)
         → IsTrue (state S.Store tx.old.conn.now).in_transaction
         → OnOk result (Ran S.Store sql.now tx.old.conn.now tx.new.conn.now) }
-    ensures created { HasCleanDisk (state S.Store tx.new.conn.now)
-        → IsTrue (state S.Store tx.old.conn.now).in_transaction → (table : Table)
-        → IsTableText sql.now table → lacks_sequence
-        (created (state S.Store tx.old.conn.now).now.schema table) ≡ false
-        → OnOk result (Created table (state S.Store tx.old.conn.now).now
-        (state S.Store tx.new.conn.now).now) }
-    ensures reported { HasCleanDisk (state S.Store tx.new.conn.now)
-        → IsTrue (state S.Store tx.old.conn.now).in_transaction → (table : Table)
-        → IsOurText sql.now table → is_used (state S.Store tx.old.conn.now).now.schema table.name
-        ≡ false → lacks_sequence (created (state S.Store tx.old.conn.now).now.schema table) ≡ false
-        → IfErr result (IsCreateError (table ∷ []) (state S.Store tx.old.conn.now).now.schema) }
-    ensures inside { HasCleanDisk (state S.Store tx.new.conn.now)
-        → IsTrue (state S.Store tx.old.conn.now).in_transaction
-        → OnOk result (IsTrue (state S.Store tx.new.conn.now).in_transaction) }
-    ensures kept { HasCleanDisk (state S.Store tx.new.conn.now)
-        → IsTrue (state S.Store tx.old.conn.now).in_transaction
-        → KeepsCommit (state S.Store tx.old.conn.now) (state S.Store tx.new.conn.now) }
-    ensures reason { HasCleanDisk (state S.Store tx.new.conn.now) →
-        IfErr result (HasReason (state S.Store tx.old.conn.now) (state S.Store tx.new.conn.now)) }
-    ensures survives { Survives (state S.Store tx.old.conn.now) (state S.Store tx.new.conn.now)
-        (λ _. ⊥) }
 {
     tx.execute(sql, &[])?;
     Ok(())
@@ -120,32 +91,10 @@ pub fn create_table<S: Alter>(tx: &mut Transaction<'_, S>, sql: &str) -> Result<
 
 /// Writes the row of format 2 into tables that have every other row of a state.
 pub fn insert_format<S: Alter>(tx: &mut Transaction<'_, S>) -> Result<(), Error>
-    ensures same_reference { tx.new.conn.ghost_name ≡ tx.old.conn.ghost_name }
+    ensures runs { StaysInside S.Store HasReason InsertsFormat tx.old tx.new result }
     ensures ran { HasCleanDisk (state S.Store tx.new.conn.now)
         → IsTrue (state S.Store tx.old.conn.now).in_transaction
         → OnOk result (Ran S.Store format_text tx.old.conn.now tx.new.conn.now) }
-    ensures put { HasCleanDisk (state S.Store tx.new.conn.now)
-        → IsTrue (state S.Store tx.old.conn.now).in_transaction
-        → (state S.Store tx.old.conn.now).step_limit ≡ None → (s : State)
-        → LacksFormat s (state S.Store tx.old.conn.now).now
-        → IsDatabase (state S.Store tx.old.conn.now).now
-        → OnOk result (StandsFor s (state S.Store tx.new.conn.now).now
-        × IsSameElsewhere (state S.Store tx.old.conn.now).now (state S.Store tx.new.conn.now).now) }
-    ensures reported { HasCleanDisk (state S.Store tx.new.conn.now)
-        → IsTrue (state S.Store tx.old.conn.now).in_transaction
-        → (state S.Store tx.old.conn.now).step_limit ≡ None → (s : State)
-        → LacksFormat s (state S.Store tx.old.conn.now).now
-        → IsDatabase (state S.Store tx.old.conn.now).now → IfErr result IsOfStore }
-    ensures inside { HasCleanDisk (state S.Store tx.new.conn.now)
-        → IsTrue (state S.Store tx.old.conn.now).in_transaction
-        → OnOk result (IsTrue (state S.Store tx.new.conn.now).in_transaction) }
-    ensures kept { HasCleanDisk (state S.Store tx.new.conn.now)
-        → IsTrue (state S.Store tx.old.conn.now).in_transaction
-        → KeepsCommit (state S.Store tx.old.conn.now) (state S.Store tx.new.conn.now) }
-    ensures reason { HasCleanDisk (state S.Store tx.new.conn.now) →
-        IfErr result (HasReason (state S.Store tx.old.conn.now) (state S.Store tx.new.conn.now)) }
-    ensures survives { Survives (state S.Store tx.old.conn.now) (state S.Store tx.new.conn.now)
-        (λ _. ⊥) }
 {
     tx.execute(
         "INSERT INTO streetmap_meta (name, value) VALUES ('format', 2)",
@@ -156,35 +105,9 @@ pub fn insert_format<S: Alter>(tx: &mut Transaction<'_, S>) -> Result<(), Error>
 
 /// Makes the four tables and the format row.
 fn make_inside<S: Alter>(tx: &mut Transaction<'_, S>) -> Result<(), Error>
-    ensures same_reference { tx.new.conn.ghost_name ≡ tx.old.conn.ghost_name }
-    ensures made { HasCleanDisk (state S.Store tx.new.conn.now)
-        → IsTrue (state S.Store tx.old.conn.now).in_transaction
-        → (state S.Store tx.old.conn.now).step_limit ≡ None
-        → HasRoom (state S.Store tx.old.conn.now).now.schema
-        → OnOk result (Keeps opening_state (state S.Store tx.new.conn.now).now
-        × KeepsOtherTables (state S.Store tx.old.conn.now).now
-        (state S.Store tx.new.conn.now).now) }
-    ensures reported { HasCleanDisk (state S.Store tx.new.conn.now)
-        → IsTrue (state S.Store tx.old.conn.now).in_transaction
-        → (state S.Store tx.old.conn.now).step_limit ≡ None
-        → HasRoom (state S.Store tx.old.conn.now).now.schema
-        → is_taken (state S.Store tx.old.conn.now).now.schema ≡ false
-        → IfErr result (IsCreateError our_tables (state S.Store tx.old.conn.now).now.schema) }
-    ensures inside { HasCleanDisk (state S.Store tx.new.conn.now)
-        → IsTrue (state S.Store tx.old.conn.now).in_transaction
-        → OnOk result (IsTrue (state S.Store tx.new.conn.now).in_transaction) }
-    ensures kept { HasCleanDisk (state S.Store tx.new.conn.now)
-        → IsTrue (state S.Store tx.old.conn.now).in_transaction
-        → KeepsCommit (state S.Store tx.old.conn.now) (state S.Store tx.new.conn.now) }
-    ensures reason { HasCleanDisk (state S.Store tx.new.conn.now) →
-        IfErr result (HasReason (state S.Store tx.old.conn.now) (state S.Store tx.new.conn.now)) }
-    ensures survives { Survives (state S.Store tx.old.conn.now) (state S.Store tx.new.conn.now)
-        (λ _. ⊥) }
+    ensures { StaysInside S.Store HasReason MakesInside tx.old tx.new result }
 {
-    create_table(
-        tx,
-        "CREATE TABLE streetmap_meta (name TEXT PRIMARY KEY, value INTEGER NOT NULL) STRICT",
-    )?;
+    create_table(tx, CREATE_META)?;
     create_table(
         tx,
         "CREATE TABLE streetmap_collections (id TEXT PRIMARY KEY, title TEXT NOT NULL, time TEXT) STRICT",
@@ -193,10 +116,7 @@ fn make_inside<S: Alter>(tx: &mut Transaction<'_, S>) -> Result<(), Error>
         tx,
         "CREATE TABLE streetmap_batches (key TEXT PRIMARY KEY, body TEXT NOT NULL, opened INTEGER NOT NULL, inserted INTEGER NOT NULL, replaced INTEGER NOT NULL, deleted INTEGER NOT NULL, serial INTEGER NOT NULL UNIQUE) STRICT",
     )?;
-    create_table(
-        tx,
-        "CREATE TABLE streetmap_features (collection TEXT NOT NULL REFERENCES streetmap_collections(id), id TEXT NOT NULL, body TEXT NOT NULL, x0 INTEGER, y0 INTEGER, x1 INTEGER, y1 INTEGER, s0 INTEGER, s1 INTEGER, PRIMARY KEY (collection, id)) STRICT",
-    )?;
+    create_table(tx, CREATE_FEATURES)?;
     insert_format(tx)
 }
 
@@ -204,8 +124,6 @@ fn make_inside<S: Alter>(tx: &mut Transaction<'_, S>) -> Result<(), Error>
 fn make_alone<S: Alter>(conn: &mut Connection<S>) -> Result<(), Error>
     requires idle { conn.old.in_transaction ≡ false }
     ensures idle { conn.new.in_transaction ≡ false }
-    ensures clean { doubt (state S.Store conn.old).is_clean
-        ≤ doubt (state S.Store conn.new).is_clean }
     ensures reason { HasCleanDisk (state S.Store conn.new) →
         IfErr result (HasReason (state S.Store conn.old) (state S.Store conn.new)) }
     ensures survives { Survives (state S.Store conn.old) (state S.Store conn.new) (λ _. Unit {0}) }

@@ -1,15 +1,14 @@
 //! Edits inside a transaction.
-ghost use Rattle.std.specs.Prelude.{◌≡◌, ◌≤◌, IfErr, IfOk, IfSome, is_some, map, length};
+ghost use Rattle.std.specs.Prelude.{◌≡◌, ◌≤◌, IfOk, IfSome, is_some, map, length};
 ghost use Rattle.std.specs.Option.{option_copied};
 ghost use Rattle.std.specs.FinMap.{get};
-ghost use Rattle.sqlite.specs.Held.{state};
-ghost use Rattle.sqlite.specs.State.{HasCleanDisk, Survives};
 ghost use Rattle.streetmap_batch.specs.BatchValue as edit;
 ghost use Rattle.streetmap_batch.specs.BatchView.{edit_value};
 ghost use Rattle.streetmap_rows.specs.Representations.{ReadsInState};
 ghost use Rattle.streetmap_tables.specs.EditEffects.{Edits, EditsAll};
-ghost use Rattle.streetmap_tables.specs.Insertions.{EditsWhere, IsKnown, KeepsKnown};
+ghost use Rattle.streetmap_tables.specs.Insertions.{EditsWhere, IsKnown, Knowing};
 ghost use Rattle.streetmap_rows.specs.Failures.{HasReason};
+ghost use Rattle.streetmap_rows.specs.TransactionCalls.{RunsInside};
 
 use crate::insertions::{KnownCollection, insert_all};
 use crate::stored_features::put_feature;
@@ -22,14 +21,8 @@ use streetmap_rows::{ROWS, collection_rows, delete_feature, has_feature, insert_
 
 /// Whether a collection with this id exists.
 fn has_collection<S: Alter>(tx: &mut Transaction<'_, S>, collection: &str) -> Result<bool, Error>
-    ensures same_reference { tx.new.conn.ghost_name ≡ tx.old.conn.ghost_name }
-    ensures reads_state { HasCleanDisk (state S.Store tx.new.conn.now)
-        → ReadsInState (λ s. is_some (get s.collections collection.now))
-        (state S.Store tx.old.conn.now) (state S.Store tx.new.conn.now) result }
-    ensures reason { HasCleanDisk (state S.Store tx.new.conn.now) →
-        IfErr result (HasReason (state S.Store tx.old.conn.now) (state S.Store tx.new.conn.now)) }
-    ensures survives { Survives (state S.Store tx.old.conn.now) (state S.Store tx.new.conn.now)
-        (λ _. ⊥) }
+    ensures { RunsInside S.Store HasReason
+        (ReadsInState (λ s. is_some (get s.collections collection.now))) tx.old tx.new result }
 {
     let rows = collection_rows(tx, collection)?;
     Ok(!rows.is_empty())
@@ -43,14 +36,9 @@ fn open_in<S: Alter>(
     title: &str,
     time: Option<&str>,
 ) -> Result<Option<Refusal>, Error>
-    ensures same_reference { tx.new.conn.ghost_name ≡ tx.old.conn.ghost_name }
-    ensures edits { HasCleanDisk (state S.Store tx.new.conn.now)
-        → Edits (edit.«open» collection.now title.now (option_copied time.entry))
-        (state S.Store tx.old.conn.now) (state S.Store tx.new.conn.now) result }
-    ensures reason { HasCleanDisk (state S.Store tx.new.conn.now) →
-        IfErr result (HasReason (state S.Store tx.old.conn.now) (state S.Store tx.new.conn.now)) }
-    ensures survives { Survives (state S.Store tx.old.conn.now) (state S.Store tx.new.conn.now)
-        (λ _. ⊥) }
+    ensures { RunsInside S.Store HasReason
+        (Edits (edit.«open» collection.now title.now (option_copied time.entry)))
+        tx.old tx.new result }
 {
     if has_collection(tx, collection)? {
         return Ok(Some(Refusal::CollectionExists));
@@ -66,14 +54,8 @@ fn insert_in<S: Alter>(
     collection: &str,
     feature: &WrittenFeature,
 ) -> Result<Option<Refusal>, Error>
-    ensures same_reference { tx.new.conn.ghost_name ≡ tx.old.conn.ghost_name }
-    ensures edits { HasCleanDisk (state S.Store tx.new.conn.now)
-        → Edits (edit.insert collection.now feature.now) (state S.Store tx.old.conn.now)
-        (state S.Store tx.new.conn.now) result }
-    ensures reason { HasCleanDisk (state S.Store tx.new.conn.now) →
-        IfErr result (HasReason (state S.Store tx.old.conn.now) (state S.Store tx.new.conn.now)) }
-    ensures survives { Survives (state S.Store tx.old.conn.now) (state S.Store tx.new.conn.now)
-        (λ _. ⊥) }
+    ensures { RunsInside S.Store HasReason (Edits (edit.insert collection.now feature.now))
+        tx.old tx.new result }
 {
     let Some(property) = time_property(tx, collection)? else {
         return Ok(Some(Refusal::NoCollection));
@@ -91,14 +73,8 @@ fn replace_in<S: Alter>(
     collection: &str,
     feature: &WrittenFeature,
 ) -> Result<Option<Refusal>, Error>
-    ensures same_reference { tx.new.conn.ghost_name ≡ tx.old.conn.ghost_name }
-    ensures edits { HasCleanDisk (state S.Store tx.new.conn.now)
-        → Edits (edit.replace collection.now feature.now) (state S.Store tx.old.conn.now)
-        (state S.Store tx.new.conn.now) result }
-    ensures reason { HasCleanDisk (state S.Store tx.new.conn.now) →
-        IfErr result (HasReason (state S.Store tx.old.conn.now) (state S.Store tx.new.conn.now)) }
-    ensures survives { Survives (state S.Store tx.old.conn.now) (state S.Store tx.new.conn.now)
-        (λ _. ⊥) }
+    ensures { RunsInside S.Store HasReason (Edits (edit.replace collection.now feature.now))
+        tx.old tx.new result }
 {
     let Some(property) = time_property(tx, collection)? else {
         return Ok(Some(Refusal::NoCollection));
@@ -117,14 +93,8 @@ fn delete_in<S: Alter>(
     collection: &str,
     id: &str,
 ) -> Result<Option<Refusal>, Error>
-    ensures same_reference { tx.new.conn.ghost_name ≡ tx.old.conn.ghost_name }
-    ensures edits { HasCleanDisk (state S.Store tx.new.conn.now)
-        → Edits (edit.delete collection.now id.now) (state S.Store tx.old.conn.now)
-        (state S.Store tx.new.conn.now) result }
-    ensures reason { HasCleanDisk (state S.Store tx.new.conn.now) →
-        IfErr result (HasReason (state S.Store tx.old.conn.now) (state S.Store tx.new.conn.now)) }
-    ensures survives { Survives (state S.Store tx.old.conn.now) (state S.Store tx.new.conn.now)
-        (λ _. ⊥) }
+    ensures { RunsInside S.Store HasReason (Edits (edit.delete collection.now id.now))
+        tx.old tx.new result }
 {
     if !has_collection(tx, collection)? {
         return Ok(Some(Refusal::NoCollection));
@@ -152,14 +122,7 @@ fn edit_in<S: Alter>(
     alloc: Global,
     edit: &Edit,
 ) -> Result<Option<Refusal>, Error>
-    ensures same_reference { tx.new.conn.ghost_name ≡ tx.old.conn.ghost_name }
-    ensures edits { HasCleanDisk (state S.Store tx.new.conn.now)
-        → Edits (edit_value edit.now) (state S.Store tx.old.conn.now)
-        (state S.Store tx.new.conn.now) result }
-    ensures reason { HasCleanDisk (state S.Store tx.new.conn.now) →
-        IfErr result (HasReason (state S.Store tx.old.conn.now) (state S.Store tx.new.conn.now)) }
-    ensures survives { Survives (state S.Store tx.old.conn.now) (state S.Store tx.new.conn.now)
-        (λ _. ⊥) }
+    ensures { RunsInside S.Store HasReason (Edits (edit_value edit.now)) tx.old tx.new result }
 {
     match edit {
         Edit::Open {
@@ -185,16 +148,10 @@ fn edit_in_turn<S: Alter>(
     alloc: Global,
     edits: &[Edit],
 ) -> Result<Option<(u64, Refusal)>, Error>
-    ensures same_reference { tx.new.conn.ghost_name ≡ tx.old.conn.ghost_name }
-    ensures edits { HasCleanDisk (state S.Store tx.new.conn.now)
-        → EditsAll (map edit_value edits.now) (state S.Store tx.old.conn.now)
-        (state S.Store tx.new.conn.now) result }
+    ensures runs { RunsInside S.Store HasReason (EditsAll (map edit_value edits.now))
+        tx.old tx.new result }
     ensures placed { IfOk result
         (λ stopped. IfSome stopped (λ at. at.0 ≤ length edits.now)) }
-    ensures reason { HasCleanDisk (state S.Store tx.new.conn.now) →
-        IfErr result (HasReason (state S.Store tx.old.conn.now) (state S.Store tx.new.conn.now)) }
-    ensures survives { Survives (state S.Store tx.old.conn.now) (state S.Store tx.new.conn.now)
-        (λ _. ⊥) }
 {
     let mut place: u64 = 1;
     'edits: for edit in edits {
@@ -214,18 +171,11 @@ fn edit_run<S: Alter>(
     edits: &[Edit],
     known: &mut Option<KnownCollection>,
 ) -> Result<Option<(u64, Refusal)>, Error>
-    ensures same_reference { tx.new.conn.ghost_name ≡ tx.old.conn.ghost_name }
-    ensures edits { HasCleanDisk (state S.Store tx.new.conn.now)
-        → EditsWhere (IsKnown known.old) (map edit_value edits.now)
-        (state S.Store tx.old.conn.now) (state S.Store tx.new.conn.now) result }
-    ensures knows { HasCleanDisk (state S.Store tx.new.conn.now)
-        → KeepsKnown known.old known.new (state S.Store tx.old.conn.now) result }
+    ensures runs { RunsInside S.Store HasReason
+        (Knowing (EditsWhere (IsKnown known.old) (map edit_value edits.now)) known.old known.new)
+        tx.old tx.new result }
     ensures placed { IfOk result
         (λ stopped. IfSome stopped (λ at. at.0 ≤ length edits.now)) }
-    ensures reason { HasCleanDisk (state S.Store tx.new.conn.now) →
-        IfErr result (HasReason (state S.Store tx.old.conn.now) (state S.Store tx.new.conn.now)) }
-    ensures survives { Survives (state S.Store tx.old.conn.now) (state S.Store tx.new.conn.now)
-        (λ _. ⊥) }
 {
     if insert_all(tx, alloc, edits, known)? {
         return Ok(None);
@@ -239,14 +189,8 @@ pub fn edit_each<S: Alter>(
     alloc: Global,
     edits: &[Edit],
 ) -> Result<Option<(u64, Refusal)>, Error>
-    ensures same_reference { tx.new.conn.ghost_name ≡ tx.old.conn.ghost_name }
-    ensures edits { HasCleanDisk (state S.Store tx.new.conn.now)
-        → EditsAll (map edit_value edits.now) (state S.Store tx.old.conn.now)
-        (state S.Store tx.new.conn.now) result }
-    ensures reason { HasCleanDisk (state S.Store tx.new.conn.now) →
-        IfErr result (HasReason (state S.Store tx.old.conn.now) (state S.Store tx.new.conn.now)) }
-    ensures survives { Survives (state S.Store tx.old.conn.now) (state S.Store tx.new.conn.now)
-        (λ _. ⊥) }
+    ensures { RunsInside S.Store HasReason (EditsAll (map edit_value edits.now))
+        tx.old tx.new result }
 {
     let mut done: u64 = 0;
     let mut rest = edits;

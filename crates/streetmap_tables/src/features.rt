@@ -3,28 +3,26 @@ ghost use Rattle.std.specs.Prelude.{◌≡◌, IfErr, IsTrue, IsUtf8, OnOk, Matc
 ghost use Rattle.std.specs.Prelude.{IfOk};
 ghost use Rattle.std.specs.Option.{option_copied};
 ghost use Rattle.sqlite.specs.Held.{state};
-ghost use Rattle.sqlite.specs.State.{HasCleanDisk, KeepsCommit, Survives};
+ghost use Rattle.sqlite.specs.State.{HasCleanDisk};
 ghost use Rattle.streetmap_geojson.specs.FeatureValue.{FeatureValue};
-ghost use Rattle.streetmap_rows.specs.Failures.{IsOfStore, HasReason};
+ghost use Rattle.streetmap_rows.specs.Failures.{IsOfStore};
 ghost use Rattle.streetmap_rows.specs.Holds.{KeyPair};
-ghost use Rattle.streetmap_rows.specs.Calls.{ReadsRows};
-ghost use Rattle.streetmap_rows.specs.Views as views;
 ghost use Rattle.streetmap_rows.specs.Stored.{IsStored, TextReadsAs};
 ghost use Rattle.streetmap_tables.specs.Old.{old_cells};
 ghost use Rattle.sqlite.specs.declared.error.Error.{Error};
 ghost use Rattle.streetmap_tables.specs.Reasons.{IsOwn, HasReasonIn};
-ghost use Rattle.streetmap_tables.specs.Part.{TakesRows, FindsTime, PutsRow, PutsRows};
-ghost use Rattle.streetmap_tables.specs.Part.{PutsOne, PutsEach, pair_in, body_in, old_rows_text};
-ghost use Rattle.streetmap_tables.specs.QueryResults.{Sees};
+ghost use Rattle.streetmap_tables.specs.Part.{PutsRow, PutsRows, PutsOne, PutsEach, pair_in};
+ghost use Rattle.streetmap_tables.specs.Part.{body_in, TakesOldRows, FindsTimeOf};
+ghost use Rattle.streetmap_rows.specs.TransactionCalls.{StaysInside};
 
 use crate::stored_features::put_feature;
 use json::Scratch;
 use sqlite::types::ValueRef;
-use sqlite::{Alter, Error, Row, Transaction, params};
+use sqlite::{Alter, Error, Row, Transaction};
 use std::alloc::Global;
 use streetmap_feature_text::WrittenFeature;
 use streetmap_geojson::JsonFault;
-use streetmap_rows::{ReadFault, is_of_store, read_body, time_in, unread};
+use streetmap_rows::{ReadFault, collection_rows, is_of_store, read_body, time_in, unread};
 
 /// Why a read or a write of a feature gave up: the store failed, or the statement was refused, as
 /// it is at a row that this product does not write.
@@ -41,23 +39,7 @@ pub fn fault_of(error: Error) -> ReadFault
 
 /// The rows of all features.
 pub fn take_rows<S: Alter>(tx: &mut Transaction<'_, S>) -> Result<Vec<Row>, ReadFault>
-    ensures reason { HasCleanDisk (state S.Store tx.new.conn.now) →
-        IfErr result (HasReasonIn (state S.Store tx.old.conn.now) (state S.Store tx.new.conn.now)) }
-    ensures same_reference { tx.new.conn.ghost_name ≡ tx.old.conn.ghost_name }
-    ensures takes { HasCleanDisk (state S.Store tx.new.conn.now)
-        → TakesRows (state S.Store tx.old.conn.now) (state S.Store tx.new.conn.now) result }
-    ensures shown { HasCleanDisk (state S.Store tx.new.conn.now) →
-        IfOk result (λ rows. Sees old_rows_text (state S.Store tx.old.conn.now) rows.items) }
-    ensures same { HasCleanDisk (state S.Store tx.new.conn.now) →
-        OnOk result ((state S.Store tx.new.conn.now).now ≡ (state S.Store tx.old.conn.now).now) }
-    ensures inside { HasCleanDisk (state S.Store tx.new.conn.now)
-        → IsTrue (state S.Store tx.old.conn.now).in_transaction
-        → OnOk result (IsTrue (state S.Store tx.new.conn.now).in_transaction) }
-    ensures kept { HasCleanDisk (state S.Store tx.new.conn.now)
-        → IsTrue (state S.Store tx.old.conn.now).in_transaction
-        → KeepsCommit (state S.Store tx.old.conn.now) (state S.Store tx.new.conn.now) }
-    ensures survives { Survives (state S.Store tx.old.conn.now) (state S.Store tx.new.conn.now)
-        (λ _. ⊥) }
+    ensures { StaysInside S.Store HasReasonIn TakesOldRows tx.old tx.new result }
 {
     match tx.query_all("SELECT collection, id, body FROM streetmap_features", &[]) {
         Ok(rows) => Ok(rows),
@@ -65,55 +47,14 @@ pub fn take_rows<S: Alter>(tx: &mut Transaction<'_, S>) -> Result<Vec<Row>, Read
     }
 }
 
-/// What is kept of a collection: a row of its title and its time property, or none.
-#[tactic(auto, using(streetmap_rows::proofs::ErrorReasons::queried_inside))]
-fn head_rows<S: Alter>(tx: &mut Transaction<'_, S>, collection: &str) -> Result<Vec<Row>, Error>
-    ensures reason { HasCleanDisk (state S.Store tx.new.conn.now) →
-        IfErr result (HasReason (state S.Store tx.old.conn.now) (state S.Store tx.new.conn.now)) }
-    ensures same_reference { tx.new.conn.ghost_name ≡ tx.old.conn.ghost_name }
-    ensures reads_state { HasCleanDisk (state S.Store tx.new.conn.now)
-        → ReadsRows (views.collection_rows collection.now) (state S.Store tx.old.conn.now)
-        (state S.Store tx.new.conn.now) result }
-    ensures same { HasCleanDisk (state S.Store tx.new.conn.now) →
-        OnOk result ((state S.Store tx.new.conn.now).now ≡ (state S.Store tx.old.conn.now).now) }
-    ensures inside { HasCleanDisk (state S.Store tx.new.conn.now)
-        → IsTrue (state S.Store tx.old.conn.now).in_transaction
-        → OnOk result (IsTrue (state S.Store tx.new.conn.now).in_transaction) }
-    ensures kept { HasCleanDisk (state S.Store tx.new.conn.now)
-        → IsTrue (state S.Store tx.old.conn.now).in_transaction
-        → KeepsCommit (state S.Store tx.old.conn.now) (state S.Store tx.new.conn.now) }
-    ensures survives { Survives (state S.Store tx.old.conn.now) (state S.Store tx.new.conn.now)
-        (λ _. ⊥) }
-{
-    tx.query_all(
-        "SELECT title, time FROM streetmap_collections WHERE id = ?1",
-        params![collection],
-    )
-}
-
 /// The time property of a collection, if it has one.
 fn find_time<S: Alter>(
     tx: &mut Transaction<'_, S>,
     collection: &str,
 ) -> Result<Option<String>, ReadFault>
-    ensures reason { HasCleanDisk (state S.Store tx.new.conn.now) →
-        IfErr result (HasReasonIn (state S.Store tx.old.conn.now) (state S.Store tx.new.conn.now)) }
-    ensures same_reference { tx.new.conn.ghost_name ≡ tx.old.conn.ghost_name }
-    ensures finds { HasCleanDisk (state S.Store tx.new.conn.now)
-        → FindsTime collection.now (state S.Store tx.old.conn.now) (state S.Store tx.new.conn.now)
-        result }
-    ensures same { HasCleanDisk (state S.Store tx.new.conn.now) →
-        OnOk result ((state S.Store tx.new.conn.now).now ≡ (state S.Store tx.old.conn.now).now) }
-    ensures inside { HasCleanDisk (state S.Store tx.new.conn.now)
-        → IsTrue (state S.Store tx.old.conn.now).in_transaction
-        → OnOk result (IsTrue (state S.Store tx.new.conn.now).in_transaction) }
-    ensures kept { HasCleanDisk (state S.Store tx.new.conn.now)
-        → IsTrue (state S.Store tx.old.conn.now).in_transaction
-        → KeepsCommit (state S.Store tx.old.conn.now) (state S.Store tx.new.conn.now) }
-    ensures survives { Survives (state S.Store tx.old.conn.now) (state S.Store tx.new.conn.now)
-        (λ _. ⊥) }
+    ensures { StaysInside S.Store HasReasonIn (FindsTimeOf collection.now) tx.old tx.new result }
 {
-    let rows = match head_rows(tx, collection) {
+    let rows = match collection_rows(tx, collection) {
         Ok(rows) => rows,
         Err(error) => return Err(fault_of(error)),
     };
@@ -170,22 +111,10 @@ fn feature_in(alloc: Global, row: &Row, property: Option<&str>) -> Result<Writte
 
 /// Inserts the feature of a row, with its extent and its seconds.
 fn put_row<S: Alter>(tx: &mut Transaction<'_, S>, alloc: Global, row: &Row) -> Result<(), ReadFault>
-    ensures reason { HasCleanDisk (state S.Store tx.new.conn.now) →
-        IfErr result (HasReasonIn (state S.Store tx.old.conn.now) (state S.Store tx.new.conn.now)) }
-    ensures same_reference { tx.new.conn.ghost_name ≡ tx.old.conn.ghost_name }
-    ensures puts { HasCleanDisk (state S.Store tx.new.conn.now)
-        → PutsRow row.now (state S.Store tx.old.conn.now) (state S.Store tx.new.conn.now) result }
+    ensures runs { StaysInside S.Store HasReasonIn (PutsRow row.now) tx.old tx.new result }
     ensures ran { HasCleanDisk (state S.Store tx.new.conn.now) →
         IsTrue (state S.Store tx.old.conn.now).in_transaction →
         OnOk result (PutsOne S.Store row.now tx.old.conn.now tx.new.conn.now) }
-    ensures inside { HasCleanDisk (state S.Store tx.new.conn.now)
-        → IsTrue (state S.Store tx.old.conn.now).in_transaction
-        → OnOk result (IsTrue (state S.Store tx.new.conn.now).in_transaction) }
-    ensures kept { HasCleanDisk (state S.Store tx.new.conn.now)
-        → IsTrue (state S.Store tx.old.conn.now).in_transaction
-        → KeepsCommit (state S.Store tx.old.conn.now) (state S.Store tx.new.conn.now) }
-    ensures survives { Survives (state S.Store tx.old.conn.now) (state S.Store tx.new.conn.now)
-        (λ _. ⊥) }
 {
     let collection = collection_in(row)?;
     let time = find_time(tx, collection.as_str())?;
@@ -203,22 +132,10 @@ pub fn put_rows<S: Alter>(
     alloc: Global,
     rows: &[Row],
 ) -> Result<(), ReadFault>
-    ensures reason { HasCleanDisk (state S.Store tx.new.conn.now) →
-        IfErr result (HasReasonIn (state S.Store tx.old.conn.now) (state S.Store tx.new.conn.now)) }
-    ensures same_reference { tx.new.conn.ghost_name ≡ tx.old.conn.ghost_name }
-    ensures puts { HasCleanDisk (state S.Store tx.new.conn.now)
-        → PutsRows rows.now (state S.Store tx.old.conn.now) (state S.Store tx.new.conn.now) result }
+    ensures runs { StaysInside S.Store HasReasonIn (PutsRows rows.now) tx.old tx.new result }
     ensures ran { HasCleanDisk (state S.Store tx.new.conn.now) →
         IsTrue (state S.Store tx.old.conn.now).in_transaction →
         OnOk result (PutsEach S.Store rows.now tx.old.conn.now tx.new.conn.now) }
-    ensures inside { HasCleanDisk (state S.Store tx.new.conn.now)
-        → IsTrue (state S.Store tx.old.conn.now).in_transaction
-        → OnOk result (IsTrue (state S.Store tx.new.conn.now).in_transaction) }
-    ensures kept { HasCleanDisk (state S.Store tx.new.conn.now)
-        → IsTrue (state S.Store tx.old.conn.now).in_transaction
-        → KeepsCommit (state S.Store tx.old.conn.now) (state S.Store tx.new.conn.now) }
-    ensures survives { Survives (state S.Store tx.old.conn.now) (state S.Store tx.new.conn.now)
-        (λ _. ⊥) }
 {
     'rows: for row in rows {
         put_row(tx, alloc, row)?;

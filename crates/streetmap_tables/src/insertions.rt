@@ -1,9 +1,7 @@
 //! Insertions into one collection, several by one statement, inside a transaction.
-ghost use Rattle.std.specs.Prelude.{◌≡◌, ◌∷◌, IfErr, IfOk, IfSome, IsSomeAnd, List, length, map};
-ghost use Rattle.std.specs.Prelude.{◌↔◌, IsTrue, string_bytes};
+ghost use Rattle.std.specs.Prelude.{◌≡◌, ◌∷◌, IfOk, IfSome, IsSomeAnd, List, length, map, ◌↔◌};
+ghost use Rattle.std.specs.Prelude.{IsTrue, string_bytes};
 ghost use Rattle.std.specs.Option.{option_copied};
-ghost use Rattle.sqlite.specs.Held.{state};
-ghost use Rattle.sqlite.specs.State.{HasCleanDisk, Survives};
 ghost use Rattle.streetmap_geojson.specs.FeatureValue.{FeatureValue};
 ghost use Rattle.streetmap_batch.specs.BatchValue as edit;
 ghost use Rattle.streetmap_batch.specs.BatchValue.{EditValue};
@@ -11,7 +9,8 @@ ghost use Rattle.streetmap_batch.specs.BatchView.{edit_value};
 ghost use Rattle.streetmap_rows.specs.Failures.{HasReason};
 ghost use Rattle.streetmap_tables.specs.Insertions.{IsRowUnder, IsInsertion, AreInsertions};
 ghost use Rattle.streetmap_tables.specs.Insertions.{EditsAllOrNone, HasCollection, IsKnown};
-ghost use Rattle.streetmap_tables.specs.Insertions.{KeepsKnown, FindsCollection, ComesToKnow};
+ghost use Rattle.streetmap_tables.specs.Insertions.{FindsCollection, ComesToKnow, Knowing};
+ghost use Rattle.streetmap_rows.specs.TransactionCalls.{RunsInside};
 
 use crate::stored_features::text_of;
 use crate::times::{seconds_under, time_property};
@@ -101,15 +100,9 @@ fn insert_under<S: Alter>(
     edits: &[Edit],
 ) -> Result<bool, Error>
     requires { length edits.now ≡ 25 }
-    ensures same_reference { tx.new.conn.ghost_name ≡ tx.old.conn.ghost_name }
-    ensures edits { HasCleanDisk (state S.Store tx.new.conn.now)
-        → EditsAllOrNone (HasCollection collection.now (option_copied property.entry))
-        (map edit_value edits.now) (state S.Store tx.old.conn.now) (state S.Store tx.new.conn.now)
-        result }
-    ensures reason { HasCleanDisk (state S.Store tx.new.conn.now) →
-        IfErr result (HasReason (state S.Store tx.old.conn.now) (state S.Store tx.new.conn.now)) }
-    ensures survives { Survives (state S.Store tx.old.conn.now) (state S.Store tx.new.conn.now)
-        (λ _. ⊥) }
+    ensures { RunsInside S.Store HasReason (EditsAllOrNone
+        (HasCollection collection.now (option_copied property.entry)) (map edit_value edits.now))
+        tx.old tx.new result }
 {
     let Ok(found) = rows_of(alloc, collection, property, edits) else {
         return Err(Error::SqliteFailure(ErrorCode::OutOfMemory));
@@ -147,14 +140,7 @@ fn find_collection<S: Alter>(
     alloc: Global,
     collection: &str,
 ) -> Result<Option<KnownCollection>, Error>
-    ensures same_reference { tx.new.conn.ghost_name ≡ tx.old.conn.ghost_name }
-    ensures finds { HasCleanDisk (state S.Store tx.new.conn.now)
-        → FindsCollection collection.now (state S.Store tx.old.conn.now)
-        (state S.Store tx.new.conn.now) result }
-    ensures reason { HasCleanDisk (state S.Store tx.new.conn.now) →
-        IfErr result (HasReason (state S.Store tx.old.conn.now) (state S.Store tx.new.conn.now)) }
-    ensures survives { Survives (state S.Store tx.old.conn.now) (state S.Store tx.new.conn.now)
-        (λ _. ⊥) }
+    ensures { RunsInside S.Store HasReason (FindsCollection collection.now) tx.old tx.new result }
 {
     let Some(property) = time_property(tx, collection)? else {
         return Ok(None);
@@ -173,14 +159,8 @@ fn come_to_know<S: Alter>(
     collection: &str,
     known: &mut Option<KnownCollection>,
 ) -> Result<(), Error>
-    ensures same_reference { tx.new.conn.ghost_name ≡ tx.old.conn.ghost_name }
-    ensures knows { HasCleanDisk (state S.Store tx.new.conn.now)
-        → ComesToKnow collection.now known.old known.new (state S.Store tx.old.conn.now)
-        (state S.Store tx.new.conn.now) result }
-    ensures reason { HasCleanDisk (state S.Store tx.new.conn.now) →
-        IfErr result (HasReason (state S.Store tx.old.conn.now) (state S.Store tx.new.conn.now)) }
-    ensures survives { Survives (state S.Store tx.old.conn.now) (state S.Store tx.new.conn.now)
-        (λ _. ⊥) }
+    ensures { RunsInside S.Store HasReason (ComesToKnow collection.now known.old known.new)
+        tx.old tx.new result }
 {
     if is_known(known, collection) {
         return Ok(());
@@ -205,16 +185,9 @@ pub fn insert_all<S: Alter>(
     edits: &[Edit],
     known: &mut Option<KnownCollection>,
 ) -> Result<bool, Error>
-    ensures same_reference { tx.new.conn.ghost_name ≡ tx.old.conn.ghost_name }
-    ensures edits { HasCleanDisk (state S.Store tx.new.conn.now)
-        → EditsAllOrNone (IsKnown known.old) (map edit_value edits.now)
-        (state S.Store tx.old.conn.now) (state S.Store tx.new.conn.now) result }
-    ensures knows { HasCleanDisk (state S.Store tx.new.conn.now)
-        → KeepsKnown known.old known.new (state S.Store tx.old.conn.now) result }
-    ensures reason { HasCleanDisk (state S.Store tx.new.conn.now) →
-        IfErr result (HasReason (state S.Store tx.old.conn.now) (state S.Store tx.new.conn.now)) }
-    ensures survives { Survives (state S.Store tx.old.conn.now) (state S.Store tx.new.conn.now)
-        (λ _. ⊥) }
+    ensures { RunsInside S.Store HasReason (Knowing
+        (EditsAllOrNone (IsKnown known.old) (map edit_value edits.now)) known.old known.new)
+        tx.old tx.new result }
 {
     if edits.len() != ROWS {
         return Ok(false);

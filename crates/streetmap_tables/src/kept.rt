@@ -1,10 +1,8 @@
 //! What is kept for the key of a batch.
-ghost use Rattle.std.specs.Prelude.{◌≡◌, IfErr, ◌≤◌, ◌<◌, ℕ, pos, Ok, length, false, IsTrue};
-ghost use Rattle.std.specs.Prelude.{option_map};
+ghost use Rattle.std.specs.Prelude.{◌≡◌, IfErr, ◌<◌, ℕ, pos, Ok, length, false, IsTrue, option_map};
 ghost use Rattle.std.specs.FinMap.{get};
 ghost use Rattle.sqlite.specs.Held.{state};
 ghost use Rattle.sqlite.specs.State.{HasCleanDisk, Survives};
-ghost use Rattle.sqlite.specs.View.{doubt};
 ghost use Rattle.sqlite.specs.Tree.{Trees};
 ghost use Rattle.sqlite.specs.Order.{column};
 ghost use Rattle.sqlite.specs.declared.types.Value.TheVariants.{Int};
@@ -70,8 +68,6 @@ pub fn kept_reply<S: Alter>(
 ) -> Result<Option<Reply>, Error>
     requires { conn.old.in_transaction ≡ false }
     ensures idle { conn.new.in_transaction ≡ false }
-    ensures clean { doubt (state S.Store conn.old).is_clean
-        ≤ doubt (state S.Store conn.new).is_clean }
     ensures reason { HasCleanDisk (state S.Store conn.new) →
         IfErr result (HasReason (state S.Store conn.old) (state S.Store conn.new)) }
     ensures survives { Survives (state S.Store conn.old) (state S.Store conn.new) (λ _. Unit {0}) }

@@ -1,9 +1,8 @@
 //! Format 1 is migrated, in one transaction.
-ghost use Rattle.std.specs.Prelude.{◌≡◌, ◌≤◌, IsTrue, OnOk, IfErr, false};
+ghost use Rattle.std.specs.Prelude.{◌≡◌, IsTrue, OnOk, IfErr, false};
 ghost use Rattle.sqlite.specs.Held.{state};
 ghost use Rattle.sqlite.specs.State.{HasCleanDisk, KeepsCommit, Survives};
 ghost use Rattle.sqlite.specs.Schema.{Schema};
-ghost use Rattle.sqlite.specs.View.{doubt};
 ghost use Rattle.streetmap_ledger.specs.State.{State};
 ghost use Rattle.streetmap_tables.specs.Adoption.{IsAsItWas, LeavesNoMore};
 ghost use Rattle.streetmap_tables.specs.Creation.{KeepsOtherTables};
@@ -12,6 +11,7 @@ ghost use Rattle.streetmap_tables.specs.Reasons.{IsOwn, HasReasonIn, IsReturnedF
 ghost use Rattle.streetmap_tables.specs.Part.{HasCarried};
 ghost use Rattle.streetmap_tables.specs.Migration.{CarryingRefusedFor, IsRefusedOld, CarriesInside};
 ghost use Rattle.streetmap_tables.specs.Migration.{CarriesAlone, MayCarry, Carries, IsNamedFault};
+ghost use Rattle.streetmap_rows.specs.TransactionCalls.{StaysInside};
 
 use crate::adoption::read_serials;
 use crate::features::{fault_of, put_rows, take_rows};
@@ -23,22 +23,10 @@ use streetmap_rows::{ReadFault, is_memory, probe};
 
 /// Migrates the tables, inside a transaction, and returns how many batches they have accepted.
 fn carry_inside<S: Alter>(tx: &mut Transaction<'_, S>, alloc: Global) -> Result<u64, ReadFault>
-    ensures reason { HasCleanDisk (state S.Store tx.new.conn.now) →
-        IfErr result (HasReasonIn (state S.Store tx.old.conn.now) (state S.Store tx.new.conn.now)) }
-    ensures same_reference { tx.new.conn.ghost_name ≡ tx.old.conn.ghost_name }
-    ensures carries { HasCleanDisk (state S.Store tx.new.conn.now)
-        → CarriesInside (state S.Store tx.old.conn.now) (state S.Store tx.new.conn.now) result }
+    ensures runs { StaysInside S.Store HasReasonIn CarriesInside tx.old tx.new result }
     ensures carried { HasCleanDisk (state S.Store tx.new.conn.now) →
         IsTrue (state S.Store tx.old.conn.now).in_transaction →
         OnOk result (HasCarried S.Store tx.old.conn.now tx.new.conn.now) }
-    ensures inside { HasCleanDisk (state S.Store tx.new.conn.now)
-        → IsTrue (state S.Store tx.old.conn.now).in_transaction
-        → OnOk result (IsTrue (state S.Store tx.new.conn.now).in_transaction) }
-    ensures kept { HasCleanDisk (state S.Store tx.new.conn.now)
-        → IsTrue (state S.Store tx.old.conn.now).in_transaction
-        → KeepsCommit (state S.Store tx.old.conn.now) (state S.Store tx.new.conn.now) }
-    ensures survives { Survives (state S.Store tx.old.conn.now) (state S.Store tx.new.conn.now)
-        (λ _. ⊥) }
 {
     let rows = take_rows(tx)?;
     match remake_tables(tx) {
@@ -61,9 +49,6 @@ fn carry_alone<S: Alter>(alloc: Global, conn: &mut Connection<S>) -> Result<u64,
     ensures carried { HasCleanDisk (state S.Store conn.new) →
         OnOk result (HasCarried S.Store conn.old conn.new) }
     ensures idle { conn.new.in_transaction ≡ false }
-    ensures clean { doubt (state S.Store conn.old).is_clean
-        ≤ doubt (state S.Store conn.new).is_clean }
-    ensures limit { (state S.Store conn.new).step_limit ≡ (state S.Store conn.old).step_limit }
     ensures fewer { HasCleanDisk (state S.Store conn.new) →
         IfErr result (λ fault. IsOwn fault →
         LeavesNoMore (state S.Store conn.old) (state S.Store conn.new)) }
@@ -143,9 +128,6 @@ pub fn carry_tables<S: Alter>(alloc: Global, conn: &mut Connection<S>) -> Result
     ensures carried { HasCleanDisk (state S.Store conn.new) →
         OnOk result (HasCarried S.Store conn.old conn.new) }
     ensures idle { conn.new.in_transaction ≡ false }
-    ensures clean { doubt (state S.Store conn.old).is_clean
-        ≤ doubt (state S.Store conn.new).is_clean }
-    ensures limit { (state S.Store conn.new).step_limit ≡ (state S.Store conn.old).step_limit }
     ensures reported { IfErr result IsNamedFault }
     ensures fewer { HasCleanDisk (state S.Store conn.new) →
         IfErr result (λ fault. fault ≡ TablesFault.Damaged →

@@ -1,12 +1,10 @@
 //! A feature is inserted into its collection, inside a transaction.
-ghost use Rattle.std.specs.Prelude.{◌≡◌, IfErr, IfOk, IsTrue, OnOk, None};
+ghost use Rattle.std.specs.Prelude.{◌≡◌, None};
 ghost use Rattle.std.specs.Option.{option_copied};
-ghost use Rattle.sqlite.specs.Held.{state};
-ghost use Rattle.sqlite.specs.State.{HasCleanDisk, KeepsCommit, Survives};
 ghost use Rattle.streetmap_rows.specs.Rows.{feature_text};
-ghost use Rattle.streetmap_rows.specs.Calls.{RanInsert};
-ghost use Rattle.streetmap_tables.specs.StoredFeatures.{Puts};
+ghost use Rattle.streetmap_tables.specs.StoredFeatures.{PutsWithText};
 ghost use Rattle.streetmap_rows.specs.Failures.{HasReason};
+ghost use Rattle.streetmap_rows.specs.TransactionCalls.{StaysInside};
 
 use crate::times::seconds_under;
 use sqlite::{Alter, Error, ErrorCode, Transaction};
@@ -37,25 +35,9 @@ pub fn put_feature<S: Alter>(
     property: Option<&str>,
     feature: &WrittenFeature,
 ) -> Result<Option<Refusal>, Error>
-    ensures same_reference { tx.new.conn.ghost_name ≡ tx.old.conn.ghost_name }
-    ensures puts { HasCleanDisk (state S.Store tx.new.conn.now)
-        → Puts collection.now (option_copied property.entry) feature.now
-        (state S.Store tx.old.conn.now) (state S.Store tx.new.conn.now) result }
-    ensures ran { HasCleanDisk (state S.Store tx.new.conn.now) →
-        IsTrue (state S.Store tx.old.conn.now).in_transaction →
-        IfOk result (λ refusal. refusal ≡ None →
-        RanInsert (collection.now, feature.now.id) (feature_text feature.now)
-        (state S.Store tx.old.conn.now) (state S.Store tx.new.conn.now)) }
-    ensures inside { HasCleanDisk (state S.Store tx.new.conn.now)
-        → IsTrue (state S.Store tx.old.conn.now).in_transaction
-        → OnOk result (IsTrue (state S.Store tx.new.conn.now).in_transaction) }
-    ensures kept { HasCleanDisk (state S.Store tx.new.conn.now)
-        → IsTrue (state S.Store tx.old.conn.now).in_transaction
-        → KeepsCommit (state S.Store tx.old.conn.now) (state S.Store tx.new.conn.now) }
-    ensures reason { HasCleanDisk (state S.Store tx.new.conn.now) →
-        IfErr result (HasReason (state S.Store tx.old.conn.now) (state S.Store tx.new.conn.now)) }
-    ensures survives { Survives (state S.Store tx.old.conn.now) (state S.Store tx.new.conn.now)
-        (λ _. ⊥) }
+    ensures { StaysInside S.Store HasReason
+        (PutsWithText collection.now (option_copied property.entry) feature.now)
+        tx.old tx.new result }
 {
     let Ok(reported) = seconds_under(alloc, feature, property) else {
         return Err(Error::SqliteFailure(ErrorCode::OutOfMemory));

@@ -1,12 +1,11 @@
 //! The time property of a collection, and the time that it gives for a feature.
-ghost use Rattle.std.specs.Prelude.{◌≡◌, IfErr, Err, IfOk, OnErr};
+ghost use Rattle.std.specs.Prelude.{◌≡◌, Err, IfOk, OnErr};
 ghost use Rattle.std.specs.Option.{option_copied};
-ghost use Rattle.sqlite.specs.Held.{state};
-ghost use Rattle.sqlite.specs.State.{HasCleanDisk, Survives};
 ghost use Rattle.streetmap_ledger.specs.State.{timed};
 ghost use Rattle.streetmap_ledger.specs.declared.reply.Refusal.TheVariants.{BadTime};
 ghost use Rattle.streetmap_tables.specs.StoredFeatures.{FindsTime, IsTimed};
 ghost use Rattle.streetmap_rows.specs.Failures.{HasReason};
+ghost use Rattle.streetmap_rows.specs.TransactionCalls.{RunsInside};
 
 use sqlite::{Alter, Error, Transaction};
 use std::alloc::{AllocError, Global};
@@ -19,14 +18,7 @@ pub fn time_property<S: Alter>(
     tx: &mut Transaction<'_, S>,
     collection: &str,
 ) -> Result<Option<Option<String>>, Error>
-    ensures same_reference { tx.new.conn.ghost_name ≡ tx.old.conn.ghost_name }
-    ensures finds { HasCleanDisk (state S.Store tx.new.conn.now)
-        → FindsTime collection.now (state S.Store tx.old.conn.now) (state S.Store tx.new.conn.now)
-        result }
-    ensures reason { HasCleanDisk (state S.Store tx.new.conn.now) →
-        IfErr result (HasReason (state S.Store tx.old.conn.now) (state S.Store tx.new.conn.now)) }
-    ensures survives { Survives (state S.Store tx.old.conn.now) (state S.Store tx.new.conn.now)
-        (λ _. ⊥) }
+    ensures { RunsInside S.Store HasReason (FindsTime collection.now) tx.old tx.new result }
 {
     let rows = collection_rows(tx, collection)?;
     let Some(row) = rows.first() else {

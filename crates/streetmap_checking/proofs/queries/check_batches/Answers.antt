@@ -8,47 +8,35 @@ use Rattle.streetmap_checking.specs.Statements.{select_batches}
 use Rattle.streetmap_checking.specs.QueryResults.{not_good}
 use Rattle.streetmap_checking.proofs.Found.{no_serials, as_many}
 use Rattle.streetmap_checking.proofs.ReadResults.{stopped, handed}
-use Rattle.streetmap_checking.proofs.Simple.{commits_nothing, batches_simple}
+use Rattle.streetmap_checking.proofs.Simple.{query_so, batches_simple}
 use Rattle.streetmap_checking.proofs.queries.check_batches.Goals as goal
 
-pub returns-in_err-fold_rows-clause-shows : goal.returns-in_err-fold_rows-clause-shows
-returns-in_err-fold_rows-clause-shows g c clean =
+pub returns-in_err-fold_rows : goal.returns-in_err-fold_rows
+returns-in_err-fold_rows g c =
+    query_so select_batches _ batches_simple c.fold_rows.ensures (λ clean.
     let old = state g.S.Store c.args.conn.now in
     let new = state g.S.Store c.fold_rows.new.conn in
     handed _ _ old new _ _ (is_handed _ _ c.from_residual.ensures.1)
-    (stopped HoldsBatchRows IsGoodBatches select_batches [] (record { last = None; serials = c.new-serials.result }) AreBatchRows (λ rows good. good) old new c.in_err-fold_rows.field-0.0 (c.in_err-fold_rows.ensures.takes clean (batches_simple _) (record { are = record { entries = []; are = refl; rising = tt; fine = tt }; last = refl; serials = c.new-serials.ensures.items })))
+    (stopped HoldsBatchRows IsGoodBatches select_batches [] (record { last = None; serials = c.new-serials.result }) AreBatchRows (λ rows good. good) old new c.in_err-fold_rows.field-0.0 (c.in_err-fold_rows.ensures.shows clean (batches_simple _) (record { are = record { entries = []; are = refl; rising = tt; fine = tt }; last = refl; serials = c.new-serials.ensures.items }))))
 
-pub returns-in_err-are-clause-shows : goal.returns-in_err-are-clause-shows
-returns-in_err-are-clause-shows g c clean =
-    let r = c.in_ok-fold_rows.ensures.takes clean (batches_simple _) (record { are = record { entries = []; are = refl; rising = tt; fine = tt }; last = refl; serials = c.new-serials.ensures.items }) in
+pub returns-in_err-are : goal.returns-in_err-are
+returns-in_err-are g c =
+    query_so select_batches _ batches_simple c.fold_rows.ensures (λ clean.
+    let r = c.in_ok-fold_rows.ensures.shows clean (batches_simple _) (record { are = record { entries = []; are = refl; rising = tt; fine = tt }; last = refl; serials = c.new-serials.ensures.items }) in
     let p = err_from_is_err_and c.from_residual-in_err-are.result c.from_residual-in_err-are.ensures.1 in
-    rw (p.1, p.2) r.1
+    rw (p.1, p.2) r.1)
 
-pub returns-then-not-are-clause-shows : goal.returns-then-not-are-clause-shows
-returns-then-not-are-clause-shows g c clean =
-    let r = c.in_ok-fold_rows.ensures.takes clean (batches_simple _) (record { are = record { entries = []; are = refl; rising = tt; fine = tt }; last = refl; serials = c.new-serials.ensures.items }) in
+pub returns-then-not-are : goal.returns-then-not-are
+returns-then-not-are g c =
+    query_so select_batches _ batches_simple c.fold_rows.ensures (λ clean.
+    let r = c.in_ok-fold_rows.ensures.shows clean (batches_simple _) (record { are = record { entries = []; are = refl; rising = tt; fine = tt }; last = refl; serials = c.new-serials.ensures.items }) in
     let off : c.in_ok-are.are ≡ false = search rules in
-    (not_good r.0.0 r.0.1 (no_serials r.0.0 r.0.2.are _ r.0.2.serials (λ good. absurd (let on = sym off ∙ c.in_ok-are.ensures.1 (subst AreSerials (search rules) good) in cc))), r.1)
+    (not_good r.0.0 r.0.1 (no_serials r.0.0 r.0.2.are _ r.0.2.serials (λ good. absurd (let on = sym off ∙ c.in_ok-are.ensures.1 (subst AreSerials (search rules) good) in cc))), r.1))
 
-pub returns-clause-shows : goal.returns-clause-shows
-returns-clause-shows g c clean =
-    let r = c.in_ok-fold_rows.ensures.takes clean (batches_simple _) (record { are = record { entries = []; are = refl; rising = tt; fine = tt }; last = refl; serials = c.new-serials.ensures.items }) in
+pub returns : goal.returns
+returns g c =
+    query_so select_batches _ batches_simple c.fold_rows.ensures (λ clean.
+    let r = c.in_ok-fold_rows.ensures.shows clean (batches_simple _) (record { are = record { entries = []; are = refl; rising = tt; fine = tt }; last = refl; serials = c.new-serials.ensures.items }) in
     let are : AreSerials c.fold_rows.new.fold.serials.items = search rules in
     let count : c.len.result ≡ length c.fold_rows.new.fold.serials.items = search rules in
-    ((r.0.0, r.0.1, (r.0.2.are, subst AreSerials r.0.2.serials are), count ∙ as_many r.0.2.are.entries _ r.0.2.serials), r.1)
-
-pub returns-in_err-fold_rows-clause-survives : goal.returns-in_err-fold_rows-clause-survives
-returns-in_err-fold_rows-clause-survives g c =
-    commits_nothing select_batches _ batches_simple _ _ c.fold_rows.ensures.survives
-
-pub returns-in_err-are-clause-survives : goal.returns-in_err-are-clause-survives
-returns-in_err-are-clause-survives g c =
-    commits_nothing select_batches _ batches_simple _ _ c.fold_rows.ensures.survives
-
-pub returns-then-not-are-clause-survives : goal.returns-then-not-are-clause-survives
-returns-then-not-are-clause-survives g c =
-    commits_nothing select_batches _ batches_simple _ _ c.fold_rows.ensures.survives
-
-pub returns-clause-survives : goal.returns-clause-survives
-returns-clause-survives g c =
-    commits_nothing select_batches _ batches_simple _ _ c.fold_rows.ensures.survives
+    ((r.0.0, r.0.1, (r.0.2.are, subst AreSerials r.0.2.serials are), count ∙ as_many r.0.2.are.entries _ r.0.2.serials), r.1))

@@ -1,4 +1,5 @@
-use Rattle.std.proofs.Common.{◌≡◌, ◌∷◌, [], None, refl, sym, ap, subst}
+use Rattle.std.proofs.Common.{arith, rules, ◌≡◌, ◌∷◌, [], None, refl, sym, ap, subst}
+use Rattle.std.proofs.lemmas.Grind.{common_steps}
 use Rattle.sqlite.specs.Held.{state}
 use Rattle.sqlite.specs.declared.types.Value.TheVariants.{Text as Words}
 use Rattle.sqlite.proofs.StateLemmas.{unchanged}
@@ -11,39 +12,37 @@ use Rattle.streetmap_checking.specs.Statements.{select_features}
 use Rattle.streetmap_checking.specs.QueryResults.{Known}
 use Rattle.streetmap_checking.proofs.Found.{features_of}
 use Rattle.streetmap_checking.proofs.ReadResults.{stopped, handed}
-use Rattle.streetmap_checking.proofs.Simple.{commits_nothing, features_simple}
+use Rattle.streetmap_checking.proofs.Simple.{query_so, features_simple}
 use Rattle.streetmap_checking.proofs.queries.check_features.Goals as goal
 
-pub returns-in_err-fold_rows-clause-shows : goal.returns-in_err-fold_rows-clause-shows
-returns-in_err-fold_rows-clause-shows g c clean live =
+pub returns-in_err-fold_rows : goal.returns-in_err-fold_rows
+returns-in_err-fold_rows g c =
+    query_so select_features _ features_simple c.fold_rows.ensures (λ clean live.
     let old = state g.S.Store c.args.conn.now in
     let new = state g.S.Store c.fold_rows.new.conn in
     let name : c.as_str-id.result.now ≡ (known_of c.args.head.now).0 = c.as_str-id.ensures.value in
     let same = ap (λ (k : Known). k.1) c.in_ok-copy.ensures in
-    let took = rw (c.params-to_sql.ensures, name) at (c.in_err-fold_rows.ensures.takes clean) in
+    let took = rw (c.params-to_sql.ensures, name) at (c.in_err-fold_rows.ensures.shows clean) in
     handed _ _ old new _ _ (is_handed _ _ c.from_residual-in_err-fold_rows.ensures.1)
     (stopped HoldsFeatureRows IsGoodFeatures select_features (Words (known_of c.args.head.now).0 ∷ []) (record { alloc = c.args.alloc; head = c.in_ok-copy.copy; last = None; count = 0 }) (AreFeatureRows (known_of c.args.head.now).1) (λ rows good. subst (λ p. AreFeatureRows p rows) (sym same) good) old new c.in_err-fold_rows.field-0.0
-    (took (features_simple _) (record { head = refl; are = record { entries = []; are = refl; rising = tt; fine = tt }; last = refl; counted = refl })))
+    (took (features_simple _) (record { head = refl; are = record { entries = []; are = refl; rising = tt; fine = tt }; last = refl; counted = refl }))))
 
-pub returns-clause-shows : goal.returns-clause-shows
-returns-clause-shows g c clean live =
+pub returns : goal.returns
+returns g c =
+    query_so select_features _ features_simple c.fold_rows.ensures (λ clean live.
     let name : c.as_str-id.result.now ≡ (known_of c.args.head.now).0 = c.as_str-id.ensures.value in
     let same = ap (λ (k : Known). k.1) c.in_ok-copy.ensures in
-    let took = rw (c.params-to_sql.ensures, name) at (c.in_ok-fold_rows.ensures.takes clean) in
+    let took = rw (c.params-to_sql.ensures, name) at (c.in_ok-fold_rows.ensures.shows clean) in
     let r = took (features_simple _) (record { head = refl; are = record { entries = []; are = refl; rising = tt; fine = tt }; last = refl; counted = refl }) in
     let f = features_of _ _ r.0.0 _ same (r.0.2.are, r.0.2.counted) in
-    ((r.0.0, r.0.1, f.0, f.1), r.1)
+    ((r.0.0, r.0.1, f.0, f.1), r.1))
 
-pub returns-in_err-fold_rows-clause-survives : goal.returns-in_err-fold_rows-clause-survives
-returns-in_err-fold_rows-clause-survives g c =
-    commits_nothing select_features _ features_simple _ _ c.fold_rows.ensures.survives
-
-pub returns-clause-survives : goal.returns-clause-survives
-returns-clause-survives g c =
-    commits_nothing select_features _ features_simple _ _ c.fold_rows.ensures.survives
-
-pub returns-in_err-copy-clause-shows : goal.returns-in_err-copy-clause-shows
-returns-in_err-copy-clause-shows g c clean live =
-    let same = unchanged (state g.S.Store c.args.conn.now) live in
-    let p = err_from_is_err_and c.from_residual.result c.from_residual.ensures.1 in
-    rw (p.1, p.2) same
+pub returns-in_err-copy : goal.returns-in_err-copy
+returns-in_err-copy g c = record {
+  shows = λ clean live.
+      let same = unchanged (state g.S.Store c.args.conn.now) live in
+      let p = err_from_is_err_and c.from_residual.result c.from_residual.ensures.1 in
+      rw (p.1, p.2) same;
+  mode = first_of (search rules, grind (arith, common_steps));
+  survives = first_of (search rules, grind (arith, common_steps));
+}

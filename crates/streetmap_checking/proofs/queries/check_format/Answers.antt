@@ -7,33 +7,24 @@ use Rattle.streetmap_checking.specs.Statements.{select_formats}
 use Rattle.streetmap_checking.specs.QueryResults.{not_good}
 use Rattle.streetmap_checking.proofs.Found.{format_found, format_lost}
 use Rattle.streetmap_checking.proofs.ReadResults.{stopped, handed}
-use Rattle.streetmap_checking.proofs.Simple.{commits_nothing, formats_simple}
+use Rattle.streetmap_checking.proofs.Simple.{query_so, formats_simple}
 use Rattle.streetmap_checking.proofs.queries.check_format.Goals as goal
 
-pub returns-in_err-fold_rows-clause-shows : goal.returns-in_err-fold_rows-clause-shows
-returns-in_err-fold_rows-clause-shows g c clean =
+pub returns-in_err-fold_rows : goal.returns-in_err-fold_rows
+returns-in_err-fold_rows g c =
+    query_so select_formats _ formats_simple c.fold_rows.ensures (λ clean.
     let old = state g.S.Store c.args.conn.now in
     let new = state g.S.Store c.fold_rows.new.conn in
-    handed _ _ old new _ _ (is_handed _ _ c.from_residual.ensures.1) (stopped HoldsFormatRows IsGoodFormat select_formats [] (record { found = 0 }) AreFormatRows (λ rows good. good) old new c.in_err-fold_rows.field-0.0 (c.in_err-fold_rows.ensures.takes clean (formats_simple _) (inl (refl, refl))))
+    handed _ _ old new _ _ (is_handed _ _ c.from_residual.ensures.1) (stopped HoldsFormatRows IsGoodFormat select_formats [] (record { found = 0 }) AreFormatRows (λ rows good. good) old new c.in_err-fold_rows.field-0.0 (c.in_err-fold_rows.ensures.shows clean (formats_simple _) (inl (refl, refl)))))
 
-pub returns-then-rows-eq0-clause-shows : goal.returns-then-rows-eq0-clause-shows
-returns-then-rows-eq0-clause-shows g c clean =
-    let r = c.in_ok-fold_rows.ensures.takes clean (formats_simple _) (inl (refl, refl)) in
-    (not_good r.0.0 r.0.1 (format_lost (record { found = 0 }) c.fold_rows.new.fold r.0.0 r.0.2 (search rules)), r.1)
+pub returns-then-rows-eq0 : goal.returns-then-rows-eq0
+returns-then-rows-eq0 g c =
+    query_so select_formats _ formats_simple c.fold_rows.ensures (λ clean.
+    let r = c.in_ok-fold_rows.ensures.shows clean (formats_simple _) (inl (refl, refl)) in
+    (not_good r.0.0 r.0.1 (format_lost (record { found = 0 }) c.fold_rows.new.fold r.0.0 r.0.2 (search rules)), r.1))
 
-pub returns-clause-shows : goal.returns-clause-shows
-returns-clause-shows g c clean =
-    let r = c.in_ok-fold_rows.ensures.takes clean (formats_simple _) (inl (refl, refl)) in
-    ((r.0.0, r.0.1, format_found (record { found = 0 }) c.fold_rows.new.fold r.0.0 r.0.2 (λ none. absurd (omega (arith, none)))), r.1)
-
-pub returns-in_err-fold_rows-clause-survives : goal.returns-in_err-fold_rows-clause-survives
-returns-in_err-fold_rows-clause-survives g c =
-    commits_nothing select_formats _ formats_simple _ _ c.fold_rows.ensures.survives
-
-pub returns-then-rows-eq0-clause-survives : goal.returns-then-rows-eq0-clause-survives
-returns-then-rows-eq0-clause-survives g c =
-    commits_nothing select_formats _ formats_simple _ _ c.fold_rows.ensures.survives
-
-pub returns-clause-survives : goal.returns-clause-survives
-returns-clause-survives g c =
-    commits_nothing select_formats _ formats_simple _ _ c.fold_rows.ensures.survives
+pub returns : goal.returns
+returns g c =
+    query_so select_formats _ formats_simple c.fold_rows.ensures (λ clean.
+    let r = c.in_ok-fold_rows.ensures.shows clean (formats_simple _) (inl (refl, refl)) in
+    ((r.0.0, r.0.1, format_found (record { found = 0 }) c.fold_rows.new.fold r.0.0 r.0.2 (λ none. absurd (omega (arith, none)))), r.1))

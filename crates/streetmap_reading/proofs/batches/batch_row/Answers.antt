@@ -1,17 +1,19 @@
 use Rattle.std.proofs.Common.{sym, option_map, pos, [], ◌∷◌, ◌∙◌, to_z-of_z}
 use Rattle.sqlite.specs.Held.{state}
 use Rattle.sqlite.specs.declared.types.Value.TheVariants.{Int}
-use Rattle.streetmap_reading.proofs.PageStatements.{stays_by, popped, survives_any}
+use Rattle.streetmap_ledger.specs.Kept.{batch_in}
+use Rattle.streetmap_rows.proofs.ReadsInTurn.{read_by}
+use Rattle.streetmap_reading.proofs.PageStatements.{popped}
 use Rattle.streetmap_reading.proofs.QueryFails.{reported}
 use Rattle.streetmap_reading.proofs.WholeQueries.{answered}
-use Rattle.streetmap_ledger.specs.Kept.{batch_in}
 use Rattle.streetmap_reading.specs.Serials.{row_of}
 use Rattle.streetmap_reading.specs.BatchStatements.{select_serial}
 use Rattle.streetmap_reading.proofs.SerialStatement.{serial_at}
 use Rattle.streetmap_reading.proofs.batches.batch_row.Goals as goal
 
-pub returns-in-Ok-clause-finds : goal.returns-in-Ok-clause-finds
-returns-in-Ok-clause-finds g c n is clean = λ s limit keeps.
+pub returns-in-Ok : goal.returns-in-Ok
+returns-in-Ok g c =
+    read_by select_serial _ c.in-Ok.ensures.mode c.in-Ok.ensures.survives (λ s keeps. (serial_at _ s keeps 1).plain) (λ clean n is s limit keeps.
     let old = state g.S.Store c.args.conn.now in
     let new = state g.S.Store c.query_all.new.self in
     let value = to_z-of_z c.ranges.serial ∙ is in
@@ -21,26 +23,12 @@ returns-in-Ok-clause-finds g c n is clean = λ s limit keeps.
       popped (option_map row_of (batch_in s n)) c.pop.result c.pop.new.self.items c.in-Ok.rows.items
           _ _ shown.0 c.pop.ensures.items (sym c.in-Ok.rows.ok.0) c.pop.ensures.cases,
       shown.1,
-    )
+    ))
 
-pub returns-in-Ok-clause-stays : goal.returns-in-Ok-clause-stays
-returns-in-Ok-clause-stays g c =
-    stays_by select_serial _ _ _ c.in-Ok.ensures.survives (λ s keeps. (serial_at _ s keeps 1).plain)
-
-pub returns-in-Err-clause-finds : goal.returns-in-Err-clause-finds
-returns-in-Err-clause-finds g c n is clean = λ s limit keeps.
+pub returns-in-Err : goal.returns-in-Err
+returns-in-Err g c =
+    read_by select_serial _ c.in-Err.ensures.mode c.in-Err.ensures.survives (λ s keeps. (serial_at _ s keeps 1).plain) (λ clean n is s limit keeps.
     let value = to_z-of_z c.ranges.serial ∙ is in
     let ran = rw (c.params-to_sql.ensures, value) at (c.in-Err.ensures.err clean) in
     reported select_serial (Int (pos n) ∷ []) (state g.S.Store c.args.conn.now)
-    (state g.S.Store c.query_all.new.self) _ (serial_at _ s keeps n) limit c.in-Err.error ran
-
-pub returns-in-Err-clause-stays : goal.returns-in-Err-clause-stays
-returns-in-Err-clause-stays g c =
-    stays_by select_serial _ _ _ c.in-Err.ensures.survives
-    (λ s keeps. (serial_at _ s keeps 1).plain)
-
-pub returns-in-Ok-clause-survives : goal.returns-in-Ok-clause-survives
-returns-in-Ok-clause-survives g c = survives_any _ _ _ c.in-Ok.ensures.survives
-
-pub returns-in-Err-clause-survives : goal.returns-in-Err-clause-survives
-returns-in-Err-clause-survives g c = survives_any _ _ _ c.in-Err.ensures.survives
+    (state g.S.Store c.query_all.new.self) _ (serial_at _ s keeps n) limit c.in-Err.error ran)

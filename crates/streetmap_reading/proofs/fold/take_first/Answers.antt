@@ -3,7 +3,8 @@ use Rattle.sqlite.specs.Held.{state}
 use Rattle.sqlite.proofs.Callers.{given_begin, unchanged_then}
 use Rattle.streetmap_rows.proofs.ResultCases.{handed_on}
 use Rattle.streetmap_reading.specs.FoldEffects.{TookNext}
-use Rattle.streetmap_reading.proofs.BetweenRows.{given_open, survives_still, survives_on, clean_before}
+use Rattle.streetmap_reading.proofs.BetweenRows.{given_open, survives_still, survives_on}
+use Rattle.streetmap_rows.proofs.ReadsInTurn.{clean_before}
 use Rattle.streetmap_reading.proofs.ShownQueries.{simple_there, begins_there}
 use Rattle.streetmap_reading.proofs.Stopping.{stops_on, sees_on}
 use Rattle.streetmap_reading.proofs.fold.take_first.Goals as goal

@@ -3,7 +3,7 @@ use Rattle.std.specs.Option.{option_copied}
 use Rattle.sqlite.specs.Given.{HasGiven}
 use Rattle.sqlite.specs.Held.{state}
 use Rattle.streetmap_rows.proofs.ResultCases.{handed_on}
-use Rattle.streetmap_reading.specs.FoldStops.{Stopped}
+use Rattle.streetmap_rows.specs.TableReads.{Stopped}
 use Rattle.streetmap_reading.proofs.NextRow.{at_end, at_row, at_fault}
 use Rattle.streetmap_reading.proofs.RowsInTurn.{none_mapped}
 use Rattle.streetmap_reading.specs.Scans.{HaveKeys}

@@ -2,7 +2,8 @@ use Rattle.std.proofs.Common.{◌<◌, ◌^◌, length, refl, ap, subst, ◌∙�
 use Rattle.std.proofs.Common.{arith}
 use Rattle.sqlite.proofs.Callers.{unchanged_then}
 use Rattle.streetmap_rows.proofs.ResultCases.{handed_on}
-use Rattle.streetmap_reading.proofs.BetweenRows.{survives_on, stopped_on, clean_before}
+use Rattle.streetmap_reading.proofs.BetweenRows.{survives_on}
+use Rattle.streetmap_rows.proofs.ReadsInTurn.{stopped_on, clean_before}
 use Rattle.streetmap_rows.specs.declared.fault.ReadFault.TheVariants.{Memory}
 use Rattle.streetmap_ledger.specs.KeptView.{keyed_batches}
 use Rattle.streetmap_reading.specs.Scans.{TookBatch}

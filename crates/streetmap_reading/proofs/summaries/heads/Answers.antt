@@ -11,15 +11,16 @@ use Rattle.streetmap_rows.specs.Rows.{collection_cells}
 use Rattle.streetmap_rows.specs.Statements.{select_collections}
 use Rattle.streetmap_rows.proofs.ResultCases.{handed_on}
 use Rattle.streetmap_reading.proofs.Folded.{folded}
-use Rattle.streetmap_reading.proofs.PageStatements.{stays_by, survives_any}
 use Rattle.streetmap_reading.specs.Held.{head_of, HoldsHeads}
 use Rattle.streetmap_reading.specs.Views.{IsHeadRow}
 use Rattle.streetmap_reading.proofs.RowsInTurn.{none_mapped}
 use Rattle.streetmap_reading.proofs.ShownOutlines.{collections_at, names_each, head_rows}
+use Rattle.streetmap_rows.proofs.ReadsInTurn.{reads_by}
 use Rattle.streetmap_reading.proofs.summaries.heads.Goals as goal
 
-pub returns-clause-shows : goal.returns-clause-shows
-returns-clause-shows g c clean = λ s limit keeps.
+pub returns : goal.returns
+returns g c =
+    reads_by select_collections _ c.in_ok-fold_rows.ensures (λ s keeps. (collections_at _ s keeps).plain) (λ clean took s limit keeps.
     let old = state g.S.Store c.args.conn.now in
     let new = state g.S.Store c.fold_rows.new.conn in
     let reported_of : Text × Collection → SummaryValue = λ e. head_of e.0 e.1 in
@@ -29,12 +30,13 @@ returns-clause-shows g c clean = λ s limit keeps.
     let took = folded (λ _. HoldsHeads) (λ _. AllByRecursion IsHeadRow) select_collections [] old
     new c.new-heads.result c.fold_rows.new.fold _ (collections_at _ s keeps) limit
     (head_rows _ s keeps) (Ok tt)
-    (c.in_ok-fold_rows.ensures.takes clean)
+    took
     (λ es is fine. none ∙ sym (ap (map reported_of) (none_mapped cells es is))) in
-    (took.0 (entries s.collections) refl (names_each _ s keeps), took.1)
+    (took.0 (entries s.collections) refl (names_each _ s keeps), took.1))
 
-pub returns-in_err-fold_rows-clause-shows : goal.returns-in_err-fold_rows-clause-shows
-returns-in_err-fold_rows-clause-shows g c clean = λ s limit keeps.
+pub returns-in_err-fold_rows : goal.returns-in_err-fold_rows
+returns-in_err-fold_rows g c =
+    reads_by select_collections _ c.in_err-fold_rows.ensures (λ s keeps. (collections_at _ s keeps).plain) (λ clean took s limit keeps.
     let old = state g.S.Store c.args.conn.now in
     let new = state g.S.Store c.fold_rows.new.conn in
     let reported_of : Text × Collection → SummaryValue = λ e. head_of e.0 e.1 in
@@ -44,18 +46,6 @@ returns-in_err-fold_rows-clause-shows g c clean = λ s limit keeps.
     let reported = folded (λ _. HoldsHeads) (λ _. AllByRecursion IsHeadRow) select_collections [] old
     new c.new-heads.result c.fold_rows.new.fold _ (collections_at _ s keeps) limit
     (head_rows _ s keeps) (Err c.in_err-fold_rows.field-0.0)
-    (c.in_err-fold_rows.ensures.takes clean)
+    took
     (λ es is fine. none ∙ sym (ap (map reported_of) (none_mapped cells es is))) in
-    handed_on _ _ _ _ c.from_residual.ensures.1 reported
-
-pub returns-clause-stays : goal.returns-clause-stays
-returns-clause-stays g c = stays_by select_collections _ _ _ c.fold_rows.ensures.survives (λ s keeps. (collections_at _ s keeps).plain)
-
-pub returns-in_err-fold_rows-clause-stays : goal.returns-in_err-fold_rows-clause-stays
-returns-in_err-fold_rows-clause-stays g c = stays_by select_collections _ _ _ c.fold_rows.ensures.survives (λ s keeps. (collections_at _ s keeps).plain)
-
-pub returns-clause-survives : goal.returns-clause-survives
-returns-clause-survives g c = survives_any _ _ _ c.fold_rows.ensures.survives
-
-pub returns-in_err-fold_rows-clause-survives : goal.returns-in_err-fold_rows-clause-survives
-returns-in_err-fold_rows-clause-survives g c = survives_any _ _ _ c.fold_rows.ensures.survives
+    handed_on _ _ _ _ c.from_residual.ensures.1 reported)

@@ -1,27 +1,28 @@
-use Rattle.std.proofs.Common.{sym, subst}
+use Rattle.std.proofs.Common.{arith, rules, sym, subst}
+use Rattle.std.proofs.lemmas.Grind.{common_steps}
 use Rattle.sqlite.specs.Held.{state}
 use Rattle.streetmap_rows.specs.Representations.{StandsFor}
 use Rattle.streetmap_rows.specs.Elsewhere.{IsSameElsewhere}
 use Rattle.streetmap_rows.proofs.ResultCases.{handed_on, err_handed_on}
 use Rattle.streetmap_rows.proofs.ErrorReasons.{run_inside}
 use Rattle.streetmap_rows.proofs.StateWrites.{delete_represented, delete_reported}
+use Rattle.streetmap_rows.proofs.StatementsInside.{ran_inside, failed_inside}
 use Rattle.streetmap_rows.proofs.writes.delete_feature.Goals as goal
 
-pub returns-clause-writes : goal.returns-clause-writes
-returns-clause-writes g c clean inside limit s t represented leads =
+pub returns : goal.returns
+returns g c =
+    let run = c.in_ok-execute.ensures in
+    ran_inside _ _ run.same_reference run.survives _ run.runs (λ clean inside limit s t represented leads.
     let old = state g.S.Store c.args.tx.now.conn.now in
     let new = state g.S.Store c.execute.new.self.conn.now in
     let ran = rw (c.params-to_sql.ensures, c.params-to_sql-2.ensures) at (c.in_ok-execute.ensures.runs clean inside) in
-    subst (λ x. StandsFor x new.now × IsSameElsewhere old.now new.now) (sym leads.is) (delete_represented old new s represented limit (c.args.collection.now, c.args.id.now) leads.collection leads.there leads.feature leads.found _ ran.0)
+    subst (λ x. StandsFor x new.now × IsSameElsewhere old.now new.now) (sym leads.is) (delete_represented old new s represented limit (c.args.collection.now, c.args.id.now) leads.collection leads.there leads.feature leads.found _ ran.0))
 
-pub returns-in_err-execute-clause-writes : goal.returns-in_err-execute-clause-writes
-returns-in_err-execute-clause-writes g c clean inside limit s t represented leads =
+pub returns-in_err-execute : goal.returns-in_err-execute
+returns-in_err-execute g c =
+    let run = c.in_err-execute.ensures in
+    failed_inside _ _ run.same_reference run.survives run.ended run.runs c.from_residual.ensures.1 (λ clean inside limit s t represented leads.
     let old = state g.S.Store c.args.tx.now.conn.now in
     let new = state g.S.Store c.execute.new.self.conn.now in
     let ran = rw (c.params-to_sql.ensures, c.params-to_sql-2.ensures) at (c.in_err-execute.ensures.runs clean inside) in
-    handed_on c.from_residual.result c.in_err-execute.field-0.0 _ _ c.from_residual.ensures.1 (delete_reported old new s represented limit (c.args.collection.now, c.args.id.now) leads.collection leads.there leads.feature leads.found _ ran)
-
-pub returns-in_err-execute-clause-reason : goal.returns-in_err-execute-clause-reason
-returns-in_err-execute-clause-reason g c clean =
-    err_handed_on c.from_residual.result c.in_err-execute.field-0.0 _ c.from_residual.ensures.1
-    (run_inside (state g.S.Store c.args.tx.now.conn.now) (state g.S.Store c.execute.new.self.conn.now) _ _ _ c.in_err-execute.ensures.ended (c.in_err-execute.ensures.runs clean))
+    handed_on c.from_residual.result c.in_err-execute.field-0.0 _ _ c.from_residual.ensures.1 (delete_reported old new s represented limit (c.args.collection.now, c.args.id.now) leads.collection leads.there leads.feature leads.found _ ran))

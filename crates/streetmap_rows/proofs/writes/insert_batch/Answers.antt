@@ -1,4 +1,5 @@
-use Rattle.std.proofs.Common.{rules, ◌≡◌, pos, Ok, Err, sym, subst}
+use Rattle.std.proofs.Common.{arith, rules, ◌≡◌, pos, Ok, Err, sym, subst}
+use Rattle.std.proofs.lemmas.Grind.{common_steps}
 use Rattle.sqlite.specs.Held.{state}
 use Rattle.sqlite_value.specs.Value.{owned}
 use Rattle.sqlite.specs.State.{ExecutesInside}
@@ -10,10 +11,13 @@ use Rattle.streetmap_rows.proofs.ResultCases.{handed_on, err_handed_on}
 use Rattle.streetmap_rows.proofs.ErrorReasons.{run_inside}
 use Rattle.streetmap_rows.proofs.StateWrites.{keep_represented, keep_reported}
 use Rattle.streetmap_rows.proofs.BoundParameters.{seven}
+use Rattle.streetmap_rows.proofs.StatementsInside.{ran_inside, failed_inside}
 use Rattle.streetmap_rows.proofs.writes.insert_batch.Goals as goal
 
-pub returns-clause-writes : goal.returns-clause-writes
-returns-clause-writes g c clean inside limit s t represented leads =
+pub returns : goal.returns
+returns g c =
+    let run = c.in_ok-execute.ensures in
+    ran_inside _ _ run.same_reference run.survives _ run.runs (λ clean inside limit s t represented leads.
     let old = state g.S.Store c.args.tx.now.conn.now in
     let new = state g.S.Store c.execute.new.self.conn.now in
     let e3 : owned c.params-to_sql-3.result ≡ Int (pos c.args.counts.opened) = search rules in
@@ -22,10 +26,12 @@ returns-clause-writes g c clean inside limit s t represented leads =
     let e6 : owned c.params-to_sql-6.result ≡ Int (pos c.args.counts.deleted) = search rules in
     let e7 : owned c.params-to_sql-7.result ≡ Int (pos c.args.serial) = search rules in
     let ran = subst (λ row. ExecutesInside 0 insert_batch row old new (Ok c.in_ok-execute.field-0)) (seven c.params-to_sql.ensures c.params-to_sql-2.ensures e3 e4 e5 e6 e7) (c.in_ok-execute.ensures.runs clean inside) in
-    subst (λ x. StandsFor x new.now × IsSameElsewhere old.now new.now) (sym leads.is) (keep_represented old new s represented limit c.args.key.now (record { text = c.args.text.now; counts = c.args.counts; serial = c.args.serial }) leads.absent leads.next leads.counted _ ran.0)
+    subst (λ x. StandsFor x new.now × IsSameElsewhere old.now new.now) (sym leads.is) (keep_represented old new s represented limit c.args.key.now (record { text = c.args.text.now; counts = c.args.counts; serial = c.args.serial }) leads.absent leads.next leads.counted _ ran.0))
 
-pub returns-in_err-execute-clause-writes : goal.returns-in_err-execute-clause-writes
-returns-in_err-execute-clause-writes g c clean inside limit s t represented leads =
+pub returns-in_err-execute : goal.returns-in_err-execute
+returns-in_err-execute g c =
+    let run = c.in_err-execute.ensures in
+    failed_inside _ _ run.same_reference run.survives run.ended run.runs c.from_residual.ensures.1 (λ clean inside limit s t represented leads.
     let old = state g.S.Store c.args.tx.now.conn.now in
     let new = state g.S.Store c.execute.new.self.conn.now in
     let e3 : owned c.params-to_sql-3.result ≡ Int (pos c.args.counts.opened) = search rules in
@@ -34,9 +40,4 @@ returns-in_err-execute-clause-writes g c clean inside limit s t represented lead
     let e6 : owned c.params-to_sql-6.result ≡ Int (pos c.args.counts.deleted) = search rules in
     let e7 : owned c.params-to_sql-7.result ≡ Int (pos c.args.serial) = search rules in
     let ran = subst (λ row. ExecutesInside 0 insert_batch row old new (Err c.in_err-execute.field-0.0)) (seven c.params-to_sql.ensures c.params-to_sql-2.ensures e3 e4 e5 e6 e7) (c.in_err-execute.ensures.runs clean inside) in
-    handed_on c.from_residual.result c.in_err-execute.field-0.0 _ _ c.from_residual.ensures.1 (keep_reported old new s represented limit c.args.key.now (record { text = c.args.text.now; counts = c.args.counts; serial = c.args.serial }) leads.absent leads.next leads.counted _ ran)
-
-pub returns-in_err-execute-clause-reason : goal.returns-in_err-execute-clause-reason
-returns-in_err-execute-clause-reason g c clean =
-    err_handed_on c.from_residual.result c.in_err-execute.field-0.0 _ c.from_residual.ensures.1
-    (run_inside (state g.S.Store c.args.tx.now.conn.now) (state g.S.Store c.execute.new.self.conn.now) _ _ _ c.in_err-execute.ensures.ended (c.in_err-execute.ensures.runs clean))
+    handed_on c.from_residual.result c.in_err-execute.field-0.0 _ _ c.from_residual.ensures.1 (keep_reported old new s represented limit c.args.key.now (record { text = c.args.text.now; counts = c.args.counts; serial = c.args.serial }) leads.absent leads.next leads.counted _ ran))

@@ -11,7 +11,7 @@ returns-in-Err-clause-reads_state g c clean s rests =
     let old = state g.S.Store c.args.conn.now in
     let new = state g.S.Store c.kept_rows.new.conn in
     let r = c.in-Err.ensures.reads_state clean rests.unlimited s rests.kept.rows in
-    (r.0, rests_if_open old new s r.1 (c.is_autocommit-idle.ensures.settled (search rules)) c.kept_rows.ensures.limit rests)
+    (r.0, rests_if_open old new s r.1 (c.is_autocommit-idle.ensures.settled (search rules)) c.kept_rows.ensures.survives.limit rests)
 
 pub returns-in-Err-clause-crash : goal.returns-in-Err-clause-crash
 returns-in-Err-clause-crash g c clean s rests trees left = c.in-Err.ensures.crash clean s rests.kept.rows trees left
@@ -22,7 +22,7 @@ returns-clause-reads_state g c clean s rests =
     let k = the_row kept_view (get s.keys c.args.key.now) c.deref.result.now c.in-Some.row.now (search rules) c.in-Some.ensures.value in
     let is = c.in_ok-reply.ensures.reads k.0 k.2 in
     let same : c.in_ok-reply.reply ≡ kept_answer c.args.text.now k.0 = cc in
-    (rw (k.1, same) refl, rests_still (state g.S.Store c.args.conn.now) (state g.S.Store c.kept_rows.new.conn) s r.1 c.kept_rows.ensures.limit rests)
+    (rw (k.1, same) refl, rests_still (state g.S.Store c.args.conn.now) (state g.S.Store c.kept_rows.new.conn) s r.1 c.kept_rows.ensures.survives.limit rests)
 
 pub returns-in_err-reply-clause-reads_state : goal.returns-in_err-reply-clause-reads_state
 returns-in_err-reply-clause-reads_state g c clean s rests =
@@ -35,7 +35,7 @@ pub returns-in_default-clause-reads_state : goal.returns-in_default-clause-reads
 returns-in_default-clause-reads_state g c clean s rests =
     let r = c.in-Ok.ensures.reads_state clean rests.unlimited s rests.kept.rows in
     let none = no_row kept_view (get s.keys c.args.key.now) c.deref.result.now (search rules) c.in_default.ensures.value in
-    (rw none refl, rests_still (state g.S.Store c.args.conn.now) (state g.S.Store c.kept_rows.new.conn) s r.1 c.kept_rows.ensures.limit rests)
+    (rw none refl, rests_still (state g.S.Store c.args.conn.now) (state g.S.Store c.kept_rows.new.conn) s r.1 c.kept_rows.ensures.survives.limit rests)
 
 pub returns-in-Err-clause-same : goal.returns-in-Err-clause-same
 returns-in-Err-clause-same g c clean s rests live =

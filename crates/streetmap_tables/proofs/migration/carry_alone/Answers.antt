@@ -15,8 +15,8 @@ returns-in-Err-clause-carries g c clean s rests =
     let mid = state g.S.Store c.carry_inside.new.tx.conn.now in
     let early : HasCleanDisk mid = clean_back mid _ _ c.rollback.ensures.survives (search rules) in
     let keeps : KeepsOld s start.now = rw begun rests.kept in
-    let held : CarryingRefusedFor (state g.S.Store c.args.conn.now).now.schema c.in-Err.fault = rw begun at (c.in-Err.ensures.carries early (rw begun rests.unlimited) (rw begun refl) s keeps) in
-    let it = same_after_rollback (state g.S.Store c.args.conn.now) start mid _ (rw begun refl) (c.in-Err.ensures.kept early (rw begun refl)) (c.rollback.ensures.undone (search rules)) rests.settled in
+    let held : CarryingRefusedFor (state g.S.Store c.args.conn.now).now.schema c.in-Err.fault = rw begun at (c.in-Err.ensures.runs.does early (rw begun rests.unlimited) (rw begun refl) s keeps) in
+    let it = same_after_rollback (state g.S.Store c.args.conn.now) start mid _ (rw begun refl) (c.in-Err.ensures.runs.kept early (rw begun refl)) (c.rollback.ensures.undone (search rules)) rests.settled in
     (held, search (rules, it))
 
 pub returns-in-Ok-commit-clause-carried : goal.returns-in-Ok-commit-clause-carried

@@ -23,7 +23,7 @@ returns-in-Err-clause-carries g c clean s rests =
     let after = c.report.new.conn.store in
     let early = clean_back mid new _ c.report.ensures.survives clean in
     let same = same_settled old mid new (c.in-Err.ensures.same early) (c.report.ensures.kept clean) c.report.ensures.settled rests.settled in
-    refused_old s old new c.report.result (c.report.ensures.reported clean old.now.schema (c.in-Err.ensures.carries early s rests).0) (λ live. old_same old new s rests (same live) (c.report.ensures.survives.limit ∙ c.carry_alone.ensures.limit) live)
+    refused_old s old new c.report.result (c.report.ensures.reported clean old.now.schema (c.in-Err.ensures.carries early s rests).0) (λ live. old_same old new s rests (same live) (c.report.ensures.survives.limit ∙ c.carry_alone.ensures.survives.limit) live)
     (λ memory.
     let live = c.report.ensures.live clean memory in (
       live,

@@ -30,7 +30,7 @@ returns-in-Err-OldFormat-clause-carries g c clean s rests =
     let old = state g.S.Store c.args.conn.now in
     let mid = state g.S.Store c.adopt_tables.new.conn in
     let new = state g.S.Store c.carry_tables.new.conn in
-    let early : HasCleanDisk mid = omega (arith, clean, c.carry_tables.ensures.clean) in
+    let early : HasCleanDisk mid = omega (arith, clean, c.carry_tables.ensures.survives.clean) in
     let live : IsTrue mid.is_open = rw c.in-Err-OldFormat.field-0-is at (c.in-Err-OldFormat.ensures.live early) in
     let same = c.in-Err-OldFormat.ensures.same early rests.settled live in
     let leaves : LeavesTheSame old mid = (
@@ -44,7 +44,7 @@ returns-in-Err-OldFormat-clause-elsewhere g c clean s rests opened =
     let old = state g.S.Store c.args.conn.now in
     let mid = state g.S.Store c.adopt_tables.new.conn in
     let new = state g.S.Store c.carry_tables.new.conn in
-    let early : HasCleanDisk mid = omega (arith, clean, c.carry_tables.ensures.clean) in
+    let early : HasCleanDisk mid = omega (arith, clean, c.carry_tables.ensures.survives.clean) in
     let live : IsTrue mid.is_open = rw c.in-Err-OldFormat.field-0-is at (c.in-Err-OldFormat.ensures.live early) in
     let same = c.in-Err-OldFormat.ensures.same early rests.settled live in
     subst (λ (d : Database). KeepsOtherTables d new.now) same.0 (c.carry_tables.ensures.elsewhere clean s (old_same old mid s rests same c.adopt_tables.ensures.survives.limit live) opened)
@@ -53,7 +53,7 @@ pub returns-in-Err-OldFormat-clause-crash : goal.returns-in-Err-OldFormat-clause
 returns-in-Err-OldFormat-clause-crash g c clean s rests trees may =
     let old = state g.S.Store c.args.conn.now in
     let mid = state g.S.Store c.adopt_tables.new.conn in
-    let early : HasCleanDisk mid = omega (arith, clean, c.carry_tables.ensures.clean) in
+    let early : HasCleanDisk mid = omega (arith, clean, c.carry_tables.ensures.survives.clean) in
     let live : IsTrue mid.is_open = rw c.in-Err-OldFormat.field-0-is at (c.in-Err-OldFormat.ensures.live early) in
     let same = c.in-Err-OldFormat.ensures.same early rests.settled live in
     elim (c.carry_tables.ensures.crash clean s (old_same old mid s rests same c.adopt_tables.ensures.survives.limit live) trees may) [
@@ -65,7 +65,7 @@ pub returns-in-Err-OldFormat-clause-carried : goal.returns-in-Err-OldFormat-clau
 returns-in-Err-OldFormat-clause-carried g c clean =
     let old = state g.S.Store c.args.conn.now in
     let mid = state g.S.Store c.adopt_tables.new.conn in
-    let early : HasCleanDisk mid = omega (arith, clean, c.carry_tables.ensures.clean) in
+    let early : HasCleanDisk mid = omega (arith, clean, c.carry_tables.ensures.survives.clean) in
     let live : IsTrue mid.is_open = rw c.in-Err-OldFormat.field-0-is at (c.in-Err-OldFormat.ensures.live early) in
     let reported : ShowsFault old adopting.OldFormat = rw c.in-Err-OldFormat.field-0-is at (c.in-Err-OldFormat.ensures.reports early) in
     let was : IsTrue old.is_open = reported_open old reported.0 reported.2 in
@@ -77,7 +77,7 @@ returns-in-Err-OldFormat-clause-fewer g c clean =
     let old = state g.S.Store c.args.conn.now in
     let mid = state g.S.Store c.adopt_tables.new.conn in
     let new = state g.S.Store c.carry_tables.new.conn in
-    let early : HasCleanDisk mid = omega (arith, clean, c.carry_tables.ensures.clean) in
+    let early : HasCleanDisk mid = omega (arith, clean, c.carry_tables.ensures.survives.clean) in
     fewer_on old mid new c.carry_tables.result c.carry_tables.ensures.reported (c.carry_tables.ensures.fewer clean)
     (λ trees may. elim (c.adopt_tables.ensures.survives.crash early trees may) [ inl was ↦ was | inr none ↦ absurd none ])
 

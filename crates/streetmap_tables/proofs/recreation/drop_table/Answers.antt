@@ -1,25 +1,32 @@
+use Rattle.std.proofs.Common.{arith, rules}
+use Rattle.std.proofs.lemmas.Grind.{common_steps}
 use Rattle.sqlite.specs.Held.{state}
 use Rattle.streetmap_tables.proofs.BeforeCleanEnd.{is_handed}
 use Rattle.streetmap_tables.proofs.Drops.{dropped_by}
 use Rattle.streetmap_tables.proofs.DropRefused.{reported_dropped}
 use Rattle.streetmap_rows.proofs.ResultCases.{err_handed_on}
 use Rattle.streetmap_rows.proofs.ErrorReasons.{run_inside}
+use Rattle.streetmap_rows.proofs.StatementsInside.{ran_inside, failed_inside}
 use Rattle.streetmap_tables.proofs.recreation.drop_table.Goals as goal
 
-pub returns-clause-dropped : goal.returns-clause-dropped
-returns-clause-dropped g c clean inside name table text can =
-    dropped_by c.args.sql.now name text (state g.S.Store c.args.tx.now.conn.now) (state g.S.Store c.execute.new.self.conn.now) table can _ (c.in_ok-execute.ensures.runs clean inside).0
+pub returns-clause-runs : goal.returns-clause-runs
+returns-clause-runs g c =
+    let run = c.in_ok-execute.ensures in
+    ran_inside _ _ run.same_reference run.survives _ run.runs (λ clean. record {
+      dropped = λ inside name table text can. dropped_by c.args.sql.now name text (state g.S.Store c.args.tx.now.conn.now) (state g.S.Store c.execute.new.self.conn.now) table can _ (c.in_ok-execute.ensures.runs clean inside).0;
+      reported = first_of (search rules, grind (arith, common_steps));
+    })
 
-pub returns-in_err-execute-clause-reported : goal.returns-in_err-execute-clause-reported
-returns-in_err-execute-clause-reported g c clean inside name table text can apart sound =
-    let e = c.in_err-execute.field-0.0 in
-    let handed = is_handed c.from_residual.result e c.from_residual.ensures.1 in
-    rw handed (reported_dropped c.args.sql.now name text (state g.S.Store c.args.tx.now.conn.now) (state g.S.Store c.execute.new.self.conn.now) table can apart sound e (c.in_err-execute.ensures.runs clean inside))
-
-pub returns-in_err-execute-clause-reason : goal.returns-in_err-execute-clause-reason
-returns-in_err-execute-clause-reason g c clean =
-    err_handed_on c.from_residual.result c.in_err-execute.field-0.0 _ c.from_residual.ensures.1
-    (run_inside (state g.S.Store c.args.tx.now.conn.now) (state g.S.Store c.execute.new.self.conn.now) _ _ _ c.in_err-execute.ensures.ended (c.in_err-execute.ensures.runs clean))
+pub returns-in_err-execute-clause-runs : goal.returns-in_err-execute-clause-runs
+returns-in_err-execute-clause-runs g c =
+    let run = c.in_err-execute.ensures in
+    failed_inside _ _ run.same_reference run.survives run.ended run.runs c.from_residual.ensures.1 (λ clean. record {
+      dropped = first_of (search rules, grind (arith, common_steps));
+      reported = λ inside name table text can apart sound.
+          let e = c.in_err-execute.field-0.0 in
+          let handed = is_handed c.from_residual.result e c.from_residual.ensures.1 in
+          rw handed (reported_dropped c.args.sql.now name text (state g.S.Store c.args.tx.now.conn.now) (state g.S.Store c.execute.new.self.conn.now) table can apart sound e (c.in_err-execute.ensures.runs clean inside));
+    })
 
 pub returns-clause-ran : goal.returns-clause-ran
 returns-clause-ran g c clean inside = (_, c.in_ok-execute.ensures.runs clean inside)

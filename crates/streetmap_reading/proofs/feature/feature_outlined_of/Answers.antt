@@ -1,0 +1,8 @@
+use Rattle.std.proofs.Common.{string_bytes}
+use Rattle.streetmap_rows.proofs.ReadsInTurn.{reads_then}
+use Rattle.streetmap_reading.proofs.feature.feature_outlined_of.Goals as goal
+
+pub returns : goal.returns
+returns g c =
+    reads_then c.in_ok-found.ensures c.found_feature.ensures (λ s limit keeps same is shows.
+    shows s (string_bytes c.args.outline.now.id) limit same.0.is_open keeps is)
