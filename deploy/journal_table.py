@@ -29,6 +29,8 @@ TABLE = """
 CREATE TABLE IF NOT EXISTS streetmap_journal
     (serial bigint PRIMARY KEY, key text NOT NULL, batch text NOT NULL)
 """
+# One script at a time makes the table: two that do at once fail, whatever `IF NOT EXISTS` says.
+ALONE = "SELECT pg_advisory_xact_lock(hashtext('streetmap_journal'))"
 IS_THERE = "SELECT to_regclass(%s) IS NOT NULL"
 # A town's schema is made if it is missing, and is searched before all others.
 HAS_SCHEMA, MAKE_SCHEMA = "SELECT to_regnamespace(%s) IS NOT NULL", "CREATE SCHEMA {}"
@@ -165,12 +167,14 @@ class JournalTable:
     def make_table(self) -> None:
         """Makes the table, and the town's schema, if they are missing."""
         with self.transaction() as cursor:
+            if self.has(cursor, "streetmap_journal"):
+                return
+            cursor.execute(ALONE)
             if self.schema:
                 cursor.execute(HAS_SCHEMA, (self.schema,))
                 if not cursor.fetchone()[0]:
                     cursor.execute(MAKE_SCHEMA.format(self.schema))
-            if not self.has(cursor, "streetmap_journal"):
-                cursor.execute(TABLE)
+            cursor.execute(TABLE)
 
     def put(self, lines: Sequence[Line]) -> None:
         """Puts lines in, all or none. Ends as `other_text SERIAL` at the first serial that is there

@@ -32,7 +32,7 @@ TESTS = Path(__file__).resolve().parent
 DEBIAN_PYTHON = Path("/usr/bin/python3")
 BUILT = TESTS.parent / "crates" / "streetmap" / "out" / "streetmap"
 # A group, or a command of the program, fails if it is not over after this number of seconds.
-LIMIT, SLOW_LIMIT, COMMAND_LIMIT = 900, 7200, 120
+LIMIT, SLOW_LIMIT, COMMAND_LIMIT = 1800, 7200, 120
 # The number of groups that run side by side by default. One processor is left to this process
 # and to what clients of the groups do.
 JOBS = max(1, len(os.sched_getaffinity(0)) - 1)

@@ -75,6 +75,7 @@ def check_tables(context: Context, database: Database) -> None:
     check_words(tables)
     check_renewed(tables, [*LINES, *more], forked)
     check_two(tables)
+    check_two_makers(tables)
     check_towns(tables)
     database.ask_alone("CREATE DATABASE parts")
     check_parts(context, replace(database, name="parts"))
@@ -121,6 +122,21 @@ def check_two(tables: Tables) -> None:
     context.check("two at once", [it.wait(context.seconds) for it in both], [0, 0])
     context.check("two at once: the table", tables.database.journal() == b"".join(lines), True)
     tables.row("a shorter one", LINES, None, LINES, "--renew")
+
+
+def check_two_makers(tables: Tables) -> None:
+    """Two scripts that make the table, or a town's, at the same time: each goes on."""
+    tables.journal.write_bytes(b"".join(LINES))
+    for at in range(6):
+        more = ["--town", f"two_{at}"] if at % 2 else []
+        if not more:
+            tables.database.ask("DROP TABLE streetmap_journal")
+        words = Script(tables.context, SCRIPT).command(tables.journal, tables.database.dsn, *more)
+        both = [subprocess.Popen([*words, "--once"], stderr=subprocess.DEVNULL) for _ in range(2)]
+        ended = [it.wait(tables.context.seconds) for it in both]
+        tables.context.check(f"two makers {more}", ended, [0, 0])
+        if more:
+            tables.database.ask(f"DROP SCHEMA streetmap_two_{at} CASCADE")
 
 
 def check_towns(tables: Tables) -> None:
