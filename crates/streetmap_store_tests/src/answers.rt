@@ -1,16 +1,17 @@
 //! The answers of keepers.
 use std::alloc::Global;
+use std::io::BufWriter;
 use streetmap_ledger::{Keeper, read_batch};
 use streetmap_routes::Base;
 use streetmap_web::serve;
 
-/// A keeper's answers to requests; none if memory runs out for the base of links.
+/// A keeper's answers to requests; none if memory runs out.
 pub(crate) fn answers<K: Keeper>(alloc: Global, keeper: &mut K, requests: &str) -> Option<Vec<u8>> {
     let base = Base::new(alloc, "http://localhost/").ok()?;
     let mut reader = requests.as_bytes();
-    let mut written: Vec<u8> = Vec::new(alloc);
-    let _served = serve(alloc, keeper, &base, &mut reader, &mut written);
-    Some(written)
+    let mut writer = BufWriter::new(alloc, Vec::new(alloc)).ok()?;
+    let _served = serve(alloc, keeper, &base, &mut reader, &mut writer);
+    writer.into_inner().ok()
 }
 
 /// Whether a batch, given as text, was answered.
