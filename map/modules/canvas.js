@@ -18,7 +18,7 @@ import { grown, meet, squareAt, squaresIn } from "./tiles.js";
 const SIDE = 256;
 /** How far around the view tiles stay, as a part of its size. */
 const AROUND = 0.3;
-/** So long in milliseconds changes are gathered at most. */
+/** The most milliseconds for which changes are gathered. */
 const GATHERED = 100;
 
 export class Surface {

@@ -3,9 +3,9 @@
  * the browser has nothing else to do, and not while the features of a view are on their way.
  */
 
-/** So long in milliseconds the browser may be busy before a piece is done all the same. */
+/** The milliseconds that the browser may be busy before a piece is done all the same. */
 const MOST_BUSY = 200;
-/** So long a view may be on its way, likewise. */
+/** The milliseconds that a view may be on its way, likewise. */
 const MOST_HELD = 3000;
 
 /** @typedef {(act: () => void, milliseconds?: number) => void} Later */
