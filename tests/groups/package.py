@@ -30,6 +30,7 @@ PACKAGES = (
     "mandoc",
     "nginx",
     "openssl",
+    "python3-aiohttp",
     "python3-httpx",
     "python3-lark",
     "python3-numpy",
