@@ -13,8 +13,8 @@ use Rattle.streetmap_journal.specs.declared.starts.StartFault.{StartFault}
 use Rattle.streetmap_journal.specs.declared.starts.StartFault.TheVariants as starting
 use Rattle.streetmap_store.specs.declared.fault.CreateFault.{CreateFault}
 use Rattle.streetmap_store.specs.declared.fault.CreateFault.TheVariants as creation
-use Rattle.streetmap_store.specs.declared.fault.OpenFault.{OpenFault}
-use Rattle.streetmap_store.specs.declared.fault.OpenFault.TheVariants as opening
+use Rattle.streetmap_tables.specs.declared.openings.OpenFault.{OpenFault}
+use Rattle.streetmap_tables.specs.declared.openings.OpenFault.TheVariants as opening
 use Rattle.streetmap_checking.specs.declared.check.CheckFault.{CheckFault}
 use Rattle.streetmap_checking.specs.declared.check.CheckFault.TheVariants as checking
 use Rattle.streetmap_web.specs.declared.turns.End.{End}

@@ -1,5 +1,4 @@
 pub mod Statements
-pub mod Faults
 pub mod Good
 pub mod Held
 pub mod QueryResults

@@ -38,34 +38,6 @@ pub enum CheckFault {
     Memory,
 }
 
-impl CheckFault {
-    ghost use Rattle.streetmap_checking.specs.Faults.{code_of, description_of};
-
-    /// Its name.
-    #[tactic(auto, unfolding(crate::specs::Faults::code_of))]
-    pub fn code(&self) -> &'static str
-        ensures { result.now ≡ code_of self.now }
-    {
-        match self {
-            CheckFault::Damaged => "damaged",
-            CheckFault::Device(_) => "device",
-            CheckFault::Memory => "memory",
-        }
-    }
-
-    /// A sentence that describes it.
-    #[tactic(auto, unfolding(crate::specs::Faults::description_of))]
-    pub fn description(&self) -> &'static str
-        ensures { result.now ≡ description_of self.now }
-    {
-        match self {
-            CheckFault::Damaged => "The store holds a row that cannot be read.",
-            CheckFault::Device(_) => "The store failed and must be opened again.",
-            CheckFault::Memory => "Memory was refused; the call may be made again.",
-        }
-    }
-}
-
 /// The totals, or the fault that a read met.
 fn read_all_tables<S: Alter>(alloc: Global, conn: &mut Connection<S>) -> Result<Totals, ReadFault>
     ensures { Queries S.Store

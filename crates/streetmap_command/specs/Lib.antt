@@ -1,4 +1,3 @@
-pub mod CommandFaults
 pub mod CommandView
 pub mod Program
 pub mod Topics

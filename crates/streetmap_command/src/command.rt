@@ -130,32 +130,6 @@ pub enum CommandFault {
     Memory,
 }
 
-impl CommandFault {
-    ghost use Rattle.streetmap_command.specs.CommandFaults.{code_of, description_of};
-
-    /// Its name.
-    #[tactic(auto, unfolding(crate::specs::CommandFaults::code_of))]
-    pub fn code(&self) -> &'static str
-        ensures { result.now ≡ code_of self.now }
-    {
-        match self {
-            CommandFault::Usage => "usage",
-            CommandFault::Memory => "memory",
-        }
-    }
-
-    /// A sentence on it.
-    #[tactic(auto, unfolding(crate::specs::CommandFaults::description_of))]
-    pub fn description(&self) -> &'static str
-        ensures { result.now ≡ description_of self.now }
-    {
-        match self {
-            CommandFault::Usage => "The program does not take these words.",
-            CommandFault::Memory => "Memory was refused; the call may be made again.",
-        }
-    }
-}
-
 impl From<AllocError> for CommandFault {
     ghost use Rattle.streetmap_command.specs.declared.command.CommandFault.TheVariants.{Memory};
 

@@ -4,7 +4,6 @@ pub mod Clients
 pub mod Connections
 pub mod Counts
 pub mod Cuts
-pub mod Faults
 pub mod History
 pub mod InTurn
 pub mod Interleaving

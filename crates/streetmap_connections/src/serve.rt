@@ -35,34 +35,6 @@ pub enum ServeFault {
     Over,
 }
 
-impl ServeFault {
-    ghost use Rattle.streetmap_connections.specs.Faults.{code_of, description_of};
-
-    /// Its name.
-    #[tactic(auto, unfolding(crate::specs::Faults::code_of))]
-    pub fn code(&self) -> &'static str
-        ensures { result.now ≡ code_of self.now }
-    {
-        match self {
-            ServeFault::Net => "net",
-            ServeFault::Memory => "memory",
-            ServeFault::Over => "over",
-        }
-    }
-
-    /// A sentence that describes it.
-    #[tactic(auto, unfolding(crate::specs::Faults::description_of))]
-    pub fn description(&self) -> &'static str
-        ensures { result.now ≡ description_of self.now }
-    {
-        match self {
-            ServeFault::Net => "No connection can be accepted.",
-            ServeFault::Memory => "Memory was refused; the call may be made again.",
-            ServeFault::Over => "The service answers no more requests.",
-        }
-    }
-}
-
 impl From<io::Error> for ServeFault {
     ghost use Rattle.std.specs.IoError.{error_kind};
     ghost use Rattle.std.specs.declared.io.ErrorKind.TheVariants.{OutOfMemory};

@@ -9,4 +9,3 @@ pub mod Axes
 pub mod Grid
 pub mod Nearest
 pub mod Placements
-pub mod Faults

@@ -46,9 +46,8 @@ pub enum Fault {
 }
 
 impl Fault {
-    ghost use Rattle.std.specs.Prelude.{[]};
     ghost use Rattle.streetmap_geojson.specs.Times.{time_fault};
-    ghost use Rattle.streetmap_geojson.specs.FaultCodes.{fault_code, fault_description};
+    ghost use Rattle.streetmap_geojson.specs.FaultCodes.{fault_code};
 
     /// The fault of a feature whose time property has this one.
     pub fn of_time(fault: TimeFault) -> Fault
@@ -83,16 +82,6 @@ impl Fault {
             Fault::EmptyInterval => "empty_interval",
         }
     }
-
-    /// The sentence on the fault in answers, empty if it has none.
-    pub fn description(&self) -> &'static str
-        ensures { result.now ≡ fault_description self.now }
-    {
-        match self {
-            Fault::BadTime => "The time property of the feature cannot be read.",
-            _ => "",
-        }
-    }
 }
 
 /// Why a value was not read as a feature.
@@ -102,30 +91,6 @@ pub enum JsonFault {
     Memory,
     /// The first fault of the value.
     Fault(Fault),
-}
-
-impl JsonFault {
-    ghost use Rattle.streetmap_geojson.specs.FaultCodes.{json_fault_code, json_fault_description};
-
-    /// The name of the fault in answers.
-    pub fn code(&self) -> &'static str
-        ensures { result.now ≡ json_fault_code self.now }
-    {
-        match self {
-            JsonFault::Memory => "memory",
-            JsonFault::Fault(fault) => fault.code(),
-        }
-    }
-
-    /// The sentence on the fault in answers, empty if it has none.
-    pub fn description(&self) -> &'static str
-        ensures { result.now ≡ json_fault_description self.now }
-    {
-        match self {
-            JsonFault::Memory => "Memory was refused; the call may be made again.",
-            JsonFault::Fault(fault) => fault.description(),
-        }
-    }
 }
 
 impl From<AllocError> for JsonFault {
@@ -157,33 +122,6 @@ pub enum CollectionFault {
     Fault(Fault),
     /// What is wrong with the feature at that place, counted from 1.
     At(u64, Fault),
-}
-
-impl CollectionFault {
-    ghost use Rattle.streetmap_geojson.specs.FaultCodes.{collection_fault_code};
-    ghost use Rattle.streetmap_geojson.specs.FaultCodes.{collection_fault_description};
-
-    /// The name of the fault in answers.
-    pub fn code(&self) -> &'static str
-        ensures { result.now ≡ collection_fault_code self.now }
-    {
-        match self {
-            CollectionFault::Memory => "memory",
-            CollectionFault::Fault(fault) => fault.code(),
-            CollectionFault::At(_, fault) => fault.code(),
-        }
-    }
-
-    /// The sentence on the fault in answers, empty if it has none.
-    pub fn description(&self) -> &'static str
-        ensures { result.now ≡ collection_fault_description self.now }
-    {
-        match self {
-            CollectionFault::Memory => "Memory was refused; the call may be made again.",
-            CollectionFault::Fault(fault) => fault.description(),
-            CollectionFault::At(_, fault) => fault.description(),
-        }
-    }
 }
 
 impl From<AllocError> for CollectionFault {

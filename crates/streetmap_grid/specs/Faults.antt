@@ -1,5 +1,5 @@
 -- Which values are refused, and as what.
-use Rattle.std.specs.Prelude.{ℕ, ℤ, Bool, true, ◌&&◌, List, length, Option, Some, None, codes}
+use Rattle.std.specs.Prelude.{ℕ, ℤ, Bool, true, ◌&&◌, List, length, Option, Some, None}
 use Rattle.std.specs.Prelude.{nat_lt, int_le, if◌then◌else◌}
 use Rattle.streetmap_grid.specs.declared.fault.GridFault.{GridFault}
 use Rattle.streetmap_grid.specs.declared.fault.GridFault.TheVariants.{OutOfGrid, ShortLine}
@@ -35,11 +35,3 @@ is_box g = is_bound g.x0 && (is_bound g.y0
 -- a box is refused if a bound is out of range, or its bounds are out of order
 abbrev pub box_fault : BoxValue → Option GridFault
 box_fault g = if is_box g then None else Some BadBox
-
--- the name of a fault in answers
-abbrev pub fault_code : GridFault → List ℕ
-fault_code OutOfGrid = codes "out_of_grid"
-fault_code ShortLine = codes "short_line"
-fault_code ShortRing = codes "short_ring"
-fault_code OpenRing = codes "open_ring"
-fault_code BadBox = codes "bad_box"

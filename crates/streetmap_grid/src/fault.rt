@@ -1,5 +1,3 @@
-ghost use Rattle.std.specs.Prelude.{◌≡◌, []};
-
 /// What a constructor of this crate refuses.
 #[derive(Clone, Copy, PartialEq, Eq, Drop)]
 pub enum GridFault {
@@ -15,28 +13,4 @@ pub enum GridFault {
     /// A bound of a box is below -2,000,000,000 or above 2,000,000,000 millimetres, or west lies
     /// east of east, or south north of north.
     BadBox,
-}
-
-impl GridFault {
-    ghost use Rattle.streetmap_grid.specs.Faults.{fault_code};
-
-    /// The name of the fault in answers.
-    pub fn code(&self) -> &'static str
-        ensures { result.now ≡ fault_code self.now }
-    {
-        match self {
-            GridFault::OutOfGrid => "out_of_grid",
-            GridFault::ShortLine => "short_line",
-            GridFault::ShortRing => "short_ring",
-            GridFault::OpenRing => "open_ring",
-            GridFault::BadBox => "bad_box",
-        }
-    }
-
-    /// A sentence on the fault, which is empty for each of them.
-    pub fn description(&self) -> &'static str
-        ensures { result.now ≡ [] }
-    {
-        ""
-    }
 }

@@ -6,4 +6,3 @@ pub mod DateTimeParts
 pub mod Intervals
 pub mod Meeting
 pub mod Views
-pub mod Faults

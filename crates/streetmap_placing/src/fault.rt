@@ -23,34 +23,7 @@ pub enum PlacingFault {
 }
 
 impl PlacingFault {
-    ghost use Rattle.streetmap_placing.specs.Faults.{code_of, description_of, fault_of};
-    ghost use Rattle.streetmap_placing.specs.Faults.{parse_fault};
-
-    /// The name of the fault in answers.
-    pub fn code(&self) -> &'static str
-        ensures { result.now ≡ code_of self.now }
-    {
-        match self {
-            PlacingFault::Memory => "memory",
-            PlacingFault::NotJson => "not_json",
-            PlacingFault::TooManyDigits => "too_many_digits",
-            PlacingFault::OutOfGrid => "out_of_grid",
-            PlacingFault::Fraction => "fraction",
-        }
-    }
-
-    /// The sentence on the fault in answers.
-    pub fn description(&self) -> &'static str
-        ensures { result.now ≡ description_of self.now }
-    {
-        match self {
-            PlacingFault::Memory => "Memory was refused; the call may be made again.",
-            PlacingFault::NotJson => "The text is no JSON.",
-            PlacingFault::TooManyDigits => "A coordinate has more digits than are kept.",
-            PlacingFault::OutOfGrid => "A coordinate lies outside of the grid.",
-            PlacingFault::Fraction => "A coordinate comes to no whole millimetre.",
-        }
-    }
+    ghost use Rattle.streetmap_placing.specs.Faults.{fault_of, parse_fault};
 
     // The fault of a text with a coordinate at fault.
     pub(crate) fn of_decimal(fault: DecimalFault) -> PlacingFault

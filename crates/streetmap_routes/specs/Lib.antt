@@ -3,5 +3,4 @@ pub mod Operations
 pub mod OperationView
 pub mod BaseUrl
 pub mod BaseView
-pub mod BaseFaults
 pub mod Paths

@@ -2,7 +2,6 @@
 ghost use Rattle.std.specs.Prelude.{◌≡◌, ◌++◌, ◌↔◌, [], None, codes, IsTrue};
 ghost use Rattle.url.specs.Parts.{serialize};
 ghost use Rattle.streetmap_routes.specs.BaseUrl.{IsBase, is_web as is_web_of};
-ghost use Rattle.streetmap_routes.specs.BaseFaults.{code_of, description_of};
 ghost use Rattle.streetmap_routes.specs.Routes.{the_rows};
 
 use crate::operations::{Operation, operation_for};
@@ -19,30 +18,6 @@ pub enum BaseFault {
     BadBase,
     /// `memory`: memory ran out, or the URL reached 4 GB.
     Memory,
-}
-
-impl BaseFault {
-    /// The name of the fault.
-    #[tactic(auto, unfolding(crate::specs::BaseFaults::code_of))]
-    pub fn code(&self) -> &'static str
-        ensures { result.now ≡ code_of self.now }
-    {
-        match self {
-            BaseFault::BadBase => "bad_base",
-            BaseFault::Memory => "memory",
-        }
-    }
-
-    /// The sentence of the fault; empty if it has none.
-    #[tactic(auto, unfolding(crate::specs::BaseFaults::description_of))]
-    pub fn description(&self) -> &'static str
-        ensures { result.now ≡ description_of self.now }
-    {
-        match self {
-            BaseFault::BadBase => "",
-            BaseFault::Memory => "Memory was refused; the call may be made again.",
-        }
-    }
 }
 
 /// Whether the scheme is that of the web.

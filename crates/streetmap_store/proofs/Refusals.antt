@@ -17,15 +17,14 @@ use Rattle.sqlite.specs.Files.{IsNothing, FailsToOpenFiles, image_of}
 use Rattle.streetmap_ledger.specs.State.{State}
 use Rattle.streetmap_tables.specs.QueryResults.{ShowsFault, ShowsNothing, LosesKeys}
 use Rattle.streetmap_tables.specs.Migration.{IsOld, Carries, Opens, OpensBy}
-use Rattle.streetmap_tables.specs.declared.openings.TablesFault.{TablesFault}
-use Rattle.streetmap_tables.specs.declared.openings.TablesFault.TheVariants as tables
+use Rattle.streetmap_tables.specs.declared.openings.OpenFault.{OpenFault}
 use Rattle.streetmap_tables.specs.declared.adoption.AdoptFault.TheVariants as adopting
 use Rattle.streetmap_tables.specs.declared.creation.MakeFault.{MakeFault}
 use Rattle.streetmap_tables.specs.declared.creation.MakeFault.TheVariants as making
-use Rattle.streetmap_store.specs.RefusalCauses.{refused_to_open, refused_to_create, not_adopted, not_made}
+use Rattle.streetmap_store.specs.RefusalCauses.{refused_to_open, refused_to_create, not_made}
 use Rattle.streetmap_store.specs.Reasons.{IsUnopened, OpensNothing, CreatesNothing}
 use Rattle.streetmap_store.specs.Reasons.{IsForeign, OpenBlamesNoFile, CreateBlamesNoFile, Showed, RefusesToOpen, RefusesToCreate, FailsToConnect, StaysAsItWas, HoldsStill}
-use Rattle.streetmap_store.specs.declared.fault.OpenFault.TheVariants as opened
+use Rattle.streetmap_tables.specs.declared.openings.OpenFault.TheVariants as opened
 use Rattle.streetmap_store.specs.declared.fault.CreateFault.{CreateFault}
 use Rattle.streetmap_store.specs.declared.fault.CreateFault.TheVariants as created
 use Rattle.streetmap_store.specs.declared.fault.Left.{Left}
@@ -141,28 +140,28 @@ still_held image (left.Connection c) h = record { first = h.first; on = h.on; cl
 -- ---- a connection
 
 -- tables that are not opened
-pub not_adopted_for : {D : Type 0} {g : disk.Ghosts D} (image : Image) (rest : Left (Leftover D g) (Held (FileStore D g))) (seen : Seen) → ((P : Seen → Type 0) → P seen → Showed image P rest) → (fault : TablesFault)
-    → OpensBy seen (Err fault) → RefusesToOpen image (not_adopted fault) rest
-not_adopted_for image rest seen show tables.NotOurs by = inr (show (λ x. ShowsFault x adopting.NotOurs ⊎ ShowsNothing x) by)
-not_adopted_for image rest seen show tables.NewFormat by = show (λ x. ShowsFault x adopting.NewFormat) by
-not_adopted_for image rest seen show tables.Damaged by = show (λ x. IsOld x ⊎ LosesKeys x) by
-not_adopted_for image rest seen show (tables.Device e) (inl of) = inr (inl of)
-not_adopted_for image rest seen show (tables.Device e) (inr old) = inr (inr (show IsOld old))
-not_adopted_for image rest seen show tables.Memory by = tt
+pub not_adopted_for : {D : Type 0} {g : disk.Ghosts D} (image : Image) (rest : Left (Leftover D g) (Held (FileStore D g))) (seen : Seen) → ((P : Seen → Type 0) → P seen → Showed image P rest) → (fault : OpenFault)
+    → OpensBy seen (Err fault) → RefusesToOpen image fault rest
+not_adopted_for image rest seen show opened.NotOurs by = inr (show (λ x. ShowsFault x adopting.NotOurs ⊎ ShowsNothing x) by)
+not_adopted_for image rest seen show opened.NewFormat by = show (λ x. ShowsFault x adopting.NewFormat) by
+not_adopted_for image rest seen show opened.Damaged by = show (λ x. IsOld x ⊎ LosesKeys x) by
+not_adopted_for image rest seen show (opened.Device e) (inl of) = inr (inl of)
+not_adopted_for image rest seen show (opened.Device e) (inr old) = inr (inr (show IsOld old))
+not_adopted_for image rest seen show opened.Memory by = tt
 
-pub ours_blame_no_file : (s : State) (old new : Seen) (fault : TablesFault) → Opens s old new (Err fault) → OpenBlamesNoFile (not_adopted fault)
-ours_blame_no_file s old new tables.NotOurs h = absurd h
-ours_blame_no_file s old new tables.NewFormat h = absurd h
-ours_blame_no_file s old new tables.Damaged h = absurd h
-ours_blame_no_file s old new (tables.Device e) h = tt
-ours_blame_no_file s old new tables.Memory h = tt
+pub ours_blame_no_file : (s : State) (old new : Seen) (fault : OpenFault) → Opens s old new (Err fault) → OpenBlamesNoFile fault
+ours_blame_no_file s old new opened.NotOurs h = absurd h
+ours_blame_no_file s old new opened.NewFormat h = absurd h
+ours_blame_no_file s old new opened.Damaged h = absurd h
+ours_blame_no_file s old new (opened.Device e) h = tt
+ours_blame_no_file s old new opened.Memory h = tt
 
-pub old_blame_no_file : (s : State) (old new : Seen) (fault : TablesFault) → Carries s old new (Err fault) → OpenBlamesNoFile (not_adopted fault)
-old_blame_no_file s old new tables.NotOurs h = absurd h
-old_blame_no_file s old new tables.NewFormat h = absurd h
-old_blame_no_file s old new tables.Damaged h = absurd h
-old_blame_no_file s old new (tables.Device e) h = tt
-old_blame_no_file s old new tables.Memory h = tt
+pub old_blame_no_file : (s : State) (old new : Seen) (fault : OpenFault) → Carries s old new (Err fault) → OpenBlamesNoFile fault
+old_blame_no_file s old new opened.NotOurs h = absurd h
+old_blame_no_file s old new opened.NewFormat h = absurd h
+old_blame_no_file s old new opened.Damaged h = absurd h
+old_blame_no_file s old new (opened.Device e) h = tt
+old_blame_no_file s old new opened.Memory h = tt
 
 -- tables that are not made
 pub not_made_for : (image : Image) (fault : MakeFault) → (fault ≡ making.Taken → RefusesToCreate image created.Taken) → RefusesToCreate image (not_made fault)

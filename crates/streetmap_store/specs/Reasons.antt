@@ -26,8 +26,8 @@ use Rattle.streetmap_tables.specs.Old.{RestsOld}
 use Rattle.streetmap_tables.specs.Migration.{IsOld, UntouchedUnlessFormat1, MayCarry}
 use Rattle.streetmap_tables.specs.declared.adoption.AdoptFault.TheVariants as adopting
 use Rattle.streetmap_store.specs.HeldFiles.{IsJustOpenedOn, LeavesRoom}
-use Rattle.streetmap_store.specs.declared.fault.OpenFault.{OpenFault}
-use Rattle.streetmap_store.specs.declared.fault.OpenFault.TheVariants as opened
+use Rattle.streetmap_tables.specs.declared.openings.OpenFault.{OpenFault}
+use Rattle.streetmap_tables.specs.declared.openings.OpenFault.TheVariants as opened
 use Rattle.streetmap_store.specs.declared.fault.CreateFault.{CreateFault}
 use Rattle.streetmap_store.specs.declared.fault.CreateFault.TheVariants as created
 use Rattle.streetmap_store.specs.declared.fault.Left.{Left}

@@ -13,7 +13,7 @@ ghost use Rattle.streetmap_store.specs.Reasons.{HoldsStill};
 ghost use Rattle.streetmap_store.specs.Reasons.{OpensNothing, CreatesNothing};
 
 use crate::connection::connect;
-use crate::fault::{CreateFault, Left, OpenFault};
+use crate::fault::{CreateFault, Left, unopened};
 use crate::keeper::TableKeeper;
 use sqlite::{Connection, FileFrom, FileStore, Leftover, Start};
 
@@ -102,10 +102,10 @@ pub fn open<S: Start>(
 {
     let conn = match connect(rt, path, start) {
         Ok(conn) => conn,
-        Err((error, left)) => return Err((OpenFault::of_files(error), left)),
+        Err((error, left)) => return Err((unopened(error), left)),
     };
     match TableKeeper::adopt(rt.alloc(), conn) {
         Ok(keeper) => Ok(keeper),
-        Err((fault, conn)) => Err((OpenFault::of_tables(fault), Left::Connection(conn))),
+        Err((fault, conn)) => Err((fault, Left::Connection(conn))),
     }
 }

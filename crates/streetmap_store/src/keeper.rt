@@ -38,7 +38,7 @@ use streetmap_reading::{
     summaries_of, summary_of,
 };
 use streetmap_rows::{ReadFault, Shut, Stop, settle};
-use streetmap_tables::{MakeFault, TablesFault, apply_batch, make_tables, open_tables};
+use streetmap_tables::{MakeFault, OpenFault, apply_batch, make_tables, open_tables};
 
 /// A keeper over the tables of a connection, between whose calls no transaction is open.
 #[derive(Drop)]
@@ -209,7 +209,7 @@ impl<S: Alter> TableKeeper<S> {
     pub fn adopt(
         alloc: Global,
         mut conn: Connection<S>,
-    ) -> Result<TableKeeper<S>, (TablesFault, Connection<S>)>
+    ) -> Result<TableKeeper<S>, (OpenFault, Connection<S>)>
         requires { conn.in_transaction ≡ false }
         ensures idle { IfErr result (λ refused. refused.1.in_transaction ≡ false) }
         ensures clean { MatchResult result (λ keeper. HasCleanDisk (state S.Store keeper.conn)

@@ -6,7 +6,7 @@ use sqlite::{Alter, Connection};
 use std::alloc::Global;
 use streetmap_ledger::Keeper;
 use streetmap_store::TableKeeper;
-use streetmap_tables::TablesFault;
+use streetmap_tables::OpenFault;
 
 /// What is done over a keeper, whatever it is.
 pub(crate) trait Task {
@@ -69,7 +69,7 @@ impl<T: Task + Drop> Visit for OverOpened<T> {
                 let output = task.run(alloc, &mut keeper);
                 (Outcome::Done(output), Some(keeper.release().into_store()))
             }
-            Err((TablesFault::NotOurs, conn)) => (Outcome::NotOurs, Some(conn.into_store())),
+            Err((OpenFault::NotOurs, conn)) => (Outcome::NotOurs, Some(conn.into_store())),
             Err((_, conn)) => (Outcome::Refused, Some(conn.into_store())),
         }
     }

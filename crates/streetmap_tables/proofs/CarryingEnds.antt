@@ -20,8 +20,8 @@ use Rattle.streetmap_rows.specs.declared.fault.ReadFault.{ReadFault}
 use Rattle.streetmap_rows.specs.declared.fault.ReadFault.TheVariants as read
 use Rattle.sqlite.specs.Schema.{Schema}
 use Rattle.sqlite.specs.Effect.{Database}
-use Rattle.streetmap_tables.specs.declared.openings.TablesFault.{TablesFault}
-use Rattle.streetmap_tables.specs.declared.openings.TablesFault.TheVariants.{NotOurs, NewFormat, Damaged, Device, Memory}
+use Rattle.streetmap_tables.specs.declared.openings.OpenFault.{OpenFault}
+use Rattle.streetmap_tables.specs.declared.openings.OpenFault.TheVariants.{NotOurs, NewFormat, Damaged, Device, Memory}
 
 -- it rests if it has the database that it had
 pub old_same : (old new : Seen) (s : State) → RestsOld old s → HasSame old new → new.step_limit ≡ old.step_limit → IsTrue new.is_open → RestsOld new s
@@ -40,7 +40,7 @@ same_after_rollback old begun mid new same kept back settled live =
     (undone.0 ∙ was ∙ sym settled, undone.1 ∙ was)
 
 -- a refusal, by what it reports
-pub refused_old : (s : State) (old new : Seen) (fault : TablesFault) → IsRefusedOld old.now.schema fault → (IsTrue new.is_open → RestsOld new s) → (fault ≡ Memory → IsTrue new.is_open × LeavesTheSame old new) → Carries s old new (Err fault)
+pub refused_old : (s : State) (old new : Seen) (fault : OpenFault) → IsRefusedOld old.now.schema fault → (IsTrue new.is_open → RestsOld new s) → (fault ≡ Memory → IsTrue new.is_open × LeavesTheSame old new) → Carries s old new (Err fault)
 refused_old s old new NotOurs reported rests memory = reported
 refused_old s old new NewFormat reported rests memory = reported
 refused_old s old new Damaged reported rests memory = reported
@@ -54,7 +54,7 @@ held_back schema (read.Store e) not_of_disk = inl not_of_disk
 held_back schema read.Unread not_of_disk = not_of_disk
 
 -- after a read that left the same
-pub carries_on : (s : State) (old mid new : Seen) (r : Result ℕ TablesFault) → mid.now ≡ old.now → LeavesTheSame old mid → Carries s mid new r → Carries s old new r
+pub carries_on : (s : State) (old mid new : Seen) (r : Result ℕ OpenFault) → mid.now ≡ old.now → LeavesTheSame old mid → Carries s mid new r → Carries s old new r
 carries_on s old mid new (Ok count) now same h = h
 carries_on s old mid new (Err NotOurs) now same h = h
 carries_on s old mid new (Err NewFormat) now same h = h
@@ -63,7 +63,7 @@ carries_on s old mid new (Err (Device e)) now same h = (subst (λ (d : Database)
 carries_on s old mid new (Err Memory) now same h = (h.0, (λ trees may. same.0 trees (h.1.0 trees may), λ trees may. h.1.1 trees (same.1 trees may)))
 
 -- a refusal after a read, if a crash can leave no more than before
-pub fewer_on : (old mid new : Seen) (r : Result ℕ TablesFault) → IfErr r IsNamedFault
+pub fewer_on : (old mid new : Seen) (r : Result ℕ OpenFault) → IfErr r IsNamedFault
     → IfErr r (λ fault. fault ≡ Damaged → LeavesNoMore mid new) → LeavesNoMore old mid
     → IfErr r (λ fault. KeepsNoMore fault old new)
 fewer_on old mid new (Ok count) named fewer before = tt

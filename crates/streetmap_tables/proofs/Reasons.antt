@@ -8,8 +8,8 @@ use Rattle.streetmap_rows.specs.Failures.{HasReason, is_memory}
 use Rattle.streetmap_rows.proofs.ErrorReasons.{reason_still, reason_later}
 use Rattle.streetmap_rows.specs.declared.fault.ReadFault.{ReadFault}
 use Rattle.streetmap_rows.specs.declared.fault.ReadFault.TheVariants as read
-use Rattle.streetmap_tables.specs.declared.openings.TablesFault.{TablesFault}
-use Rattle.streetmap_tables.specs.declared.openings.TablesFault.TheVariants as opening
+use Rattle.streetmap_tables.specs.declared.openings.OpenFault.{OpenFault}
+use Rattle.streetmap_tables.specs.declared.openings.OpenFault.TheVariants as opening
 use Rattle.streetmap_tables.specs.Reasons.{IsOwn, HasReasonIn, IsReturnedFor, OpensFor}
 
 pub own_in : (old new : Seen) (f : ReadFault) → IsOwn f → HasReasonIn old new f
@@ -45,7 +45,7 @@ reason_in_still old mid new read.Memory After second come = tt
 reason_in_still old mid new (read.Store e) After second come = reason_still old mid new e come second.counts
 reason_in_still old mid new read.Unread After second come = tt
 
-pub opens_for : (old mid new : Seen) (f : ReadFault) (reported : TablesFault) (Commits After : Trees → Type 0)
+pub opens_for : (old mid new : Seen) (f : ReadFault) (reported : OpenFault) (Commits After : Trees → Type 0)
     → Survives old mid Commits → Survives mid new After → HasCleanDisk new → HasReasonIn old mid f
     → IsReturnedFor mid new f reported → OpensFor old new reported
 opens_for old mid new f opening.NotOurs Commits After first second clean come reports = tt
@@ -56,7 +56,7 @@ opens_for old mid new f (opening.Device e) Commits After first second clean come
     let early : HasCleanDisk mid = omega (arith, clean, second.clean) in reason_later old mid new e Commits first early second.counts since
 opens_for old mid new f opening.Memory Commits After first second clean come reports = tt
 
-pub opens_later : (old mid new : Seen) (reported : TablesFault) (Commits After : Trees → Type 0)
+pub opens_later : (old mid new : Seen) (reported : OpenFault) (Commits After : Trees → Type 0)
     → Survives old mid Commits → Survives mid new After → HasCleanDisk new → OpensFor mid new reported
     → OpensFor old new reported
 opens_later old mid new opening.NotOurs Commits After first second clean come = tt

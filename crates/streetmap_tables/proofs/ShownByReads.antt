@@ -16,7 +16,7 @@ use Rattle.sqlite.specs.Store.{Ghosts}
 use Rattle.sqlite.specs.Held.{Held, state}
 use Rattle.streetmap_tables.specs.QueryResults.{Sees, IsUnseen, ShowsRows, ShowsFormat, ShowsKeys}
 use Rattle.streetmap_tables.specs.QueryResults.{ShowsNothing, IsFoundIn, IsRefusedFor, AdoptsBy}
-use Rattle.streetmap_tables.specs.declared.openings.TablesFault.{TablesFault}
+use Rattle.streetmap_tables.specs.declared.openings.OpenFault.{OpenFault}
 use Rattle.streetmap_tables.specs.declared.adoption.Found.{Found}
 use Rattle.streetmap_tables.specs.declared.adoption.Found.TheVariants.{Keys, Unread, Other}
 use Rattle.streetmap_tables.specs.declared.adoption.AdoptFault.{AdoptFault}
@@ -95,7 +95,7 @@ carried_there g start old mid new same limit live ends it = (it.0, sees_there (s
 pub reported_open : (old : Seen) (format : Option ℤ) → ShowsFormat old format → IsTrue old.is_open
 reported_open old format h = (was_unchanged select_format format_bare old old old refl h.0 h.1).0.was_open
 
-pub if_carried : {S : Type 0} (g : Ghosts S) (mid old new : Held S) (r : Result ℕ TablesFault)
+pub if_carried : {S : Type 0} (g : Ghosts S) (mid old new : Held S) (r : Result ℕ OpenFault)
     → (state g mid).now ≡ (state g old).now → (state g mid).step_limit ≡ (state g old).step_limit
     → IsTrue (state g old).is_open
     → OnOk r (HasCarried g mid new) → IfOk r (λ count. ShowsKeys (state g old) count ⊎ HasCarried g old new)

@@ -1,7 +1,6 @@
 pub mod Adoption
 pub mod Migration
 pub mod Drops
-pub mod Faults
 pub mod Insertions
 pub mod Made
 pub mod Creation

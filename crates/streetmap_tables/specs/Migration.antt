@@ -24,10 +24,10 @@ use Rattle.streetmap_tables.specs.QueryResults.{ShowsNothing}
 use Rattle.streetmap_tables.specs.declared.adoption.AdoptFault.TheVariants as adopting
 use Rattle.streetmap_tables.specs.Old.{WereOurs, KeepsOld, RestsOld}
 use Rattle.streetmap_tables.specs.Part.{emptied}
-use Rattle.streetmap_tables.specs.declared.openings.TablesFault.{TablesFault}
-use Rattle.streetmap_tables.specs.declared.openings.TablesFault.TheVariants.{NotOurs, NewFormat}
-use Rattle.streetmap_tables.specs.declared.openings.TablesFault.TheVariants.{Damaged, Device}
-use Rattle.streetmap_tables.specs.declared.openings.TablesFault.TheVariants.{Memory}
+use Rattle.streetmap_tables.specs.declared.openings.OpenFault.{OpenFault}
+use Rattle.streetmap_tables.specs.declared.openings.OpenFault.TheVariants.{NotOurs, NewFormat}
+use Rattle.streetmap_tables.specs.declared.openings.OpenFault.TheVariants.{Damaged, Device}
+use Rattle.streetmap_tables.specs.declared.openings.OpenFault.TheVariants.{Memory}
 
 -- ---- why tables are not migrated
 
@@ -77,7 +77,7 @@ MayCarry s old new = (trees : Trees) → new.may_leave trees → old.may_leave t
 -- Tables of a state in format 1 are opened as that state in format 2, with the number of its keys;
 -- a crash can then leave it, and no other. But the store may fail, or its schema may have no place
 -- for the tables of format 2, or memory may run out, which changes nothing.
-abbrev pub Carries : State → Seen → Seen → Result ℕ TablesFault → Type 0
+abbrev pub Carries : State → Seen → Seen → Result ℕ OpenFault → Type 0
 Carries s old new (Ok count) = (count ≡ len s.keys) × Rests new s × MayLeave new (Some s)
     × LeavesOnly (MayLeave new) (Some s)
 Carries s old new (Err Memory) = RestsOld new s × LeavesTheSame old new
@@ -88,7 +88,7 @@ Carries s old new (Err NotOurs) = ⊥
 Carries s old new (Err NewFormat) = ⊥
 
 -- the causes for which a migration may be refused
-abbrev pub IsNamedFault : TablesFault → Type 0
+abbrev pub IsNamedFault : OpenFault → Type 0
 IsNamedFault Damaged = Unit {0}
 IsNamedFault (Device e) = Unit {0}
 IsNamedFault Memory = Unit {0}
@@ -97,7 +97,7 @@ IsNamedFault NewFormat = ⊥
 
 -- After a refusal that blames the tables a crash can leave no more than before. After a failure of
 -- the store that may hold only while the connection is open: a commit may have failed.
-abbrev pub KeepsNoMore : TablesFault → Seen → Seen → Type 0
+abbrev pub KeepsNoMore : OpenFault → Seen → Seen → Type 0
 KeepsNoMore NotOurs old new = LeavesNoMore old new
 KeepsNoMore NewFormat old new = LeavesNoMore old new
 KeepsNoMore Damaged old new = LeavesNoMore old new
@@ -105,7 +105,7 @@ KeepsNoMore (Device e) old new = Unit {0}
 KeepsNoMore Memory old new = Unit {0}
 
 -- why tables of this schema, which are those of a state in format 1, are not migrated
-abbrev pub IsRefusedOld : Schema → TablesFault → Type 0
+abbrev pub IsRefusedOld : Schema → OpenFault → Type 0
 IsRefusedOld schema (Device e) = IsMigrationError schema e
 IsRefusedOld schema Memory = Unit {0}
 IsRefusedOld schema Damaged = ⊥
@@ -125,7 +125,7 @@ UntouchedUnlessFormat1 old new = ¬ (IsOld old) → IsAsItWas old new × Survive
 
 -- Tables of a state in format 2 are opened as that state, with the number of its keys; a crash can
 -- leave it, and no other. But the store may fail, or memory may run out, which changes nothing.
-abbrev pub Opens : State → Seen → Seen → Result ℕ TablesFault → Type 0
+abbrev pub Opens : State → Seen → Seen → Result ℕ OpenFault → Type 0
 Opens s old new (Ok count) = (count ≡ len s.keys) × Rests new s × MayLeave new (Some s)
     × LeavesOnly (MayLeave new) (Some s)
 Opens s old new (Err Memory) = Rests new s × LeavesTheSame old new
@@ -136,7 +136,7 @@ Opens s old new (Err NewFormat) = ⊥
 
 -- The result is what the queries show, whatever the tables are; those of format 1 may be migrated,
 -- or be damaged, or a statement of their migration may be refused.
-abbrev pub OpensBy : Seen → Result ℕ TablesFault → Type 0
+abbrev pub OpensBy : Seen → Result ℕ OpenFault → Type 0
 OpensBy seen (Ok count) = ShowsKeys seen count ⊎ IsOld seen
 OpensBy seen (Err NotOurs) = ShowsFault seen adopting.NotOurs ⊎ ShowsNothing seen
 OpensBy seen (Err NewFormat) = ShowsFault seen adopting.NewFormat

@@ -6,8 +6,8 @@ use Rattle.streetmap_rows.specs.declared.fault.ReadFault.{ReadFault}
 use Rattle.streetmap_rows.specs.declared.fault.ReadFault.TheVariants as read
 use Rattle.streetmap_tables.specs.declared.adoption.AdoptFault.{AdoptFault}
 use Rattle.streetmap_tables.specs.declared.adoption.AdoptFault.TheVariants as adopting
-use Rattle.streetmap_tables.specs.declared.openings.TablesFault.{TablesFault}
-use Rattle.streetmap_tables.specs.declared.openings.TablesFault.TheVariants as opening
+use Rattle.streetmap_tables.specs.declared.openings.OpenFault.{OpenFault}
+use Rattle.streetmap_tables.specs.declared.openings.OpenFault.TheVariants as opening
 
 -- it comes from no statement
 abbrev pub IsOwn : ReadFault → Type 0
@@ -22,7 +22,7 @@ HasReasonIn old new (read.Store e) = HasReason old new e
 HasReasonIn old new read.Unread = Unit {0}
 
 -- the error that is returned is the one that was met, or arose since
-abbrev pub IsReturnedFor : Seen → Seen → ReadFault → TablesFault → Type 0
+abbrev pub IsReturnedFor : Seen → Seen → ReadFault → OpenFault → Type 0
 IsReturnedFor old new fault opening.NotOurs = Unit {0}
 IsReturnedFor old new fault opening.NewFormat = Unit {0}
 IsReturnedFor old new fault opening.Damaged = Unit {0}
@@ -38,7 +38,7 @@ AdoptsFor old new adopting.Damaged = Unit {0}
 AdoptsFor old new (adopting.Device e) = HasReason old new e
 AdoptsFor old new adopting.Memory = Unit {0}
 
-abbrev pub OpensFor : Seen → Seen → TablesFault → Type 0
+abbrev pub OpensFor : Seen → Seen → OpenFault → Type 0
 OpensFor old new opening.NotOurs = Unit {0}
 OpensFor old new opening.NewFormat = Unit {0}
 OpensFor old new opening.Damaged = Unit {0}

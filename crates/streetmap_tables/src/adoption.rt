@@ -32,40 +32,6 @@ pub enum AdoptFault {
     Memory,
 }
 
-impl AdoptFault {
-    ghost use Rattle.streetmap_tables.specs.Faults.{adopt_code, adopt_description};
-
-    /// Its name.
-    #[tactic(auto, unfolding(crate::specs::Faults::adopt_code))]
-    pub fn code(&self) -> &'static str
-        ensures { result.now ≡ adopt_code self.now }
-    {
-        match self {
-            AdoptFault::NotOurs => "not_ours",
-            AdoptFault::OldFormat => "old_format",
-            AdoptFault::NewFormat => "new_format",
-            AdoptFault::Damaged => "damaged",
-            AdoptFault::Device(_) => "device",
-            AdoptFault::Memory => "memory",
-        }
-    }
-
-    /// A sentence that describes it.
-    #[tactic(auto, unfolding(crate::specs::Faults::adopt_description))]
-    pub fn description(&self) -> &'static str
-        ensures { result.now ≡ adopt_description self.now }
-    {
-        match self {
-            AdoptFault::NotOurs => "The file is none of this product.",
-            AdoptFault::OldFormat => "The file has format 1.",
-            AdoptFault::NewFormat => "The file has a format above 2.",
-            AdoptFault::Damaged => "The store holds a row that cannot be read.",
-            AdoptFault::Device(_) => "The store failed and must be opened again.",
-            AdoptFault::Memory => "Memory was refused; the call may be made again.",
-        }
-    }
-}
-
 /// What was found in a connection.
 #[derive(Drop)]
 enum Found {

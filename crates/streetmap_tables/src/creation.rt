@@ -29,35 +29,6 @@ pub enum MakeFault {
     Memory,
 }
 
-impl MakeFault {
-    ghost use Rattle.streetmap_tables.specs.Faults.{make_code, make_description};
-
-    /// Its name.
-    #[tactic(auto, unfolding(crate::specs::Faults::make_code))]
-    pub fn code(&self) -> &'static str
-        ensures { result.now ≡ make_code self.now }
-    {
-        match self {
-            MakeFault::Taken => "taken",
-            MakeFault::Device(_) => "device",
-            MakeFault::Memory => "memory",
-        }
-    }
-
-    /// A sentence that describes it.
-    #[tactic(auto, unfolding(crate::specs::Faults::make_description))]
-    pub fn description(&self) -> &'static str
-        ensures { result.now ≡ make_description self.now }
-    {
-        match self {
-            MakeFault::Taken =>
-                "A table, an index or a view of the file has one of the names of the tables.",
-            MakeFault::Device(_) => "The store failed and must be opened again.",
-            MakeFault::Memory => "Memory was refused; the call may be made again.",
-        }
-    }
-}
-
 /// Whether a table, an index or a view has this name.
 fn is_name_used(schema: &Schema, name: &str) -> bool
     ensures { result ≡ is_used schema.now name.now }

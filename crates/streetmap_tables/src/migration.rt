@@ -15,7 +15,7 @@ ghost use Rattle.streetmap_rows.specs.TransactionCalls.{StaysInside};
 
 use crate::adoption::read_serials;
 use crate::features::{fault_of, put_rows, take_rows};
-use crate::openings::TablesFault;
+use crate::openings::OpenFault;
 use crate::recreation::remake_tables;
 use sqlite::{Alter, Connection, Transaction};
 use std::alloc::Global;
@@ -75,31 +75,31 @@ fn carry_alone<S: Alter>(alloc: Global, conn: &mut Connection<S>) -> Result<u64,
 }
 
 /// Returns why tables were not migrated, after their transaction was rolled back.
-fn report<S: Alter>(conn: &mut Connection<S>, fault: ReadFault) -> TablesFault
+fn report<S: Alter>(conn: &mut Connection<S>, fault: ReadFault) -> OpenFault
     requires { conn.old.in_transaction ≡ false }
     ensures reason { HasCleanDisk (state S.Store conn.new) →
         IsReturnedFor (state S.Store conn.old) (state S.Store conn.new) fault result }
     ensures idle { conn.new.in_transaction ≡ false }
     ensures survives { Survives (state S.Store conn.old) (state S.Store conn.new) (λ _. ⊥) }
     ensures named { IsNamedFault result }
-    ensures damaged { result ≡ TablesFault.Damaged → fault ≡ ReadFault.Unread }
+    ensures damaged { result ≡ OpenFault.Damaged → fault ≡ ReadFault.Unread }
     ensures reported { HasCleanDisk (state S.Store conn.new) → (schema : Schema)
         → CarryingRefusedFor schema fault → IsRefusedOld schema result }
     ensures settled { IsTrue (state S.Store conn.new).is_open
         → (state S.Store conn.new).now ≡ (state S.Store conn.new).committed }
     ensures kept { HasCleanDisk (state S.Store conn.new)
         → KeepsCommit (state S.Store conn.old) (state S.Store conn.new) }
-    ensures live { HasCleanDisk (state S.Store conn.new) → result ≡ TablesFault.Memory
+    ensures live { HasCleanDisk (state S.Store conn.new) → result ≡ OpenFault.Memory
         → IsTrue (state S.Store conn.new).is_open }
 {
     // Between two transactions the connection holds what was committed.
     let _idle = conn.is_autocommit();
     match fault {
-        ReadFault::Unread => TablesFault::Damaged,
-        ReadFault::Store(error) if !is_memory(error) => TablesFault::Device(error),
+        ReadFault::Unread => OpenFault::Damaged,
+        ReadFault::Store(error) if !is_memory(error) => OpenFault::Device(error),
         _ => match probe(conn) {
-            Ok(()) => TablesFault::Memory,
-            Err(error) => TablesFault::Device(error),
+            Ok(()) => OpenFault::Memory,
+            Err(error) => OpenFault::Device(error),
         },
     }
 }
@@ -120,7 +120,7 @@ fn report<S: Alter>(conn: &mut Connection<S>, fault: ReadFault) -> TablesFault
 /// `Memory`, or `Device` with an error of the store, or with `SchemaTooBig` or `NameTaken` if their
 /// schema has no place for the tables of format 2 (`make_tables`).
 #[tactic(auto, using(crate::proofs::Reasons::opens_for))]
-pub fn carry_tables<S: Alter>(alloc: Global, conn: &mut Connection<S>) -> Result<u64, TablesFault>
+pub fn carry_tables<S: Alter>(alloc: Global, conn: &mut Connection<S>) -> Result<u64, OpenFault>
     requires { conn.old.in_transaction ≡ false }
     ensures reason { HasCleanDisk (state S.Store conn.new) →
         IfErr result (OpensFor (state S.Store conn.old) (state S.Store conn.new)) }
@@ -130,7 +130,7 @@ pub fn carry_tables<S: Alter>(alloc: Global, conn: &mut Connection<S>) -> Result
     ensures idle { conn.new.in_transaction ≡ false }
     ensures reported { IfErr result IsNamedFault }
     ensures fewer { HasCleanDisk (state S.Store conn.new) →
-        IfErr result (λ fault. fault ≡ TablesFault.Damaged →
+        IfErr result (λ fault. fault ≡ OpenFault.Damaged →
         LeavesNoMore (state S.Store conn.old) (state S.Store conn.new)) }
     ensures same { HasCleanDisk (state S.Store conn.new)
         → IfErr result (λ _. IsAsItWas (state S.Store conn.old) (state S.Store conn.new)) }

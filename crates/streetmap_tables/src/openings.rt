@@ -19,53 +19,22 @@ use crate::migration::carry_tables;
 use sqlite::{Alter, Connection, Error};
 use std::alloc::Global;
 
-/// Why tables were not opened.
+/// Why tables, or the file that should hold them, were not opened.
 #[derive(Drop)]
-pub enum TablesFault {
-    /// `not_ours`: no format row is one of this product.
+pub enum OpenFault {
+    /// `not_ours`: no format row is one of this product, or the file is no database of SQLite.
     NotOurs,
     /// `new_format`: the format is above 2.
     NewFormat,
     /// `damaged`: the format is 1, and a row is not one that this product writes; or it is 2, and
     /// the query for the batches is refused.
     Damaged,
-    /// `device`: the store failed, or has no room; the error that reported it. In format 1 also
-    /// that a statement which makes its new tables was refused.
+    /// `device`: the store failed, or has no room, or the file cannot be opened or is in use; the
+    /// error that reported it. In format 1 also that a statement which makes its new tables was
+    /// refused.
     Device(Error),
     /// `memory`: out of memory.
     Memory,
-}
-
-impl TablesFault {
-    ghost use Rattle.streetmap_tables.specs.Faults.{tables_code, tables_description};
-
-    /// Its name.
-    #[tactic(auto, unfolding(crate::specs::Faults::tables_code))]
-    pub fn code(&self) -> &'static str
-        ensures { result.now ≡ tables_code self.now }
-    {
-        match self {
-            TablesFault::NotOurs => "not_ours",
-            TablesFault::NewFormat => "new_format",
-            TablesFault::Damaged => "damaged",
-            TablesFault::Device(_) => "device",
-            TablesFault::Memory => "memory",
-        }
-    }
-
-    /// A sentence that describes it.
-    #[tactic(auto, unfolding(crate::specs::Faults::tables_description))]
-    pub fn description(&self) -> &'static str
-        ensures { result.now ≡ tables_description self.now }
-    {
-        match self {
-            TablesFault::NotOurs => "The file is none of this product.",
-            TablesFault::NewFormat => "The file has a format above 2.",
-            TablesFault::Damaged => "The store holds a row that cannot be read.",
-            TablesFault::Device(_) => "The store failed and must be opened again.",
-            TablesFault::Memory => "Memory was refused; the call may be made again.",
-        }
-    }
 }
 
 /// Opens the tables that a connection has, and returns how many batches they have accepted. It
@@ -84,7 +53,7 @@ impl TablesFault {
 /// runs out and the connection is open; `Device` if the store fails, with its error, as in
 /// `adopt_tables` and `carry_tables`. On the tables of a state it is `Device` or `Memory`.
 #[tactic(auto, using(crate::proofs::Reasons::opens_later))]
-pub fn open_tables<S: Alter>(alloc: Global, conn: &mut Connection<S>) -> Result<u64, TablesFault>
+pub fn open_tables<S: Alter>(alloc: Global, conn: &mut Connection<S>) -> Result<u64, OpenFault>
     requires { conn.old.in_transaction ≡ false }
     ensures reason { HasCleanDisk (state S.Store conn.new) →
         IfErr result (OpensFor (state S.Store conn.old) (state S.Store conn.new)) }
@@ -122,10 +91,10 @@ pub fn open_tables<S: Alter>(alloc: Global, conn: &mut Connection<S>) -> Result<
     match adopt_tables(conn) {
         Ok(count) => Ok(count),
         Err(AdoptFault::OldFormat) => carry_tables(alloc, conn),
-        Err(AdoptFault::NotOurs) => Err(TablesFault::NotOurs),
-        Err(AdoptFault::NewFormat) => Err(TablesFault::NewFormat),
-        Err(AdoptFault::Damaged) => Err(TablesFault::Damaged),
-        Err(AdoptFault::Device(error)) => Err(TablesFault::Device(error)),
-        Err(AdoptFault::Memory) => Err(TablesFault::Memory),
+        Err(AdoptFault::NotOurs) => Err(OpenFault::NotOurs),
+        Err(AdoptFault::NewFormat) => Err(OpenFault::NewFormat),
+        Err(AdoptFault::Damaged) => Err(OpenFault::Damaged),
+        Err(AdoptFault::Device(error)) => Err(OpenFault::Device(error)),
+        Err(AdoptFault::Memory) => Err(OpenFault::Memory),
     }
 }
