@@ -7,6 +7,3 @@ use Rattle.streetmap_rows.specs.Stored.{IsStored}
 
 pub stored_under : (p q : Option Text) (id : Text) (f : FeatureValue) → p ≡ q → IsPlaced q id f → IsStored p f
 stored_under p q id f same h = subst (λ o. IsStored o f) (sym same) (record { kept = h.is; timed = h.timed })
-
-pub placed_under : (p q : Option Text) (f : FeatureValue) → p ≡ q → IsStored p f → IsPlaced q f.id f
-placed_under p q f same h = subst (λ o. IsPlaced o f.id f) same (record { is = h.kept; named = refl; timed = h.timed })

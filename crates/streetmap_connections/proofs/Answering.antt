@@ -12,9 +12,6 @@ use Rattle.streetmap_connections.specs.Buffers.{exchange_of, history_of}
 use Rattle.streetmap_connections.specs.History.{after_answer}
 use Rattle.streetmap_connections.specs.Outgoings.{unsent_of}
 
-pub front_and_rest : (n : ℕ) (xs ys : List ℕ) → xs ≡ ys → n ≤ length xs → ys ≡ take n xs ++ drop (length (take n xs)) ys
-front_and_rest n xs ys same fits = rw (length-take-le n xs fits) (rw same (grind (arith, common_steps)))
-
 pub history_after : (b : Buffers) (t : Turn) (input : BytesMut Global) (turns : Log (BytesMut Global) Turn) (outgoing : Outgoing)
     → input.items ≡ drop t.len b.input.items → turns.items ≡ b.turns.items ++ (b.input, t) ∷ [] → t.len ≤ length b.input.items → unsent_of outgoing ≡ answer_text t.answer
     → history_of (record b { input = input; needs = 1; outgoing = outgoing; closes = t.closes; turns = turns }) ≡ after_answer (history_of b) (exchange_of b.input.items t)

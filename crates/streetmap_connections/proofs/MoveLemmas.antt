@@ -133,12 +133,6 @@ moves_by_receive most (Err e) old new left left' held held' finishes A less ok e
   steps = stays old new err.0;
 }
 
-pub unanswered_by_receive : {E : Type 0} (r : Result ℕ E) (old new : History) (A : ℕ → List ℕ → Type 0) (B : List ℕ → Type 0) (K : Type 0)
-    → IfOk r (λ n. (more : List ℕ) × A n more × B more × (new ≡ after_receive old more)) → OnErr r ((new ≡ old) × K)
-    → new.exchanges ≡ old.exchanges
-unanswered_by_receive (Ok n) old new A B K ok err = ap (λ (h : History). h.exchanges) ok.3
-unanswered_by_receive (Err e) old new A B K ok err = ap (λ (h : History). h.exchanges) err.0
-
 -- the connection wrote once
 pub moves_by_send : {E : Type 0} (most : ℕ) (r : Result ℕ E) (old new : History) (left left' held held' : Option (List ℕ)) (finishes : Bool)
     → IfOk r (λ n. (new ≡ after_send old n) × Appends held held' (take n old.unsent))

@@ -11,21 +11,6 @@ pub first_is_left : (xs ys : List ℕ) → 0 < length xs → first_of xs ys ≡ 
 first_is_left [] ys some = absurd (none some)
 first_is_left (x ∷ xs) ys some = refl
 
-some_length : (x : ℕ) (xs : List ℕ) → ¬ (length (x ∷ xs) ≤ 0)
-some_length x xs le = omega arith
-
-pub first_is_right : (xs ys : List ℕ) → length xs ≤ 0 → first_of xs ys ≡ ys
-first_is_right [] ys empty = refl
-first_is_right (x ∷ xs) ys empty = absurd (some_length x xs empty)
-
-pub first_empty : (xs ys : List ℕ) → first_of xs ys ≡ [] → xs ++ ys ≡ []
-first_empty [] ys e = e
-first_empty (x ∷ xs) ys e = grind (arith, common_steps)
-
-pub first_some : (xs ys : List ℕ) → first_of xs ys ≢ [] → xs ++ ys ≢ []
-first_some [] ys some = some
-first_some (x ∷ xs) ys some = λ e. grind (arith, common_steps)
-
 pub take_first : (n : ℕ) (xs ys : List ℕ) → n ≤ length (first_of xs ys) → take n (first_of xs ys) ≡ take n (xs ++ ys)
 take_first n [] ys fits = refl
 take_first n (x ∷ xs) ys fits = sym (take-append-le n (x ∷ xs) ys fits)
@@ -35,11 +20,4 @@ room_in_head at len xs ys within fits =
     let some : 0 < length (drop at xs) = rw length-drop (omega arith) in
     let left : len ≤ length (drop at xs) = rw (first_is_left (drop at xs) ys some) at fits in
     let same : length (drop at xs) ≡ length xs - at = length-drop at xs in
-    omega arith
-
-pub room_in_body : (at from len : ℕ) (xs ys : List ℕ) → length xs ≤ at → from ≤ length ys → len ≤ length (first_of (drop at xs) (drop from ys)) → from + len ≤ length ys
-room_in_body at from len xs ys past within fits =
-    let none_left : length (drop at xs) ≤ 0 = rw length-drop (omega arith) in
-    let right : len ≤ length (drop from ys) = rw (first_is_right (drop at xs) (drop from ys) none_left) at fits in
-    let same : length (drop from ys) ≡ length ys - from = length-drop from ys in
     omega arith

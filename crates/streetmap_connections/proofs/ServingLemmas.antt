@@ -38,9 +38,6 @@ module _ {S : Type 0} where
   all_in_order [] = All-nil IsOrderly
   all_in_order (c ∷ cs) = All-cons IsOrderly c cs c.connection.in_order (all_in_order cs)
 
-  pub lists_of : List (Client S) → List (List Exchange)
-  lists_of cs = map exchanges_of cs
-
   -- the lists of clients, one of whom comes after others in its slot
   lists_with : (front others back : List (Client S)) (c : Client S)
       → map exchanges_of (front ++ ((others ++ c ∷ []) ++ back)) ≡ (map exchanges_of front ++ map exchanges_of others) ++ (exchanges_of c ∷ map exchanges_of back)

@@ -8,12 +8,6 @@ use Rattle.streetmap_decimal.specs.Decimal.{IsFloor, IsCeiling, Sides, Encloses}
 use Rattle.streetmap_decimal.proofs.Powers.{pow_some, between_multiples}
 use Rattle.streetmap_decimal.proofs.Signs.{signed_abs}
 
--- the number times a power
-pub sides_up : (n : ℕ) (k : ℤ) (u : ℕ) → int_le (pos 0) k ≡ true → u ≡ n * 10 ^ unsigned_abs k
-    → u < 10 ^ 37 → Sides n k (Ok (u, u))
-sides_up n (pos k) u up e small = (e, e, small)
-sides_up n (negsuc k) u up e small = absurd (false≢true up)
-
 pub large_up : (n : ℕ) (k : ℤ) → int_le (pos 0) k ≡ true → 10 ^ 37 ≤ n * 10 ^ unsigned_abs k
     → Sides n k (Err OutOfGrid)
 large_up n (pos k) up large = (n * 10 ^ k, (refl, large))
@@ -22,14 +16,6 @@ large_up n (negsuc k) up large = absurd (false≢true up)
 never : (k : ℕ) → int_le (pos 0) (pos k) ≡ false → ⊥
 never k down = let up : int_le (pos 0) (pos k) ≡ true = grind (arith, nat_tests) in
     false≢true (sym down ∙ up)
-
--- the number divided by a power
-pub sides_down : (n : ℕ) (k : ℤ) (u v : ℕ) → int_le (pos 0) k ≡ false
-    → (u * 10 ^ unsigned_abs k ≤ n) × (n < (u + 1) * 10 ^ unsigned_abs k)
-    → (n ≤ v * 10 ^ unsigned_abs k) × (v * 10 ^ unsigned_abs k < n + 10 ^ unsigned_abs k)
-    → u < 10 ^ 37 → Sides n k (Ok (u, v))
-sides_down n (pos k) u v down low high small = absurd (never k down)
-sides_down n (negsuc k) u v down low high small = (low, high, small)
 
 pub large_down : (n : ℕ) (k : ℤ) (u : ℕ) → int_le (pos 0) k ≡ false → (u * 10 ^ unsigned_abs k ≤ n)
     × (n < (u + 1) * 10 ^ unsigned_abs k) → 10 ^ 37 ≤ u → Sides n k (Err OutOfGrid)

@@ -185,10 +185,6 @@ sides_once n k (Err TooManyDigits) s h i = absurd h
 sides_once n k (Err NotANumber) s h i = absurd h
 sides_once n k (Err Fraction) s h i = absurd h
 
--- both with the sign of m
-signed_sides : ℤ → ℕ × ℕ → ℤ × ℤ
-signed_sides m s = (with_sign_of m s.0, with_sign_of m s.1)
-
 same_pair : (m : ℤ) (a b : ℤ × ℤ) (s t : ℕ × ℕ) → s ≡ t → a.0 ≡ with_sign_of m s.0
     → a.1 ≡ with_sign_of m s.1 → b.0 ≡ with_sign_of m t.0 → b.1 ≡ with_sign_of m t.1 → a ≡ b
 same_pair m a b s t e f g h i =

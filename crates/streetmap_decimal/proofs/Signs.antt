@@ -60,11 +60,6 @@ lowered y z f g small short =
     ap (λ k. cast_signed w128 (cast_unsigned w128 k)) inner
     ∙ to_z-of_z w128 (y -ℤ z) (fits (y -ℤ z) (omega (arith, abs_difference y z)))
 
--- what does not fit is large
-pub unfit : (z : ℤ) → (FitsSigned w128 z → ⊥) → 2 ^ 127 ≤ unsigned_abs z
-unfit z never = elim (cases_lt (unsigned_abs z) (2 ^ 127))
-    [ inl h ↦ absurd (never (fits z h)) | inr h ↦ h ]
-
 above_zero : (n : ℤ) → pos 0 <ℤ n → int_le (pos 1) n ≡ true
 above_zero n h = grind (arith, ints, nat_tests)
 

@@ -313,10 +313,6 @@ ends_less s name old a b c later page u none w v =
     (less_after old a c (opening ++ part_text false u.front)
     (part_text later page.features ++ closing) u.written both))
 
--- the page is not written yet
-pub still_written : (s : State) (name : Text) (old a : Option (List ℕ)) (later : Bool) (page : PageValue) → Underway s name old a later page → WritesSome (features_in s name) old a
-still_written s name old a later page u = breaks_off s name old a a later page u ([], refl, Appends-nil a)
-
 -- a prefix of what comes before the pages is written
 pub begins_early : (s : State) (name : Text) (old new : Option (List ℕ)) (page : PageValue) →
     page_in s name (part_query None) ≡ Some page → AppendsBeginning old new opening →
@@ -350,10 +346,6 @@ part_written s name old a b later page u w =
 some_if : (o : Option (List FeatureValue)) (old new : Option (List ℕ)) → WritesSome o old new → WritesSomeIf o old new
 some_if None old new h = absurd h
 some_if (Some fs) old new h = h
-
-none_if : (o : Option (List FeatureValue)) (old : Option (List ℕ)) → WritesSomeIf o old old
-none_if None old = Keeps-refl old
-none_if (Some fs) old = ([], refl, Appends-nil old)
 
 -- by a write that failed
 write_ends-by : (T : Type 0) (s : State) (name : Text) (e : ExportFault) (old new : Option (List ℕ)) → IsWriteFault e → WritesSome (features_in s name) old new
@@ -393,16 +385,6 @@ page_ends {T} s name after r e old new is h w = subst (λ (x : Result T ExportFa
 not_there : (o : Option Collection) (after : Option Text) → option_map (λ (c : Collection). page_over (part_query after) (values c.features)) o ≡ None → option_map (λ (c : Collection). values c.features) o ≡ None
 not_there None after h = refl
 not_there (Some c) after h = cc
-
--- by the first page
-first_ends-by : (T : Type 0) (s : State) (name : Text) (e : ExportFault) (old : Option (List ℕ)) → ShowsPart s name None (Err e) → Exports {T = T} s name (Err e) old old
-first_ends-by T s name NoCollection old h = (not_there (get s.collections name) None h, Keeps-refl old)
-first_ends-by T s name WriteFailed old h = absurd h
-first_ends-by T s name FlushFailed old h = absurd h
-first_ends-by T s name (Stopped fault) old h = none_if (features_in s name) old
-
-pub first_ends : {T : Type 0} (s : State) (name : Text) (r : Result T ExportFault) (e : ExportFault) (old : Option (List ℕ)) → r ≡ Err e → ShowsPart s name None (Err e) → Exports s name r old old
-first_ends {T} s name r e old is h = subst (λ (x : Result T ExportFault). Exports s name x old old) (sym is) (first_ends-by T s name e old h)
 
 -- by what comes after the features
 pub end_exports : {T : Type 0} (s : State) (name : Text) (old a b c : Option (List ℕ)) (later : Bool) (page : PageValue) (r : Result T ExportFault) → Underway s name old a later page → page.next ≡ None

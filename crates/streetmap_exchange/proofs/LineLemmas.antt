@@ -97,9 +97,6 @@ keyed_append : (xs ys : List KeptBatch)
 keyed_append [] ys = refl
 keyed_append (x ∷ xs) ys = ap (λ l. keyed_batch x ∷ l) (keyed_append xs ys)
 
-line_alone : (x : KeyedBatch) → lines_text (x ∷ []) ≡ line_text x
-line_alone x = refl
-
 module _ (xs : List KeptBatch) (i : ℕ) (x : KeptBatch) (h : i < length xs) (is : x ≡ get_or xs i x)
     (a b c : Option (List ℕ)) (before : Appends a b (lines_text (keyed_batches (take i xs)))) where
   pub lines_break : AppendsBeginning b c (line_text (keyed_batch x))

@@ -98,13 +98,6 @@ module _ (root : Text) (y : Server) (e : Exchange) (w : web.HttpExchange) (is : 
       seq.no_room h (subst IsHead is.request head) (subst (λ (t : Text). Frames t (sized h)) is.request frames) says
       (ap (answer_by root (condition_of y) w.request.operation) outcome ∙ no_memory_response root (condition_of y) w.request.operation)
 
-  pub is_http : IsHttp it
-  is_http = record {
-    has_request = requested is.is.has_request;
-    closes = is.closes;
-    answers = is.text ∙ ap (λ (b : Bool). response_text b w.request.bare (web.response root (condition_of y) w)) (sym is.closes);
-  }
-
 pub is_sequential : (root : Text) (y : Server) (es : List Exchange) (ws : List web.HttpExchange) → AnsweredInTurn root (condition_of y) es ws
     → IsSequential root y (history_of root y es ws) (last_server y ws)
 is_sequential root y [] [] h = refl

@@ -10,11 +10,6 @@ use Rattle.streetmap_connections.specs.Timeline.{Timeline}
 use Rattle.streetmap_connections.proofs.Timelines.{timeline_goes_on}
 use Rattle.streetmap_guarantee.specs.Town.{IsInRealTime}
 
--- each timeline from the start is in real time
-pub in_real_time : (answered : List Exchange) (connections : List History)
-    → IsInRealTime answered connections
-in_real_time answered connections m = timeline_goes_on m.past [] interleaving.none
-
 -- nobody was let in before
 pub from_start : {S : Type 0} (before after : List (Slot S)) (es : List Exchange)
     → flat_map clients_in before ≡ [] → Timeline (histories_in before) es (histories_in after)

@@ -39,15 +39,6 @@ pub record TakenSoFar (run : List KeptOutline) (all rest : List FeatureValue) (o
   pub have : HaveIds (take place run) done
   pub holds : (q : QueryValue) (met : List FeatureValue) → IsFoldOf q old met → IsFoldOf q now (met ++ done)
 
-pub none_taken : (run : List KeptOutline) (all rest : List FeatureValue) (old : PageFold) → rest ≡ all → TakenSoFar run all rest old old 0
-none_taken run all rest old is = record {
-  done = [];
-  whole = is;
-  within = omega arith;
-  have = refl;
-  holds = λ q met held. subst (IsFoldOf q old) (sym (append-nil met)) held;
-}
-
 ids_more : (xs ys : List KeptOutline) (fs gs : List FeatureValue) → ids xs ≡ named fs → ids ys ≡ named gs → ids (xs ++ ys) ≡ named (fs ++ gs)
 ids_more [] ys [] gs p q = q
 ids_more [] ys (f ∷ fs) gs p q = absurd cc

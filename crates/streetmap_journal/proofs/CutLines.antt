@@ -179,30 +179,6 @@ after serial rest more Other some is other left = (
   λ starts. other (begins_same (line_head serial) rest 0 some starts),
 )
 
-head_some : (serial : ℕ) → 0 < length (line_head serial)
-head_some serial = let size = length-append (decimal serial) (9 ∷ []) in omega (arith, size)
-
-pub last_ends : (serial : ℕ) (old new : Option (List ℕ)) (left : Left) →
-    TakesFront old new (line_head serial) 0 → IfSome new (IsLeft left) →
-    IfSome old (λ rest. EndsAfterLast serial rest (ends_of left 0))
-last_ends serial None new left took is = tt
-last_ends serial (Some rest) None left took is = absurd took.1
-last_ends serial (Some rest) (Some more) left took is =
-    let some = head_some serial in
-    after serial rest more left some took.1 (took.2 some) is
-
-pub last_ahead : (serial n : ℕ) (old new : Option (List ℕ)) →
-    TakesFront old new (line_head serial) n → n ≡ length (line_head serial) →
-    IfSome old (λ rest. EndsAfterLast serial rest ends.Ahead)
-last_ahead serial n None new took all = tt
-last_ahead serial n (Some rest) None took all = absurd took.1
-last_ahead serial n (Some rest) (Some more) took all =
-    let head = line_head serial in
-    let whole : take n head ≡ head =
-    ap (λ (m : ℕ). take m head) all ∙ take-length head in
-    let is : rest ≡ head ++ more = took.1 ∙ ap (λ (l : List ℕ). l ++ more) whole in
-    ap (take (length head)) is ∙ take-append_seam head more
-
 -- a digit or the tab is no zero
 first_printed : (xs : List ℕ) → IsTrue (is_printed xs) → (n : ℕ) → 0 < n → (more : List ℕ) →
     are_zeros (take n (xs ++ 9 ∷ []) ++ more) ≡ false
@@ -260,25 +236,6 @@ unread_own ends.All h = absurd h
 unread_own ends.Cut h = absurd h
 unread_own ends.Other h = absurd h
 unread_own ends.Ahead h = absurd h
-
--- while a line is due no end is `Ahead`
-pub unread_due : (end : MatchEnd) → IsUnread end → end ≢ ends.Ahead
-unread_due ends.NotRead h = λ same. absurd (let no : ends.NotRead ≡ ends.Ahead = same in cc)
-unread_due (ends.Stopped fault) h =
-    λ same. absurd (let no : ends.Stopped fault ≡ ends.Ahead = same in cc)
-unread_due ends.All h = absurd h
-unread_due ends.Cut h = absurd h
-unread_due ends.Other h = absurd h
-unread_due ends.Ahead h = absurd h
-
-pub left_due : (left : Left) (n : ℕ) → ends_of left n ≢ ends.Ahead
-left_due Nothing n = nothing_due (n == 0)
-  where
-    nothing_due : (b : Bool) → cond b ends.All ends.Cut ≢ ends.Ahead
-    nothing_due true = λ same. absurd (let no : ends.All ≡ ends.Ahead = same in cc)
-    nothing_due false = λ same. absurd (let no : ends.Cut ≡ ends.Ahead = same in cc)
-left_due Zeros n = λ same. absurd (let no : ends.Cut ≡ ends.Ahead = same in cc)
-left_due Other n = λ same. absurd (let no : ends.Other ≡ ends.Ahead = same in cc)
 
 pub left_own : (left : Left) (n : ℕ) → IsOwn (ends_of left n)
 left_own Nothing n = nothing_own (n == 0)

@@ -38,24 +38,6 @@ IsLineWith s serial bytes =
     (text : Text) × (option_map kept_text (batch_in s serial) ≡ Some text)
     × (line_bytes (numbered serial text) ≡ bytes)
 
-pub line_due : (s : State) (serial : ℕ) (text line : List ℕ) →
-    Some text ≡ option_map kept_text (batch_in s serial) →
-    line ≡ line_bytes (numbered serial text) ++ 10 ∷ [] → line_of s serial ≡ Some line
-line_due s serial text line there made =
-    by_batch (batch_in s serial) there where
-      by_batch : (o : Option KeyedBatch) → Some text ≡ option_map kept_text o →
-          option_map (λ (b : KeyedBatch). line_bytes (numbered serial (kept_text b)) ++ 10 ∷ []) o
-          ≡ Some line
-      by_batch None h = absurd (let no : Some text ≡ None = h in cc)
-      by_batch (Some b) h =
-          let texts : kept_text b ≡ text = cc in
-          ap (λ (t : Text). Some (line_bytes (numbered serial t) ++ 10 ∷ [])) texts
-          ∙ ap Some (sym made)
-
-pub none_due : (s : State) (serial : ℕ) → None ≡ batch_in s serial → line_of s serial ≡ None
-none_due s serial none = ap (option_map (λ (b : KeyedBatch).
-    line_bytes (numbered serial (kept_text b)) ++ 10 ∷ [])) (sym none)
-
 -- a line that is due, without its line feed
 due_is : (s : State) (serial : ℕ) (line : List ℕ) (o : Option KeyedBatch) → batch_in s serial ≡ o →
     option_map (λ (b : KeyedBatch). line_bytes (numbered serial (kept_text b)) ++ 10 ∷ []) o
@@ -217,17 +199,6 @@ stopped s serial fault now = (
   λ same. absurd (let no : Stopped fault ≡ Ahead = same in cc),
 )
 
--- ---- the keeper
-
--- it answered, and was not the cause of the end
-pub own_reads : {K T : Type 0} {model : Model K} {a b : K} {x : T} {Is : State → T → Type 0} (end : MatchEnd) → IsRead model a b (Ok x) Is → IsOwn end → AreReads model a b (end_answer end)
-own_reads All read own = read_of read
-own_reads Cut read own = read_of read
-own_reads Other read own = read_of read
-own_reads Ahead read own = read_of read
-own_reads NotRead read own = read_of read
-own_reads {K} {T} {model} {a} {b} (Stopped fault) read own = subst (λ (f : Fault). AreReads model a b (fails_by f)) (sym own) (lost_read read)
-
 -- ---- of the same bytes, and of none
 
 pub matches_kept : (s : State) (after : ℕ) (a b : Option (List ℕ)) (found : Matched) → Keeps a b → Matches s after b found → Matches s after a found
@@ -241,24 +212,3 @@ matches_kept s after None b found same h = record {
 matches_kept s after (Some xs) None found same h = absurd same
 matches_kept s after (Some xs) (Some ys) found same h =
     subst (λ (bytes : List ℕ). Matches s after (Some bytes) found) same h
-
-pub nothing_matches : (s : State) (after : ℕ) (a : Option (List ℕ)) → IfSome a (λ bytes. bytes ≡ []) → Matches s after a (record { count = 0; bytes = 0; end = All })
-nothing_matches s after None none = record {
-  within = omega arith;
-  front = tt;
-  size = refl;
-  ends = tt;
-  ahead = λ same. absurd (let no : All ≡ Ahead = same in cc);
-}
-nothing_matches s after (Some bytes) none = record {
-  within = omega arith;
-  front = (bytes, refl);
-  size = refl;
-  ends = (bytes, refl, no_rest (line_of s (serial_following after 0)) bytes none);
-  ahead = λ same. absurd (let no : All ≡ Ahead = same in cc);
-}
-  where
-    no_rest : (due : Option (List ℕ)) (rest : List ℕ) → rest ≡ [] →
-        EndsBy due (serial_following after 0) rest All
-    no_rest None rest none = none
-    no_rest (Some line) rest none = none

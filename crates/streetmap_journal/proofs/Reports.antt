@@ -41,11 +41,3 @@ pub with_reply : (came : Result Reply Fault → Type 0) (P : Type 0) (r : Result
     OfReply came r → OfReply (λ reply. came reply × P) r
 with_reply came P (Ok reply) p h = (h, p)
 with_reply came P (Err fault) p h = tt
-
--- the writer was informed, and has the same bytes
-pub reported_holds : (s : State) (p q : Position) (a b : Option (List ℕ)) → q ≡ p → Keeps a b → HoldsJournal p a s → HoldsJournal q b s
-reported_holds s p q None b same keeps h = absurd h
-reported_holds s p q (Some xs) None same keeps h = absurd keeps
-reported_holds s p q (Some xs) (Some ys) same keeps h =
-    subst (λ (r : Position). HoldsJournal r (Some ys) s) (sym same)
-    (subst (λ (zs : List ℕ). HoldsJournal p (Some zs) s) (sym keeps) h)

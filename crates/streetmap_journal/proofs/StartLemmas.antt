@@ -179,14 +179,6 @@ module _ {K : Type 0} {model : Model K} {a b : K} where
   ended_reads {c} W after found (Stopped fault) is one h = reads_then (no_fault_read one) (subst (λ (e : MatchEnd). AreReads model b c (end_answer e)) is h)
   ended_reads W after found (NotOpened error) is one h = absurd is
 
-  -- the keeper answered, and was not the cause of a fault
-  pub own_fault : (W : Type 0) {T : Type 0} {x : T} {Is : State → T → Type 0} (fault : StartFault) → IsOwnFault fault → IsRead model a b (Ok x) Is → AreReads model a b (start_answer {W = W} (Err fault))
-  own_fault W (Stopped fault) own read = subst (λ (f : Fault). AreReads model a b (fails_by f)) (sym own) (lost_read read)
-  own_fault W Ahead own read = absurd own
-  own_fault W (Other serial) own read = absurd own
-  own_fault W NotRead own read = answered_read read
-  own_fault W (NotOpened error) own read = answered_read read
-
 -- what is written after the lines that existed
 pub resumed_of : (s : State) → IsState s → (requested after : ℕ) (found : Matched)
     (a b c w : Option (List ℕ)) → Finds s requested after a found → after ≤ batch_count s →

@@ -42,15 +42,6 @@ module _ (text : List ℕ) where
       ∙ ap (λ (w : List ℕ). plain ++ w) (append_assoc (between copied at) token (read_from (at + n)))
       ∙ ap (λ (w : List ℕ). plain ++ (between copied at ++ w)) (sym now) ∙ so_far
 
-  pub token_changes : (plain total : List ℕ) (copied at n : ℕ) → IsToken at n
-      → plain ++ (between copied at ++ read_from at) ≡ total
-      → ((plain ++ between copied at) ++ whole_text (take n (drop at text))) ++ (between (at + n) (at + n) ++ read_from (at + n)) ≡ total
-  token_changes plain total copied at n first so_far =
-      let none : at + n - (at + n) ≡ zero = omega arith in
-      rw none (append_assoc (plain ++ between copied at) (whole_text (take n (drop at text))) (read_from (at + n))
-      ∙ ap (λ (w : List ℕ). (plain ++ between copied at) ++ w) (sym (next_token at n first))
-      ∙ append_assoc plain (between copied at) (read_from at) ∙ so_far)
-
   pub at_the_end : (plain total : List ℕ) (copied at : ℕ) → at ≤ length text → length text ≤ at
       → plain ++ (between copied at ++ read_from at) ≡ total → plain ++ drop copied text ≡ total
   unfolding tokens_from

@@ -165,13 +165,3 @@ pub record AreCalls {K : Type 0} (model : Model K) (old new : K) (fault : Option
     pub began_clean : model.is_clean new → model.is_clean old
     pub faults : RunShuts fault (model.cause old) (model.cause new)
     pub reopen : fault ≡ Some Reopen → LeavesSame (model.may_leave old) (model.may_leave new)
-
--- calls in a row that only read, if the keeper represented this state: it stays; or the store
--- failed, and a crash leaves it
-abbrev pub ReadsEnd : {K : Type 0} → Model K → (old new : K) → State → Option Fault → Type 0
-ReadsEnd model old new s None = model.represents new s
-ReadsEnd model old new s (Some Memory) = model.represents new s
-ReadsEnd model old new s (Some Device) =
-    model.fails old new × LeavesOnly (model.may_leave new) (Some s)
-ReadsEnd model old new s (Some Damaged) = ⊥
-ReadsEnd model old new s (Some Reopen) = ⊥

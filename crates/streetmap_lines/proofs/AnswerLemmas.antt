@@ -137,19 +137,6 @@ answered_all (Some input) None old w s h end = absurd h
 answered_all (Some input) (Some rest) old w s h end =
     subst (λ ls. Appends old w (answers_of opening_state ls)) (sym (h.all ∙ ap (λ r. h.done ++ lines r) end ∙ append-nil h.done)) h.written
 
-pub answered_short : (a b old w : Option (List ℕ)) (s : State) → WhereKnown a b (λ input rest. IsAnswered input rest old w s) → IsAtEnd b
-    → IfSome a (λ input. first_too_long input ≡ None)
-answered_short None b old w s h end = tt
-answered_short (Some input) None old w s h end = absurd h
-answered_short (Some input) (Some rest) old w s h end = h.short ∙ ap (λ r. option_map (λ n. length h.done + n) (first_too_long r)) end
-
-pub answered_whole : (a b c old w : Option (List ℕ)) (s : State) → WhereKnown a b (λ input rest. IsAnswered input rest old w s) → Keeps b c → IsAtEnd b
-    → OnSome a (IsAtEnd c)
-answered_whole None b c old w s h k end = tt
-answered_whole (Some input) None c old w s h k end = absurd h
-answered_whole (Some input) (Some rest) None old w s h k end = absurd k
-answered_whole (Some input) (Some rest) (Some later) old w s h k end = k ∙ end
-
 -- the answers so far, and no more
 pub answered_first : (a b old w : Option (List ℕ)) (s : State) → WhereKnown a b (λ input rest. IsAnswered input rest old w s)
     → IfSome a (λ input. AnswersFirst old w opening_state (lines input))
@@ -157,17 +144,6 @@ answered_first None b old w s h = tt
 answered_first (Some input) None old w s h = absurd h
 answered_first (Some input) (Some rest) old w s h =
     (length h.done, subst (λ ls. Appends old w (answers_of opening_state ls)) (sym (ap (take (length h.done)) h.all ∙ take-append_seam h.done (lines rest))) h.written)
-
-pub answered_too_long : (a b old w : Option (List ℕ)) (s : State) → WhereKnown a b (λ input rest. IsAnswered input rest old w s)
-    → IfSome b (λ rest. first_too_long rest ≡ Some 0)
-    → IfSome a (λ input. IsSomeAnd (first_too_long input) (λ count. Appends old w (answers_of opening_state (take count (lines input)))))
-answered_too_long None b old w s h long = tt
-answered_too_long (Some input) None old w s h long = absurd h
-answered_too_long (Some input) (Some rest) old w s h long =
-    let count : length h.done + 0 ≡ length h.done = omega arith in
-    let found : first_too_long input ≡ Some (length h.done) = h.short ∙ ap (option_map (λ n. length h.done + n)) long ∙ ap Some count in
-    subst (λ o. IsSomeAnd o (λ count. Appends old w (answers_of opening_state (take count (lines input))))) (sym found)
-    (subst (λ ls. Appends old w (answers_of opening_state ls)) (sym (ap (take (length h.done)) h.all ∙ take-append_seam h.done (lines rest))) h.written)
 
 rest-written : (input rest : List ℕ) (old w v : Option (List ℕ)) (s : State) →
     IsAnswered input rest old w s → AppendsBeginning w v (answers_of s (lines rest)) →

@@ -31,11 +31,6 @@ use Rattle.streetmap_loading.specs.declared.loaded.Loaded.{Loaded}
 use Rattle.streetmap_loading.specs.declared.load_fault.LoadFault.{LoadFault}
 use Rattle.streetmap_loading.specs.declared.load_fault.LoadFault.TheVariants.{BadKey, BadCount, BadBatch, AtFault, ReadFailed, Memory, Refused, Stopped, WriteFailed}
 
--- the items that were read, without what is left of the source
-begins_known : (items : List Item) (xs : List Item) → ItemsBeginWith (Some items) xs →
-    (rest : List Item) × (items ≡ xs ++ rest)
-begins_known items xs h = h
-
 off_known : (items : List Item) (new : Option (List Item)) (xs : List Item) →
     TakesOff (Some items) new xs → (rest : List Item) × (items ≡ xs ++ rest)
 off_known items None xs off = absurd off

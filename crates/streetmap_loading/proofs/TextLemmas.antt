@@ -192,27 +192,6 @@ lift_off None b xs off = tt
 lift_off (Some items) None xs off = absurd off
 lift_off (Some items) (Some rest) xs off = off
 
-lift_none : (a b : Option (List Item)) → HasNoItem a b → HasNoItem (and_left None a) (and_left None b)
-lift_none None b none = tt
-lift_none (Some items) None none = tt
-lift_none (Some items) (Some rest) none = none
-
-lift_first : (a : Option (List Item)) (fault : TextFault) → FirstIs a fault →
-    FirstIs (and_left None a) fault
-lift_first None fault first = tt
-lift_first (Some items) fault first = first
-
-pub opening_off : (opening : PlacedEdit) (a : Option (List Item)) →
-    TakesOff (and_left (Some opening) a) (and_left None a) (Ok (placed_value opening) ∷ [])
-opening_off opening None = tt
-opening_off opening (Some items) = refl
-
-past_first : (a b : Option (List Item)) (fault : TextFault) → TakesOff a b [] → FirstIs b fault →
-    FirstIs a fault
-past_first None b fault off first = tt
-past_first (Some items) None fault off first = absurd off
-past_first (Some items) (Some rest) fault off first = (first.0, off ∙ first.1)
-
 module _ (old new : FeatureRules) (f n : ℕ) (a b : Option Text) (p q : Option PlacedEdit)
     (mid : Option (List Item)) (before : p ≡ None) (same : new ≡ old)
     (off : TakesOff (items_left (rules_value old) f a) mid []) where
@@ -231,51 +210,3 @@ module _ (old new : FeatureRules) (f n : ℕ) (a b : Option Text) (p q : Option 
       (lift_off (items_left (rules_value old) f a) (items_left (rules_value old) n b) xs
       (takes_then (items_left (rules_value old) f a) mid
       (items_left (rules_value old) n b) [] xs off took))))
-
-  pub next_none : q ≡ None → HasNoItem mid (items_left (rules_value old) n b) →
-      HasNoItem (and_left p (items_left (rules_value old) f a))
-      (and_left q (items_left (rules_value new) n b))
-  next_none after none =
-      subst (λ (x : Option PlacedEdit). HasNoItem (and_left x (items_left (rules_value old) f a))
-      (and_left q (items_left (rules_value new) n b))) (sym before)
-      (subst (λ (x : Option PlacedEdit). HasNoItem
-      (and_left None (items_left (rules_value old) f a))
-      (and_left x (items_left (rules_value new) n b))) (sym after)
-      (subst (λ (x : FeatureRules). HasNoItem (and_left None (items_left (rules_value old) f a))
-      (and_left None (items_left (rules_value x) n b))) (sym same)
-      (lift_none (items_left (rules_value old) f a) (items_left (rules_value old) n b)
-      (none_left (items_left (rules_value old) f a) mid
-      (items_left (rules_value old) n b) [] off none))))
-
-pub next_first :
-    (old : FeatureRules) (f : ℕ) (a : Option Text) (p : Option PlacedEdit)
-    (mid : Option (List Item)) (fault : TextFault) →
-    p ≡ None →
-    TakesOff (items_left (rules_value old) f a) mid [] → FirstIs mid fault → FirstIs
-    (and_left p (items_left (rules_value old) f a)) fault
-next_first old f a p mid fault before off first =
-    subst (λ (x : Option PlacedEdit). FirstIs (and_left x (items_left (rules_value old) f a))
-    fault)
-    (sym before)
-    (lift_first (items_left (rules_value old) f a) fault
-    (past_first (items_left (rules_value old) f a) mid fault off first))
-
--- the next edit is not read
-pub next_unread :
-    (old new : FeatureRules) (f n : ℕ) (a b : Option Text) (p q : Option PlacedEdit)
-    (mid : Option (List Item)) (u : LoadFault) →
-    p ≡ None →
-    TakesOff (items_left (rules_value old) f a) mid [] → Steps mid
-    (items_left (rules_value old) n b) (Err u) →
-    SourceGives (and_left p (items_left (rules_value old) f a))
-    (and_left q (items_left (rules_value new) n b)) (Err u)
-next_unread old new f n a b p q mid (AtFault fault) before off first = next_first old f a p
-    mid fault before off first
-next_unread old new f n a b p q mid ReadFailed before off first = tt
-next_unread old new f n a b p q mid Memory before off first = tt
-next_unread old new f n a b p q mid (Refused why place) before off first = absurd first
-next_unread old new f n a b p q mid (Stopped fault) before off first = absurd first
-next_unread old new f n a b p q mid WriteFailed before off first = absurd first
-next_unread old new f n a b p q mid BadKey before off first = absurd first
-next_unread old new f n a b p q mid BadCount before off first = absurd first
-next_unread old new f n a b p q mid BadBatch before off first = absurd first

@@ -42,19 +42,6 @@ pub still_listed : (old new : Cells) → KeepsExtents old new → (cs : List Chu
 still_listed old new keeps cs h = All-weaker (IsListedChunk old) (IsListedChunk new) (λ chunk held. still_under old new keeps chunk.number chunk.outlines.items held) cs h
 
 -- ---- chunks with no mark have no candidates
-candidate_marked : (cells : Cells) (area : GridBox) (marks : Marks) → MarksAll cells (box_value area) marks → (number : ℕ) (e : Option GridBox) (g : Option GeometryValue) → IsListedIf cells number e → option_map box_value e ≡ option_map extent_of g
-    → passes extent_overlaps g (Some (box_value area)) ≡ true → is_marked marks number ≡ true
-candidate_marked cells area marks all number e None listed is on = absurd cc
-candidate_marked cells area marks all number None (Some v) listed is on = absurd cc
-candidate_marked cells area marks all number (Some e) (Some v) listed is on =
-    let one : box_value e ≡ extent_of v = cc in
-    all number (box_value e) listed (subst (λ b. overlaps b (box_value area) ≡ true) (sym one) on)
-
-pub marks_candidates : (outlines : Chunks) (q : Query) (area : GridBox) (marks : Marks) → q.bbox ≡ Some area → MarksAll outlines.cells (box_value area) marks → MarksCandidates outlines (query_value q) marks
-marks_candidates outlines q area marks requested all number o f listed is candidate =
-    let in_box = (and_parts (passes extent_overlaps f.geometry (query_value q).bbox) (passes seconds_overlap f.time (requested_interval (query_value q))) candidate).0 in
-    candidate_marked outlines.cells area marks all number o.extent f.geometry listed (ap (λ (v : FeatureOutlineValue). v.extent) is)
-    (subst (λ (b : Option GridBox). passes extent_overlaps f.geometry (option_map box_value b) ≡ true) requested in_box)
 
 none_marked : (outlines : Chunks) (q : Query) (marks : Option Marks) (number : ℕ) → IfSome marks (MarksCandidates outlines (query_value q)) → is_marked_if marks number ≡ false
     → (o : KeptOutline) (f : FeatureValue) → IsListedIf outlines.cells number o.extent → IsOutlineOf o f → is_candidate (query_value q) f ≡ false

@@ -17,10 +17,6 @@ tails x y xs ys e = cc
 abbrev Longer : {A : Type 0} → List A → List A → List A → List A → Type 0
 Longer {A} xs ys us vs = (zs : List A) × (us ≡ xs ++ zs) × (ys ≡ zs ++ vs)
 
-longer_by : {A : Type 0} (x : A) (xs ys us vs : List A) → Longer xs ys us vs →
-    Longer (x ∷ xs) ys (x ∷ us) vs
-longer_by x xs ys us vs l = (l.0, ap (λ t. x ∷ t) l.1, l.2)
-
 step : {A : Type 0} (x y : A) (xs ys us vs : List A) → x ≡ y →
     Longer xs ys us vs ⊎ Longer us vs xs ys →
     Longer (x ∷ xs) ys (y ∷ us) vs ⊎ Longer (y ∷ us) vs (x ∷ xs) ys

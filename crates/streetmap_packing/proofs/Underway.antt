@@ -14,10 +14,6 @@ use Rattle.streetmap_packing.proofs.PackLemmas.{shorter, numbered_append}
 pub nothing : (each : ℕ) (key : Text) → Underway each key [] [] []
 nothing each key = record { done = refl; passing = λ some. absurd (some refl) }
 
-not_nil : (es : List EditValue) (e : EditValue) → es ++ e ∷ [] ≢ []
-not_nil [] e h = cc
-not_nil (x ∷ es) e h = cc
-
 false_from : (each n : ℕ) (b : Bool) → each < n → (leb n each && b) ≡ false
 false_from each n b h = let over : leb n each ≡ false = grind (arith, nat_tests) in ap (λ t. t && b)
     over

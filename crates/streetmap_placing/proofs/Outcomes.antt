@@ -4,14 +4,6 @@ use Rattle.streetmap_placing.specs.Placed.{Then, Made, Answers}
 use Rattle.streetmap_placing.specs.declared.fault.PlacingFault.{PlacingFault}
 use Rattle.streetmap_placing.specs.declared.fault.PlacingFault.TheVariants.{Memory, NotJson, TooManyDigits, OutOfGrid, Fraction}
 
-pub made_ok : {A B : Type 0} (make : A → B) (First : Result A PlacingFault → Type 0) (a : A)
-    → First (Ok a) → Made make First (Ok (make a))
-made_ok make First a h = (a, (h, refl))
-
-pub made_err : {A B : Type 0} (make : A → B) (First : Result A PlacingFault → Type 0)
-    (f : PlacingFault) → First (Err f) → Made make First (Err f)
-made_err make First f h = inl h
-
 pub then_next : {A B : Type 0} (First : Result A PlacingFault → Type 0)
     (Next : A → Result B PlacingFault → Type 0) (a : A) (r : Result B PlacingFault) → First (Ok a)
     → Next a r → Then First Next r

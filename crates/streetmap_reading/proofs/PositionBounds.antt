@@ -17,13 +17,6 @@ use Rattle.streetmap_grid.proofs.Growing.{same_extent, positions_extent_is, exte
 use Rattle.streetmap_geojson.specs.FeatureInvariant.{IsGeometryIf}
 use Rattle.streetmap_ledger.specs.Summaries.{extent_if}
 
--- the bounds of a list and of none
-pub bounds_none : (ps qs : List PositionValue) (o : Option GridBox) → qs ≡ [] → AreBounds ps o → AreBounds (ps ++ qs) o
-bounds_none ps qs o none b = subst (λ vs. AreBounds vs o) (sym (ap (λ vs. ps ++ vs) none ∙ append-nil ps)) b
-
-pub none_bounds : (ps qs : List PositionValue) (o : Option GridBox) → ps ≡ [] → AreBounds qs o → AreBounds (ps ++ qs) o
-none_bounds ps qs o none b = subst (λ vs. AreBounds vs o) (sym (ap (λ vs. vs ++ qs) none)) b
-
 -- the bounds of a feature's positions
 pub feature_bounds : (o : Option GridBox) (g : Option GeometryValue) → IsGeometryIf g → option_map box_value o ≡ option_map extent_of g → AreBounds (option_map_or vertices g []) o
 feature_bounds None None h e = refl

@@ -85,15 +85,6 @@ row_is t b counts serial batch read is e same =
     ap (given_by t) is ∙ (accepted_given t b counts serial e
     ∙ ap (λ (x : KeyedBatch). Some x) (sym same))
 
-pub row_other : (t : State) (b : BatchValue) (counts : Counts) (serial : ℕ) (batch : KeyedBatch)
-    (read : Option BatchValue) → read ≡ Some b → (act t b).reply ≡ Accepted counts serial →
-    (batch ≡ row_with b counts serial → ⊥) → given_by t read ≡ Some batch → ⊥
-row_other t b counts serial batch read is e other h =
-    let both : Some batch ≡ Some (row_with b counts serial) =
-    sym h ∙ (ap (given_by t) is ∙ accepted_given t b counts serial e) in
-    let same : batch ≡ row_with b counts serial = cc in
-    other same
-
 pub not_accepted : (t : State) (b : BatchValue) (batch : KeyedBatch) (reply : Reply)
     (read : Option BatchValue) → read ≡ Some b → (act t b).reply ≡ reply →
     is_accepted reply ≡ false → given_by t read ≡ Some batch → ⊥

@@ -264,11 +264,6 @@ module _ (s t : State) (name : Text) (c d : Collection) (sound : IsState s) (aft
       (at_theirs q f) one in
       goes_further id two.0 two.1 two.2
 
--- pages that are not the same are those of other features
-pub not_same : (fs gs : List FeatureValue) (after : Option Text) →
-    (page_after all fs after ≡ page_after all gs after → ⊥) → fs ≡ gs → ⊥
-not_same fs gs after other same = other (ap (λ l. page_after all l after) same)
-
 -- ---- collections with the same features
 
 pub same_collection : (s t : State) (name : Text) (c d : Collection) → IsState s → IsState t →

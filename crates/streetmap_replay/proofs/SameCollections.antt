@@ -95,40 +95,6 @@ reported_of s name a h = by (get s.collections name) refl h where
         time = ap (λ (x : SummaryValue). x.time) (sym same);
       }
 
-none_reported : (s : State) (name : Text) → summary_in s name ≡ None → get s.collections name ≡ None
-none_reported s name h = by (get s.collections name) h where
-  by : (o : Option Collection) → option_map (summary_of name) o ≡ None → o ≡ None
-  by None e = refl
-  by (Some c) e = absurd cc
-
-pub reported_alone : (s t : State) (name : Text) (a : SummaryValue) → summary_in s name ≡ Some a →
-    summary_in t name ≡ None → Decides false (IsSame s t name)
-reported_alone s t name a reported none =
-    let it = reported_of s name a reported in (
-      λ no. absurd cc,
-      λ same. (
-          let both : Some it.collection ≡ None =
-          sym it.there ∙ (same ∙ none_reported t name none) in absurd cc
-          ),
-    )
-
-pub reported_other : (s t : State) (name : Text) (a b : SummaryValue) → summary_in s name ≡ Some a →
-    summary_in t name ≡ Some b → (AreAlike a b → ⊥) → Decides false (IsSame s t name)
-reported_other s t name a b reported other unlike =
-    let it = reported_of s name a reported in
-    let its = reported_of t name b other in (
-      λ no. absurd cc,
-      λ same. (
-          let both : Some it.collection ≡ Some its.collection =
-          sym it.there ∙ (same ∙ its.there) in
-          let one : it.collection ≡ its.collection = cc in
-          absurd (unlike (
-            it.title ∙ (ap (λ (c : Collection). c.title) one ∙ sym its.title),
-            it.time ∙ (ap (λ (c : Collection). c.time) one ∙ sym its.time),
-          ))
-          ),
-    )
-
 pub same_by_features : (s t : State) (name : Text) (c d : Collection) → IsState s → IsState t →
     get s.collections name ≡ Some c → get t.collections name ≡ Some d → c.title ≡ d.title →
     c.time ≡ d.time → (values c.features ≡ values d.features → IsSame s t name)
@@ -180,9 +146,6 @@ take_entry : {A : Type 0} (n : ℕ) (xs : List A) (x : A) → slice_get xs n ≡
 take_entry n [] x h = absurd cc
 take_entry zero (y ∷ ys) x h = let same : y ≡ x = cc in ap (λ z. z ∷ []) same
 take_entry (suc n) (y ∷ ys) x h = ap (λ l. y ∷ l) (take_entry n ys x h)
-
-pub none_yet : (s t : State) → AreSame s t (take 0 (entries s.collections))
-none_yet s t = All-nil (λ (e : Text × Collection). IsSame s t e.0)
 
 pub one_more : (s t : State) (i : ℕ) (a : Summary) → Place s i a →
     AreSame s t (take i (entries s.collections)) → IsSame s t (string_bytes a.id) →

@@ -22,7 +22,3 @@ leaves_either s b old new only becomes o left = elim (becomes left.0 left.1) [
   | inl was ↦ inl (only o (left.0, was, left.2))
   | inr did ↦ inr (trees_of_one (act s b).state did.0.schema did.0.trees did.1 o (subst (λ trees. AreTreesOf trees o) did.2 left.2))
 ]
-
--- a connection rests at one state
-pub rests_only : (seen : Seen) (s : State) → Rests seen s → (t : State) → Rests seen t → t ≡ s
-rests_only seen s rests t other = one_kept t s seen.now.schema seen.now.schema seen.now.trees other.kept rests.kept

@@ -167,21 +167,6 @@ module _ (old new : Seen) where
     | inr outside ↦ let same : e ≡ SqliteFailure TransactionState = let is = (ended outside).0 in cc in other old new e (ap is_disk_error same)
   ]
 
-  pub failed_commit : (e : Error) → FailsToCommit old new e → HasReason old new e
-  failed_commit e (inl failing) = failed ⊥ e failing
-  failed_commit e (inr ended) = other old new e (ap is_disk_error ended.0)
-
-  -- by the result of a call
-  pub if_executed_inside : (in_batch : Bool) (held : ℕ) (sql : List ℕ) (params : Row) (r : Result ℕ Error)
-      → ExecutesInsideIn in_batch held sql params old new r → IfErr r (HasReason old new)
-  if_executed_inside in_batch held sql params (Ok count) h = tt
-  if_executed_inside in_batch held sql params (Err e) h = executed_inside in_batch held sql params e h
-
-  pub if_queried : {A : Type 0} (sql : List ℕ) (params : Row) (r : Result A Error)
-      → IfErr r (FailsToQuery sql params old new) → IfErr r (HasReason old new)
-  if_queried sql params (Ok a) h = tt
-  if_queried sql params (Err e) h = queried sql params e h
-
   pub if_queried_inside : {A : Type 0} (sql : List ℕ) (params : Row) (r : Result A Error)
       → IfErr r (λ e. FailsToQuery sql params old new e ⊎ IsTooLate sql params old new e)
       → IfErr r (HasReason old new)
@@ -219,15 +204,6 @@ pub reason_later : (old mid new : Seen) (e : Error) (Commits : Trees → Type 0)
     → HasReason old new e
 reason_later old mid new e Commits survives clean counts come =
     reason_on old mid new e survives.counts (survives.closes clean) counts come
-
--- the error that a `?` hands on of the second of two calls
-pub if_later : {A : Type 0} (r : Result A Error) (old mid new : Seen) (e : Error) (Commits After : Trees → Type 0)
-    → IsErrAnd r (λ x. x ≡ e) → Survives old mid Commits → Survives mid new After → HasCleanDisk new
-    → HasReason mid new e → IfErr r (HasReason old new)
-if_later (Ok a) old mid new e Commits After is first second clean come = absurd is
-if_later (Err x) old mid new e Commits After is first second clean come =
-    let early : HasCleanDisk mid = omega (arith, clean, second.clean) in
-    subst (HasReason old new) (sym is) (reason_later old mid new e Commits first early second.counts come)
 
 -- ---- how a call ends that met an error
 

@@ -166,6 +166,3 @@ module _ (old new : Seen) (s : State) (represented : StandsFor s old.now) where
 
   pub kept_commits_nothing : (key : Text) (trees : Trees) → CommitsShowing select_batch (Words key ∷ []) old trees → ⊥
   kept_commits_nothing key = commits_nothing select_batch (Words key ∷ []) old new _ _ kept_means
-
-  pub collection_commits_nothing : (name : Text) (trees : Trees) → CommitsShowing select_collection (Words name ∷ []) old trees → ⊥
-  collection_commits_nothing name = commits_nothing select_collection (Words name ∷ []) old new _ _ collection_means

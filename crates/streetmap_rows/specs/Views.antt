@@ -27,7 +27,3 @@ collection_view c = Words c.title ∷ or_null Words c.time ∷ []
 -- the row of a collection: one row, or none
 abbrev pub collection_rows : Text → State → List Row
 collection_rows name s = option_to_list (option_map collection_view (get s.collections name))
-
--- the id of a feature: one row, or none
-abbrev pub id_rows : KeyPair → State → List Row
-id_rows p s = option_to_list (option_map (λ (f : FeatureValue). Words p.1 ∷ []) (feature_at s p))

@@ -12,11 +12,6 @@ use Rattle.streetmap_tables.specs.declared.openings.OpenFault.{OpenFault}
 use Rattle.streetmap_tables.specs.declared.openings.OpenFault.TheVariants as opening
 use Rattle.streetmap_tables.specs.Reasons.{IsOwn, HasReasonIn, IsReturnedFor, OpensFor}
 
-pub own_in : (old new : Seen) (f : ReadFault) → IsOwn f → HasReasonIn old new f
-own_in old new read.Memory own = tt
-own_in old new (read.Store e) own = absurd own
-own_in old new read.Unread own = tt
-
 pub unread_own : (e : Error) (f : ReadFault)
     → f ≡ (if is_memory e then read.Memory else read.Unread) → IsOwn f
 unread_own e f is = subst IsOwn (sym is) (by (is_memory e))
@@ -38,12 +33,6 @@ reason_in_later old mid new read.Memory Commits After first second clean come = 
 reason_in_later old mid new (read.Store e) Commits After first second clean come =
     let early : HasCleanDisk mid = omega (arith, clean, second.clean) in reason_later old mid new e Commits first early second.counts come
 reason_in_later old mid new read.Unread Commits After first second clean come = tt
-
-pub reason_in_still : (old mid new : Seen) (f : ReadFault) (After : Trees → Type 0)
-    → Survives mid new After → HasReasonIn old mid f → HasReasonIn old new f
-reason_in_still old mid new read.Memory After second come = tt
-reason_in_still old mid new (read.Store e) After second come = reason_still old mid new e come second.counts
-reason_in_still old mid new read.Unread After second come = tt
 
 pub opens_for : (old mid new : Seen) (f : ReadFault) (reported : OpenFault) (Commits After : Trees → Type 0)
     → Survives old mid Commits → Survives mid new After → HasCleanDisk new → HasReasonIn old mid f

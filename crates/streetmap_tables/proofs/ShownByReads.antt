@@ -37,9 +37,6 @@ serials_bare = select_bare selects_serials select_serials_is
 pub rows_bare : IsBare old_rows_text
 rows_bare = select_bare selects_rows select_rows_is
 
-pub head_bare : IsBare select_collection
-head_bare = select_bare selects_collection select_collection_is
-
 -- ---- one read
 
 module _ (text : List ℕ) (bare : IsBare text) (old new : Seen) where
