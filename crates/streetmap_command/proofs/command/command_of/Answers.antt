@@ -57,6 +57,3 @@ returns-in-load-clause-refused c =
     (named (λ b. (out-SubCommand (box_value b)).name.now) (λ b. rows_of (found_of (out-SubCommand (box_value b)).matches))
     (out-ArgMatches c.args.matches.now).subcommand c.in-Some.name.now rows c.in-Some.ensures.name c.in-Some.ensures.rows)
     c.in-load.is c.read_load.ensures.refused
-
-pub returns-in_default-name-clause-refused : goal.returns-in_default-name-clause-refused
-returns-in_default-name-clause-refused c = search rules

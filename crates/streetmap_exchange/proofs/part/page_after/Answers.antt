@@ -7,6 +7,3 @@ returns-in-Ok-Some-clause-reads g c = answered_read c.in-Ok-Some.ensures
 
 pub returns-in-Ok-None-clause-reads : goal.returns-in-Ok-None-clause-reads
 returns-in-Ok-None-clause-reads g c = answered_read c.in-Ok-None.ensures
-
-pub returns-in-Ok-None-clause-shows : goal.returns-in-Ok-None-clause-shows
-returns-in-Ok-None-clause-shows c = search rules

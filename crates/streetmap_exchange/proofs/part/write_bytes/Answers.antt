@@ -2,9 +2,6 @@ use Rattle.std.proofs.Common.{rules}
 use Rattle.streetmap_text_lines.proofs.WriteLemmas.{first_is_beginning, first_is_less}
 use Rattle.streetmap_exchange.proofs.part.write_bytes.Goals as goal
 
-pub returns-in-Err-clause-ok : goal.returns-in-Err-clause-ok
-returns-in-Err-clause-ok c = search rules
-
 pub returns-in-Err-clause-err : goal.returns-in-Err-clause-err
 returns-in-Err-clause-err g c =
     first_is_beginning c.in-Err.stopped.written (g.W.Write.contents c.args.writer.now)

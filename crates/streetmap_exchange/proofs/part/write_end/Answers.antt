@@ -8,6 +8,3 @@ returns-in-Err-clause-err g c =
     beginning_all _ _ _
     (Appends-kept _ _ (g.W.Write.contents c.flush.new.self) _ c.in_ok-write_bytes.ensures.ok
     c.in-Err.ensures.bytes)
-
-pub returns-in-Err-clause-less : goal.returns-in-Err-clause-less
-returns-in-Err-clause-less c = search rules

@@ -20,6 +20,3 @@ returns-in-Err-clause-err g c =
     beginning_all old _ (c.args.answer.now ++ 10 ∷ [])
     (Appends-kept old _ (g.W.Write.contents c.flush.new.self) (c.args.answer.now ++ 10 ∷ [])
     both c.in-Err.ensures.bytes)
-
-pub returns-in-Err-clause-less : goal.returns-in-Err-clause-less
-returns-in-Err-clause-less c = search rules

@@ -34,6 +34,3 @@ returns-clause-done c keys =
     let none : drop c.loop-edit.edit-index c.args.edits.now ≡ [] = drop_all c.loop-edit.edit-index c.args.edits.now (omega arith) in
     inv.rest keys ∙ (ap (λ es. edited c.loop-edit.place (state_of mid keys) (map edit_value es)) none
     ∙ ap (λ m. Ok (record { collections = m; keys = keys })) (sym (all_swept_same c.loop-edit.log.items mid) ∙ ap collections_of (sym c.sweep.ensures)))
-
-pub returns-in-Err-clause-err : goal.returns-in-Err-clause-err
-returns-in-Err-clause-err c = search rules

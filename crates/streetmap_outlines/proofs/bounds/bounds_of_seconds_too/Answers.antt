@@ -28,6 +28,3 @@ returns-in-Some-Some-clause-bounds c = λ s within.
     let up : first ≤ℤ most = subst (λ x. x ≤ℤ most) (to_z-of_z w64 first first_fits) c.max.ensures.self_bound in
     let down : least ≤ℤ last = subst (λ x. least ≤ℤ x) (to_z-of_z w64 last last_fits) c.min.ensures.self_bound in
     rw (to_z-of_z w64 most most_fits, to_z-of_z w64 least least_fits) (wider s c.args.bounds first last most least c.in-Some-Some.is-0 up down within)
-
-pub returns-in-Some-Some-clause-seconds : goal.returns-in-Some-Some-clause-seconds
-returns-in-Some-Some-clause-seconds c = search rules

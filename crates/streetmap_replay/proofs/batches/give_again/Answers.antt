@@ -13,6 +13,3 @@ returns-in-Ok-Repeated-clause-calls g c = call_of c.in-Ok-Repeated.ensures.call
 
 pub returns-in-Ok-Refused-clause-calls : goal.returns-in-Ok-Refused-clause-calls
 returns-in-Ok-Refused-clause-calls g c = call_of c.in-Ok-Refused.ensures.call
-
-pub returns-in-Ok-Repeated-clause-gives : goal.returns-in-Ok-Repeated-clause-gives
-returns-in-Ok-Repeated-clause-gives c = search rules

@@ -37,9 +37,3 @@ returns-in-Memory-clause-adopts g c clean s rests =
         leaves_same new old (sym same.1) (λ trees may. g.met.S.Store.settled before trees rests.live may) (g.met.S.Store.stays after live),
       ),
     )
-
-pub returns-in-Closed-Device-clause-reports : goal.returns-in-Closed-Device-clause-reports
-returns-in-Closed-Device-clause-reports c = search rules
-
-pub returns-in-Closed-Device-clause-adopts : goal.returns-in-Closed-Device-clause-adopts
-returns-in-Closed-Device-clause-adopts c = search rules

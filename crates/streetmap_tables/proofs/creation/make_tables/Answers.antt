@@ -19,6 +19,3 @@ returns-in-Err-probe-clause-made g c clean ready =
     let new = state g.S.Store c.probe.new.conn in
     let early = clean_back mid new _ c.in-Err-probe.ensures.survives clean in
     same_if_settled old mid new (c.in-Err.ensures.made early ready) (c.in-Err-probe.ensures.kept clean) c.probe.ensures.settled ready.settled
-
-pub returns-then-not-is_memory-clause-reported : goal.returns-then-not-is_memory-clause-reported
-returns-then-not-is_memory-clause-reported c = search rules

@@ -153,6 +153,3 @@ returns-in-Ok-None-clause-ran g c clean inside =
         subst (λ p. RanInsert p (feature_text c.in_ok-feature.feature) b new) (λ i. (name i, c.in_ok-feature.ensures.named i)) ran,
       ),
     )
-
-pub returns-in-Ok-Some-clause-ran : goal.returns-in-Ok-Some-clause-ran
-returns-in-Ok-Some-clause-ran c = search rules

@@ -89,6 +89,3 @@ returns-in-Err-NewFormat-clause-fewer g c clean trees may = elim (c.adopt_tables
 
 pub returns-in-Err-Damaged-clause-fewer : goal.returns-in-Err-Damaged-clause-fewer
 returns-in-Err-Damaged-clause-fewer g c clean trees may = elim (c.adopt_tables.ensures.survives.crash clean trees may) [ inl was ↦ was | inr none ↦ absurd none ]
-
-pub returns-in-Err-Device-clause-reason : goal.returns-in-Err-Device-clause-reason
-returns-in-Err-Device-clause-reason c = search rules

@@ -17,6 +17,3 @@ pub returns-clause-base : goal.returns-clause-base
 returns-clause-base g c =
     let said = c.serve_connections in
     base_kept g.K.Keeper.model c.args.service.now said.new.service said.ensures.serves.exchanges said.ensures.serves.leads
-
-pub returns-clause-counted : goal.returns-clause-counted
-returns-clause-counted c = search rules

@@ -14,6 +14,3 @@ returns-in-Body-clause-none c = none_in_body c.args.input.now c.in-Body.missing 
 pub returns-in-Body-clause-not_before : goal.returns-in-Body-clause-not_before
 returns-in-Body-clause-not_before c =
     none_before_body c.args.input.now c.saturating_add-in-Body.result c.in-Body.missing (omega (arith, c.saturating_add-in-Body.ensures)) c.in-Body.ensures.holds
-
-pub returns-in-Request-clause-none : goal.returns-in-Request-clause-none
-returns-in-Request-clause-none c = search rules

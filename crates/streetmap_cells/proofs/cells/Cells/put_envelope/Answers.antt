@@ -12,6 +12,3 @@ pub returns-in_err-push-clause-kept : goal.returns-in_err-push-clause-kept
 returns-in_err-push-clause-kept c =
     kept c.args.self.now _ c.bucket_of-bucket.result c.index_mut.result.now c.push.new.self c.bucket_of-bucket.ensures.bound c.index_mut.ensures.value refl
     (λ x has. subst (λ items. Contains items x) (sym c.push.ensures.items) (pushed (is_ok c.push.result) _ _ x has))
-
-pub returns-clause-listed : goal.returns-clause-listed
-returns-clause-listed c = search rules

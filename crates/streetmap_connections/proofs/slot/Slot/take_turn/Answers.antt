@@ -16,6 +16,3 @@ returns-else-is_late-clause-turn g c = inl (record {
   calls = c.work.ensures.calls;
   refused = c.work.ensures.refuses;
 })
-
-pub returns-else-is_late-clause-late : goal.returns-else-is_late-clause-late
-returns-else-is_late-clause-late c = search rules

@@ -19,6 +19,3 @@ returns-in-Err g c = record {
       wrote.1 in
       ((refl, refl, it.0, it.1, it.2), refl);
 }
-
-pub returns-in-Ok-clause-line : goal.returns-in-Ok-clause-line
-returns-in-Ok-clause-line c = search rules

@@ -1,5 +1,0 @@
-use Rattle.std.proofs.Common.{rules}
-use Rattle.streetmap_command.proofs.command.read_serve.Goals as goal
-
-pub returns-clause-found : goal.returns-clause-found
-returns-clause-found c = search rules

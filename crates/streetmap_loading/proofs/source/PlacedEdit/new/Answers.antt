@@ -1,5 +1,0 @@
-use Rattle.std.proofs.Common.{rules}
-use Rattle.streetmap_loading.proofs.source.PlacedEdit.new.Goals as goal
-
-pub returns : goal.returns
-returns c = search rules
