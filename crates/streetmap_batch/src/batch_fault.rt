@@ -1,5 +1,5 @@
 //! Why a batch is refused.
-ghost use Rattle.std.specs.Prelude.{◌≡◌, option_map};
+ghost use Rattle.std.specs.Prelude.{◌≡◌};
 
 use std::alloc::{AllocError, AllocFailed};
 use streetmap_geojson::Fault;

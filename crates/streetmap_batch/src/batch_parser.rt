@@ -6,7 +6,6 @@ ghost use Rattle.json.specs.Reads.{token_of};
 ghost use Rattle.json.specs.Token.{begin_object};
 ghost use Rattle.serde_json.specs.Data.{Data, Members, no_members, object, put};
 ghost use Rattle.serde_json.specs.Read.{read};
-ghost use Rattle.serde_json.specs.View.{view};
 ghost use Rattle.streetmap_json.specs.Values.{value_at, members_at, whole};
 ghost use Rattle.streetmap_json.specs.JsonText.{utf8_value};
 ghost use Rattle.streetmap_batch.specs.BatchFaults.{Gives};

@@ -1,9 +1,8 @@
 //! Edits from JSON. Each is judged at its place, counted from 1.
-ghost use Rattle.std.specs.Prelude.{◌≡◌, Ok, Some, None, option_map, codes};
+ghost use Rattle.std.specs.Prelude.{◌≡◌, Ok, Some, None, option_map};
 ghost use Rattle.serde_json.specs.Find.{get};
 ghost use Rattle.serde_json.specs.View.{view};
 ghost use Rattle.streetmap_geojson.specs.ParsedFeatures.{feature};
-ghost use Rattle.streetmap_geojson.specs.FeatureView.{feature_value};
 ghost use Rattle.streetmap_geojson.specs.Id.{id_from};
 ghost use Rattle.streetmap_geojson.specs.IdView.{id_value};
 ghost use Rattle.streetmap_batch.specs.Names.{is_collection_id, is_title, is_time_property};

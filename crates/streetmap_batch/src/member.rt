@@ -2,7 +2,7 @@
 ghost use Rattle.std.specs.Prelude.{◌≡◌, option_map, string_bytes};
 ghost use Rattle.std.specs.BTreeMap.{keys};
 ghost use Rattle.std.specs.List.{list_all};
-ghost use Rattle.serde_json.specs.View.{view, members_view};
+ghost use Rattle.serde_json.specs.View.{view};
 ghost use Rattle.streetmap_batch.specs.ParsedBatches.{has_only, may_have, names_pass, operation_at};
 ghost use Rattle.streetmap_batch.specs.ParsedBatches.{operation_of, text_at};
 

@@ -4,7 +4,7 @@ ghost use Rattle.std.specs.Prelude.{string_capacity};
 ghost use Rattle.serde_json.specs.Written.{compact_text};
 ghost use Rattle.streetmap_batch.specs.BatchView.{batch_value};
 ghost use Rattle.streetmap_bodies.specs.Replies.{reply_data, reply_body};
-ghost use Rattle.streetmap_bodies.specs.Plain.{IsPlain, IsEscapeFree};
+ghost use Rattle.streetmap_bodies.specs.Plain.{IsEscapeFree};
 
 use crate::request_fault::{RequestFault, push_fault};
 use streetmap_batch::Batch;

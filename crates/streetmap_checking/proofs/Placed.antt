@@ -1,5 +1,5 @@
 -- Features in their collection.
-use Rattle.std.proofs.Common.{◌≡◌, Option, refl, sym, subst}
+use Rattle.std.proofs.Common.{◌≡◌, Option, sym, subst}
 use Rattle.streetmap_geojson.specs.FeatureValue.{FeatureValue}
 use Rattle.streetmap_batch.specs.Text.{Text}
 use Rattle.streetmap_ledger.specs.WellFormed.{IsPlaced}

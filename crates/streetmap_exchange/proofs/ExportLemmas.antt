@@ -5,7 +5,7 @@ use Rattle.streetmap_geojson.specs.FeatureView.{feature_value}
 use Rattle.std.specs.Option.{option_map}
 use Rattle.std.specs.FinMap.{get, values}
 use Rattle.std.specs.Io.KnownBytes.{Appends}
-use Rattle.std.proofs.KnownBytes.{Appends-nil, Appends-trans, Keeps-refl}
+use Rattle.std.proofs.KnownBytes.{Appends-trans}
 use Rattle.serde_json.specs.View.{items_of}
 use Rattle.serde_json.specs.Written.{comma_if, compact_text, items_text}
 use Rattle.std.proofs.lemmas.Bool.Decides.{nat_tests}

@@ -4,7 +4,7 @@ use Rattle.std.specs.Result.{OnOk, is_ok}
 use Rattle.json.specs.Print.{escape_byte}
 use Rattle.serde_json.specs.Data.{string}
 use Rattle.serde_json.specs.Written.{compact_text}
-use Rattle.streetmap_grid.specs.Values.{PositionValue, SimpleValue, GeometryValue}
+use Rattle.streetmap_grid.specs.Values.{SimpleValue}
 use Rattle.streetmap_grid.specs.Values as values
 use Rattle.streetmap_geojson.specs.FeatureValue.{FeatureValue}
 use Rattle.streetmap_feature_text.specs.Written.{number_data, height_text, position_data, name_of, coordinates_data, array_of, simple_data, geometry_data, geometry_member, feature_data, collection_data}

@@ -1,12 +1,10 @@
 //! Features and collections as JSON texts (RFC 7946, section 3; RFC 8259), without a value in
 //! between.
 ghost use Rattle.std.specs.Prelude.{◌≡◌, ◌++◌, IfOk, OnOk, OnErr, map, option_map, string_bytes};
-ghost use Rattle.serde_json.specs.Data.{string};
-ghost use Rattle.serde_json.specs.View.{view};
 ghost use Rattle.serde_json.specs.Written.{comma_if, compact_text};
 ghost use Rattle.streetmap_grid.specs.Values as values;
-ghost use Rattle.streetmap_grid.specs.Views.{position_value, positions_value, line_value};
-ghost use Rattle.streetmap_grid.specs.Views.{lines_value, ring_value, rings_value, polygon_value};
+ghost use Rattle.streetmap_grid.specs.Views.{position_value, positions_value};
+ghost use Rattle.streetmap_grid.specs.Views.{lines_value, rings_value};
 ghost use Rattle.streetmap_grid.specs.Views.{polygons_value, simple_value, simples_value};
 ghost use Rattle.streetmap_grid.specs.Views.{geometry_value};
 ghost use Rattle.streetmap_geojson.specs.FeatureView.{feature_value};

@@ -1,7 +1,7 @@
 //! Collections of features (RFC 7946, section 3.3).
 ghost use Rattle.std.specs.Prelude.{◌≡◌, ◌<◌, ◌^◌, ◌+◌, List, Ok, Some, IfOk, map, option_map};
 ghost use Rattle.std.specs.Prelude.{option_and_then, codes};
-ghost use Rattle.serde_json.specs.View.{view, items_view};
+ghost use Rattle.serde_json.specs.View.{view};
 ghost use Rattle.serde_json.specs.Find.{as_array, get};
 ghost use Rattle.streetmap_geojson.specs.ParsedGeometries.{list_of};
 ghost use Rattle.streetmap_geojson.specs.FeatureValue.{FeatureValue};

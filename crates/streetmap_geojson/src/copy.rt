@@ -1,6 +1,6 @@
 //! Copies of geometries.
-ghost use Rattle.std.specs.Prelude.{◌≡◌, map, option_map, IfOk};
-ghost use Rattle.streetmap_grid.specs.Views.{position_value, positions_value, line_value};
+ghost use Rattle.std.specs.Prelude.{◌≡◌, option_map, IfOk};
+ghost use Rattle.streetmap_grid.specs.Views.{positions_value, line_value};
 ghost use Rattle.streetmap_grid.specs.Views.{lines_value, ring_value, rings_value, polygon_value};
 ghost use Rattle.streetmap_grid.specs.Views.{polygons_value, items_of, simple_value, simples_value};
 ghost use Rattle.streetmap_grid.specs.Views.{geometry_value};

@@ -1,5 +1,5 @@
 //! Ids: texts, and whole numbers as their decimal texts (RFC 7946, section 3.2).
-ghost use Rattle.std.specs.Prelude.{◌≡◌, ◌↔◌, IfOk, IfErr, IsOk, IsTrue, ℤ, string_bytes, codes};
+ghost use Rattle.std.specs.Prelude.{◌≡◌, ◌↔◌, IfOk, IfErr, IsOk, IsTrue, ℤ, string_bytes};
 ghost use Rattle.std.specs.Prelude.{option_map};
 ghost use Rattle.std.specs.Fmt.{signed_decimal};
 ghost use Rattle.std.specs.Str.{is_utf8};

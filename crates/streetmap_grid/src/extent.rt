@@ -1,4 +1,4 @@
-ghost use Rattle.std.specs.Prelude.{◌≡◌, List, [], ◌∷◌, ◌++◌, Some, IfSome};
+ghost use Rattle.std.specs.Prelude.{◌≡◌, List, [], ◌∷◌, ◌++◌, Some};
 ghost use Rattle.std.specs.List.{flat_map};
 ghost use Rattle.streetmap_grid.specs.Values.{PositionValue};
 ghost use Rattle.streetmap_grid.specs.Views.{position_value, positions_value, lines_value};

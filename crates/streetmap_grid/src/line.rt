@@ -12,7 +12,6 @@ pub struct Line {
 
 impl Line {
     ghost use Rattle.streetmap_grid.specs.Views.{positions_value, line_value};
-    ghost use Rattle.streetmap_grid.specs.WellFormed.{IsLine};
     ghost use Rattle.streetmap_grid.specs.Faults.{line_fault};
 
     /// The line through positions in their order. Refused as `ShortLine` below two.

@@ -1,4 +1,4 @@
-ghost use Rattle.std.specs.Prelude.{◌≡◌, Bool};
+ghost use Rattle.std.specs.Prelude.{◌≡◌};
 ghost use Rattle.streetmap_grid.specs.Range as range;
 ghost use Rattle.streetmap_grid.specs.Faults as faults;
 

@@ -3,12 +3,9 @@ use Rattle.std.proofs.Common.{◌≡◌, List, [], map, subst}
 use Rattle.std.specs.List.{flat_map}
 use Rattle.streetmap_connections.specs.declared.slot.Slot.{Slot}
 use Rattle.streetmap_connections.specs.declared.client.Client.{Client}
-use Rattle.streetmap_connections.specs.History.{Exchange, History}
-use Rattle.streetmap_connections.specs.Interleaving as interleaving
+use Rattle.streetmap_connections.specs.History.{Exchange}
 use Rattle.streetmap_connections.specs.SlotClients.{client_history, clients_in, histories_in}
 use Rattle.streetmap_connections.specs.Timeline.{Timeline}
-use Rattle.streetmap_connections.proofs.Timelines.{timeline_goes_on}
-use Rattle.streetmap_guarantee.specs.Town.{IsInRealTime}
 
 -- nobody was let in before
 pub from_start : {S : Type 0} (before after : List (Slot S)) (es : List Exchange)

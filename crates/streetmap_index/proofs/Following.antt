@@ -1,6 +1,6 @@
 -- What is known of a collection after an edit of it, and of all.
-use Rattle.std.proofs.Common.{◌≡◌, false, cond, Option, None, Some, IsSome, Result, Ok, Err, refl, sym, ap, subst, ◌∙◌}
-use Rattle.std.specs.Result.{OnOk, is_err}
+use Rattle.std.proofs.Common.{◌≡◌, false, cond, Option, None, Some, IsSome, Result, Ok, refl, sym, ap, subst, ◌∙◌}
+use Rattle.std.specs.Result.{OnOk}
 use Rattle.std.specs.String.{string_cmp}
 use Rattle.std.specs.Ordering.{is_eq, eq_by_cmp}
 use Rattle.std.specs.Map.{KeepsOthers}

@@ -1,5 +1,5 @@
 -- Features whose outlines are next to one another.
-use Rattle.std.proofs.Common.{◌≡◌, ℕ, suc, ◌+◌, ◌-◌, ◌≤◌, ◌<◌, List, [], ◌∷◌, ◌++◌, All, Bool, true, false, cond, Some, option_map, length, take, drop, get_or, map, refl, sym, ap, ap₂, subst, length-drop, ◌∙◌, append_assoc, append-nil, arith, string_bytes}
+use Rattle.std.proofs.Common.{◌≡◌, ℕ, suc, ◌+◌, ◌-◌, ◌≤◌, ◌<◌, List, [], ◌∷◌, ◌++◌, All, Bool, true, false, cond, Some, option_map, length, take, drop, get_or, map, refl, sym, ap, ap₂, subst, length-drop, ◌∙◌, append_assoc, arith, string_bytes}
 use Rattle.std.specs.Prelude.{filter, slice_get}
 use Rattle.std.specs.List.{AllByRecursion}
 use Rattle.std.specs.FinMap.{get, entries, values}

@@ -5,11 +5,10 @@ use Rattle.std.proofs.Common.{arith, append-nil, length-append, IfSome, ◌&&◌
 use Rattle.std.proofs.Math.Seq.{take-add}
 use Rattle.std.proofs.lemmas.List.{length-take, take-append-drop}
 use Rattle.std.proofs.lemmas.List.Folds.{list_all-append}
-use Rattle.std.proofs.lemmas.Option.{slice_get-get_or}
 use Rattle.std.proofs.KnownBytes.{Consumes-trans, Consumes-kept}
 use Rattle.std.specs.Io.{StartsWith}
 use Rattle.std.specs.Io.KnownBytes.{Consumes, Keeps, IsAtEnd}
-use Rattle.std.specs.Prelude.{slice_get, slice_index}
+use Rattle.std.specs.Prelude.{slice_get}
 use Rattle.streetmap_journal.specs.Front.{GoesOnOtherwise, are_zeros, IsLeft}
 use Rattle.streetmap_journal.specs.declared.front.Left.{Left}
 use Rattle.streetmap_journal.specs.declared.front.Left.TheVariants.{Nothing, Zeros, Other}

@@ -3,19 +3,14 @@ use Rattle.std.proofs.Common.{◌≡◌, ◌≤◌, ◌<◌, ◌+◌, ◌^◌, �
 use Rattle.std.proofs.Common.{length, drop, Option, None, Some, IfSome, option_map}
 use Rattle.std.proofs.Common.{refl, sym, ap, subst, ◌∙◌, arith, length-append}
 use Rattle.std.specs.Prelude.{slice_get}
-use Rattle.std.proofs.Common.{Ok}
 use Rattle.std.specs.Io.KnownBytes.{Consumes, Keeps}
 use Rattle.std.proofs.KnownBytes.{Consumes-nil, Consumes-trans}
 use Rattle.streetmap_batch.specs.Text.{Text}
 use Rattle.streetmap_ledger.specs.State.{State}
 use Rattle.streetmap_ledger.specs.WellFormed.{IsState}
 use Rattle.streetmap_ledger.specs.Kept.{KeyedBatch, batch_in}
-use Rattle.streetmap_ledger.specs.Model.{Model}
-use Rattle.streetmap_ledger.specs.Keep.{IsRead}
 use Rattle.streetmap_ledger.specs.declared.reply.Fault.{Fault}
 use Rattle.streetmap_ledger.proofs.Serials.{found_under}
-use Rattle.streetmap_replay.specs.Calls.{fails_by, AreReads}
-use Rattle.streetmap_replay.proofs.CallsInTurn.{read_of, lost_read}
 use Rattle.streetmap_replay.specs.Journal.{journal, kept_text}
 use Rattle.streetmap_replay.specs.JournalText.{journal_lines, text_of_lines}
 use Rattle.streetmap_replay.specs.Lines.{numbered, line_bytes}
@@ -24,10 +19,10 @@ use Rattle.streetmap_replay.proofs.ItemsByPlace.{get_drop, get_low}
 use Rattle.streetmap_replay.proofs.TornLines.{lines-append}
 use Rattle.streetmap_journal.proofs.OneLineFurther.{get_numbered, take_one}
 use Rattle.streetmap_journal.specs.Comparison.{line_of, lines_from, serial_following, EndsBy, RestIs}
-use Rattle.streetmap_journal.specs.Comparison.{InputBeginsWith, Matches, IsOwn, end_answer}
+use Rattle.streetmap_journal.specs.Comparison.{InputBeginsWith, Matches}
 use Rattle.streetmap_journal.specs.declared.comparison.Matched.{Matched}
 use Rattle.streetmap_journal.specs.declared.comparison.MatchEnd.{MatchEnd}
-use Rattle.streetmap_journal.specs.declared.comparison.MatchEnd.TheVariants.{All, Cut, Other, Ahead}
+use Rattle.streetmap_journal.specs.declared.comparison.MatchEnd.TheVariants.{Ahead}
 use Rattle.streetmap_journal.specs.declared.comparison.MatchEnd.TheVariants.{NotRead, Stopped}
 
 -- ---- one line

@@ -1,11 +1,9 @@
 -- What is written of a line stays, if the writer is informed; and what a line lacks is written.
-use Rattle.std.proofs.Common.{◌≡◌, ◌≤◌, ◌<◌, ◌+◌, ◌-◌, ◌^◌, ℕ, min, Bool, true, false, List, Option}
-use Rattle.std.proofs.Common.{None, take, drop, length, sym, ap, subst, ◌∙◌}
+use Rattle.std.proofs.Common.{◌≡◌, ◌≤◌, ◌<◌, ◌+◌, ◌-◌, ◌^◌, ℕ, min, List, Option}
+use Rattle.std.proofs.Common.{take, drop, length, sym, ap, subst, ◌∙◌}
 use Rattle.std.proofs.Common.{arith}
-use Rattle.std.specs.Io.KnownBytes.{Appends, Keeps}
-use Rattle.std.proofs.KnownBytes.{Appends-kept}
+use Rattle.std.specs.Io.KnownBytes.{Appends}
 use Rattle.std.proofs.lemmas.List.{drop-take, length-drop}
-use Rattle.streetmap_journal.specs.Written.{Position, PutsBy}
 
 -- a prefix of the missing bytes of a line
 pub lacking_put : (part written sum : ℕ) (line : List ℕ) (old new : Option (List ℕ)) →

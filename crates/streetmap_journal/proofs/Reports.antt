@@ -1,12 +1,10 @@
 -- What a writer was informed of stays true as lines are written; and when it failed.
-use Rattle.std.proofs.Common.{◌≡◌, ◌≤◌, ℕ, List, Bool, true, false, Option, None, Some, Result, Ok, Err}
-use Rattle.std.proofs.Common.{refl, sym, subst, ◌∙◌, arith}
-use Rattle.std.specs.Io.KnownBytes.{Keeps}
-use Rattle.streetmap_ledger.specs.State.{State}
+use Rattle.std.proofs.Common.{◌≡◌, ◌≤◌, ℕ, Bool, true, false, Option, Result, Ok, Err}
+use Rattle.std.proofs.Common.{refl, ◌∙◌, arith}
 use Rattle.streetmap_ledger.specs.declared.reply.Fault.{Fault}
 use Rattle.streetmap_ledger.specs.declared.reply.Reply.{Reply}
 use Rattle.streetmap_journal.specs.Reports.{IsInformedBy}
-use Rattle.streetmap_journal.specs.Written.{OfReply, Position, HoldsJournal}
+use Rattle.streetmap_journal.specs.Written.{OfReply}
 
 -- lines were written while some are missing
 pub still_reported : (old new : Bool) (low high : ℕ) (was is : Option ℕ) (kept keeps : Type 0) →

@@ -19,18 +19,16 @@ use Rattle.streetmap_replay.specs.View.{line_with}
 use Rattle.std.proofs.Common.{◌⊎◌, inl, inr, subst, Ok, Err}
 use Rattle.std.specs.Io.KnownBytes.{Keeps}
 use Rattle.streetmap_ledger.specs.Model.{Model}
-use Rattle.streetmap_ledger.specs.Keep.{IsRead}
 use Rattle.streetmap_ledger.specs.declared.reply.Cause.{Cause}
-use Rattle.streetmap_ledger.specs.declared.reply.Fault.{Fault}
-use Rattle.streetmap_replay.specs.Calls.{fails_by, AreReads}
-use Rattle.streetmap_replay.proofs.CallsInTurn.{answered_read, lost_read, no_fault_read, reads_then}
+use Rattle.streetmap_replay.specs.Calls.{AreReads}
+use Rattle.streetmap_replay.proofs.CallsInTurn.{no_fault_read, reads_then}
 use Rattle.streetmap_journal.proofs.LinesSoFar.{matches_kept}
 use Rattle.streetmap_journal.specs.Comparison.{Matches, line_head, lines_from, serial_following}
 use Rattle.streetmap_journal.specs.Comparison.{end_answer}
 use Rattle.streetmap_journal.specs.declared.comparison.MatchEnd.{MatchEnd}
 use Rattle.streetmap_journal.specs.declared.comparison.MatchEnd.TheVariants as ends
 use Rattle.streetmap_journal.specs.Place.{HasFirst}
-use Rattle.streetmap_journal.specs.Starts.{HasFirstSerial, BeginsAfter, Finds, ChecksEnd, IsOwnFault, start_answer}
+use Rattle.streetmap_journal.specs.Starts.{HasFirstSerial, BeginsAfter, Finds, ChecksEnd, start_answer}
 use Rattle.streetmap_journal.specs.declared.starts.StartFault.{StartFault}
 use Rattle.streetmap_journal.specs.declared.starts.StartFault.TheVariants.{Ahead, Other, NotOpened, NotRead, Stopped}
 use Rattle.streetmap_journal.specs.Written.{Position, HoldsJournal, lines_between, line_at}

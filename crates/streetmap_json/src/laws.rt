@@ -1,5 +1,5 @@
 // Laws of JSON texts.
-ghost use Rattle.std.specs.Prelude.{◌≡◌, ◌≢◌, ℕ, List, [], ◌∷◌, ◌++◌, ◌<◌, ◌≤◌, length, true};
+ghost use Rattle.std.specs.Prelude.{◌≡◌, ◌≢◌, ℕ, List, [], ◌∷◌, ◌++◌, ◌<◌, ◌≤◌, length};
 ghost use Rattle.std.specs.Prelude.{false, ◌==◌, Some, IsTrue};
 ghost use Rattle.std.specs.List.{list_all};
 ghost use Rattle.json.specs.Ascii as ascii;

@@ -18,9 +18,9 @@ use Rattle.streetmap_geojson.proofs.Timing.{time_is}
 use Rattle.streetmap_batch.specs.Text.{Text, text_cmp}
 use Rattle.streetmap_batch.specs.BatchValue as edit
 use Rattle.streetmap_batch.specs.BatchValue.{EditValue, BatchValue}
-use Rattle.streetmap_batch.specs.BatchFacts.{IsTimePropertyIf, IsTitle, IsSoundEdit, IsSoundBatch}
+use Rattle.streetmap_batch.specs.BatchFacts.{IsSoundEdit, IsSoundBatch}
 use Rattle.streetmap_batch.specs.ParsedBatches.{most_edits}
-use Rattle.streetmap_batch.specs.Names.{is_key, is_collection_id}
+use Rattle.streetmap_batch.specs.Names.{is_key}
 use Rattle.streetmap_batch.specs.BatchText.{batch_text}
 use Rattle.streetmap_ledger.specs.State.{State, Collection, AcceptedBatch, opening_state, step, ◌>>=◌, absent, or_bad_time, timed}
 use Rattle.streetmap_ledger.specs.Batches.{Outcome, placed, edited, counted, counted_all, counts_of, fresh, by_key, kept_for, act, most_batches}

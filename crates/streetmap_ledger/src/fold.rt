@@ -25,7 +25,7 @@ pub struct PageFold<'a> {
 
 impl<'a> PageFold<'a> {
     ghost use Rattle.std.specs.Prelude.{List, [], ◌∷◌, ◌++◌, ◌+◌, ◌↔◌, OnOk, OnErr, IfSome, IsTrue};
-    ghost use Rattle.std.specs.Prelude.{Bool, true, false, if◌then◌else◌};
+    ghost use Rattle.std.specs.Prelude.{true, false, if◌then◌else◌};
     ghost use Rattle.streetmap_geojson.specs.FeatureValue.{FeatureValue};
     ghost use Rattle.streetmap_geojson.specs.FeatureInvariant.{IsFeature};
     ghost use Rattle.streetmap_feature_text.specs.Outlines.{outline_of};

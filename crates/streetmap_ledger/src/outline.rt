@@ -1,5 +1,5 @@
 //! What is known of features without reading them.
-ghost use Rattle.std.specs.Prelude.{◌≡◌, IfOk, option_map, string_bytes};
+ghost use Rattle.std.specs.Prelude.{◌≡◌, IfOk, option_map};
 ghost use Rattle.streetmap_grid.specs.Views.{box_value};
 ghost use Rattle.streetmap_moment.specs.Meeting.{seconds_of};
 ghost use Rattle.streetmap_moment.specs.Views.{interval_value};

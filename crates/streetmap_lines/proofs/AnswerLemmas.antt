@@ -1,11 +1,11 @@
 -- What is written for lines.
 use Rattle.std.proofs.Common.{◌≡◌, ◌≢◌, ℕ, ◌+◌, List, [], ◌∷◌, ◌++◌, length, take, refl, sym, ap}
 use Rattle.std.proofs.Common.{subst, ◌∙◌, arith, append_assoc, append-nil, length-append, Option}
-use Rattle.std.proofs.Common.{Some, None, option_map, IfSome, OnSome, IsSomeAnd, Result, Ok, Err, String}
+use Rattle.std.proofs.Common.{Some, None, option_map, IfSome, Result, Ok, Err, String}
 use Rattle.std.proofs.Common.{string_bytes, Global}
 use Rattle.std.proofs.Math.Seq.{take-append_seam}
 use Rattle.std.proofs.KnownBytes.{Appends-nil, Appends-trans}
-use Rattle.std.specs.Io.KnownBytes.{Appends, Keeps, IsAtEnd}
+use Rattle.std.specs.Io.KnownBytes.{Appends, IsAtEnd}
 use Rattle.std.specs.Str.Lines.{lines}
 use Rattle.streetmap_ledger.specs.State.{State, opening_state}
 use Rattle.serde_json.specs.Data.{Data}

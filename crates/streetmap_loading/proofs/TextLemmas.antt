@@ -10,14 +10,11 @@ use Rattle.streetmap_batch.specs.Text.{Text}
 use Rattle.streetmap_text_lines.specs.Lines.{first_too_long}
 use Rattle.streetmap_text_lines.specs.LineReads.{WhereKnown, IsFirstLine}
 use Rattle.streetmap_loading.specs.Places.{PlacedValue}
-use Rattle.streetmap_loading.specs.Sources.{Item, TakesOff, HasNoItem, FirstIs, SourceGives}
-use Rattle.streetmap_loading.specs.Sources.{placed_value}
-use Rattle.streetmap_loading.specs.TextView.{rules_value, and_left, Steps}
+use Rattle.streetmap_loading.specs.Sources.{Item, TakesOff, HasNoItem, FirstIs}
+use Rattle.streetmap_loading.specs.TextView.{rules_value, and_left}
 use Rattle.streetmap_loading.specs.declared.rules.FeatureRules.{FeatureRules}
 use Rattle.streetmap_loading.specs.declared.source.PlacedEdit.{PlacedEdit}
-use Rattle.streetmap_loading.specs.declared.load_fault.LoadFault.{LoadFault}
-use Rattle.streetmap_loading.specs.declared.load_fault.LoadFault.TheVariants.{BadKey, BadCount, BadBatch, AtFault, ReadFailed, Memory, Refused, Stopped, WriteFailed}
-use Rattle.streetmap_loading.proofs.Taking.{takes_then, none_left}
+use Rattle.streetmap_loading.proofs.Taking.{takes_then}
 use Rattle.streetmap_loading.specs.Texts.{Rules, text_on, item_of_text, on_text, and_more}
 use Rattle.streetmap_loading.specs.Texts.{is_skipped, is_here, one_less, not_skipped, items_in}
 use Rattle.streetmap_loading.specs.Texts.{items_left, all_on, all_in}

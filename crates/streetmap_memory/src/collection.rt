@@ -1,5 +1,5 @@
 //! A collection as the plain keeper keeps it, by its slots.
-ghost use Rattle.std.specs.Prelude.{◌≡◌, ◌+◌, ◌++◌, ◌∷◌, [], List, IsTrue, false, IfOk, OnOk};
+ghost use Rattle.std.specs.Prelude.{◌≡◌, ◌+◌, ◌++◌, ◌∷◌, [], List, false, IfOk, OnOk};
 ghost use Rattle.std.specs.Prelude.{OnErr, Option, Some, None, map, string_bytes};
 ghost use Rattle.std.specs.Option.{option_copied, option_flatten, option_map};
 ghost use Rattle.std.specs.Result.{result_ok};

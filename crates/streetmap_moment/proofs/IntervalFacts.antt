@@ -1,13 +1,13 @@
 -- What each interval is, and the seconds of intervals that meet.
 use Rattle.std.proofs.Common.{◌≡◌, Bool, true, false, inl, inr, Option, Some, None, ℤ, pos, negsuc, neg_ℤ, ◌≤ℤ◌, ◌<ℤ◌, ◌↔◌, ◌||◌, arith, refl, subst}
 use Rattle.std.proofs.lemmas.Bool.{cases_Bool}
-use Rattle.std.specs.Prelude.{IsTrue, IfSome, option_map, is_some, not, int_lt, int_le, ◌&&◌}
+use Rattle.std.specs.Prelude.{IsTrue, option_map, is_some, not, int_lt, int_le, ◌&&◌}
 use Rattle.std.specs.Option.{ForSome}
 use Rattle.std.proofs.lemmas.Int.{ints}
 use Rattle.streetmap_moment.specs.declared.intervals.Interval.{Interval}
 use Rattle.streetmap_moment.specs.Range.{IsMoment}
 use Rattle.streetmap_moment.specs.IntervalValue.{IntervalValue, IsInterval, IsInOrder, starts_after}
-use Rattle.streetmap_moment.specs.Meeting.{EndsBefore, Meets, Includes, HaveCommonMoment, IsSecondOf, IsSecond, second_of, first_second, last_second, meets, seconds_of, seconds_overlap}
+use Rattle.streetmap_moment.specs.Meeting.{EndsBefore, Meets, Includes, HaveCommonMoment, second_of, first_second, last_second, meets, seconds_overlap}
 use Rattle.streetmap_moment.specs.declared.moments.Moment.{Moment}
 use Rattle.streetmap_moment.specs.Views.{moment_value, interval_value}
 use Rattle.std.proofs.lemmas.Option.{same_Some, none-some}

@@ -1,6 +1,6 @@
 //! The fields of a date-time (RFC 3339 section 5.6), each read at the front of the rest of a text.
-ghost use Rattle.std.specs.Prelude.{◌≡◌, ◌*◌, ◌+◌, ◌-◌, ◌<◌, ◌≤◌, ◌^◌, ◌↔◌, IfSome, pos};
-ghost use Rattle.std.specs.Prelude.{option_copied, ◌≤ℤ◌, ◌-ℤ◌, neg_ℤ, option_map};
+ghost use Rattle.std.specs.Prelude.{◌≡◌, ◌*◌, ◌+◌, ◌-◌, ◌<◌, ◌≤◌, ◌^◌, ◌↔◌, IfSome};
+ghost use Rattle.std.specs.Prelude.{option_copied, ◌≤ℤ◌, ◌-ℤ◌};
 ghost use Rattle.streetmap_moment.specs.DateTimeParts.{read_view, digit_at, two_digits_at};
 ghost use Rattle.streetmap_moment.specs.DateTimeParts.{four_digits_at, below_at, mark_at, date_at};
 ghost use Rattle.streetmap_moment.specs.DateTimeParts.{day_of, clock_at, digits_at, fraction_at};

@@ -1,5 +1,5 @@
 //! Intervals of time.
-ghost use Rattle.std.specs.Prelude.{◌≡◌, ◌||◌, ℤ, ℕ, pos, neg_ℤ, IfOk, IfErr, IsTrue, ◌↔◌, is_some};
+ghost use Rattle.std.specs.Prelude.{◌≡◌, ◌||◌, ℤ, ℕ, IfOk, IfErr, IsTrue, ◌↔◌, is_some};
 ghost use Rattle.std.specs.Prelude.{◌≤ℤ◌, true, false};
 ghost use Rattle.std.specs.Option.{ForSome};
 

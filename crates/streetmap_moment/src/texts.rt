@@ -1,14 +1,13 @@
 //! Moments and intervals, read from their texts.
 ghost use Rattle.std.specs.Prelude.{◌≡◌, ◌||◌, ℤ, Ok, IfOk, IfErr, IfSome, IsTrue, is_some};
-ghost use Rattle.std.specs.Prelude.{MatchOption, ok_or, length, option_map};
-ghost use Rattle.std.specs.Option.{ForSome};
+ghost use Rattle.std.specs.Prelude.{ok_or, option_map};
 ghost use Rattle.streetmap_moment.specs.DateTime.{IsMomentText};
 ghost use Rattle.streetmap_moment.specs.IntervalText.{day_interval, IsIntervalText, IsPropertyText};
 ghost use Rattle.streetmap_moment.specs.IntervalText.{IsFaultOf};
 ghost use Rattle.streetmap_moment.specs.IntervalValue.{IntervalValue, IsInOrder};
 ghost use Rattle.streetmap_moment.specs.Intervals.{end_of, ends_of, full_date_of, interval_of};
 ghost use Rattle.streetmap_moment.specs.Intervals.{property_of};
-ghost use Rattle.streetmap_moment.specs.Range.{IsMoment, IsDayNumber};
+ghost use Rattle.streetmap_moment.specs.Range.{IsDayNumber};
 ghost use Rattle.streetmap_moment.specs.DateTimeParts.{moment_of};
 ghost use Rattle.streetmap_moment.specs.Views.{moment_value, moment_result, ends_value};
 ghost use Rattle.streetmap_moment.specs.Views.{interval_value, interval_result};

@@ -1,8 +1,8 @@
 -- A property of each element, after an edit of the list.
-use Rattle.std.proofs.Common.{◌≡◌, ℕ, suc, ◌-◌, List, ◌∷◌, length, take, drop, reverse, set, sym, subst, arith}
+use Rattle.std.proofs.Common.{◌≡◌, ℕ, suc, ◌-◌, List, ◌∷◌, take, drop, set, arith}
 use Rattle.std.specs.Prelude.{All}
 use Rattle.std.specs.List.{insert, remove}
-use Rattle.std.proofs.lemmas.List.{length-reverse, get_or-reverse, take-set, drop-set-lt}
+use Rattle.std.proofs.lemmas.List.{take-set, drop-set-lt}
 use Rattle.std.proofs.lemmas.List.Elements.{All-append, All-cons, All-take, All-drop}
 
 module _ {X : Type 0} (P : X → Type 0) where

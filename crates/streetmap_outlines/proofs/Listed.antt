@@ -1,23 +1,19 @@
 -- Extents in cells, and the chunks that a page passes over for them.
-use Rattle.std.proofs.Common.{◌≡◌, ℕ, List, ◌++◌, Option, None, Some, true, false, option_map, IfSome, ap, sym, subst}
-use Rattle.std.proofs.lemmas.Bool.{and_parts, false_from_ne_true, both_ways}
+use Rattle.std.proofs.Common.{◌≡◌, ℕ, List, ◌++◌, Option, None, Some, false, IfSome}
+use Rattle.std.proofs.lemmas.Bool.{false_from_ne_true, both_ways}
 use Rattle.std.proofs.lemmas.List.Elements.{All-weaker}
 use Rattle.streetmap_grid.specs.declared.grid_box.GridBox.{GridBox}
-use Rattle.streetmap_grid.specs.Values.{GeometryValue}
 use Rattle.streetmap_grid.specs.Views.{box_value}
-use Rattle.streetmap_grid.specs.Extent.{extent_of, overlaps}
-use Rattle.streetmap_moment.specs.Meeting.{seconds_overlap}
 use Rattle.streetmap_geojson.specs.FeatureValue.{FeatureValue}
 use Rattle.streetmap_query.specs.Views.{query_value}
 use Rattle.streetmap_query.specs.declared.queries.Query.{Query}
 use Rattle.streetmap_ledger.specs.State.{Features}
-use Rattle.streetmap_ledger.specs.Pages.{passes, extent_overlaps, requested_interval, is_candidate}
+use Rattle.streetmap_ledger.specs.Pages.{is_candidate}
 use Rattle.streetmap_ledger.specs.Folds.{HoldsCandidates}
-use Rattle.streetmap_ledger.specs.Outlines.{FeatureOutlineValue}
 use Rattle.streetmap_ledger.specs.declared.fold.PageFold.{PageFold}
 use Rattle.streetmap_outlines.specs.declared.kept.KeptOutline.{KeptOutline}
 use Rattle.streetmap_cells.specs.Cells.{KeepsExtents}
-use Rattle.streetmap_cells.specs.Searches.{MarksAll, is_marked}
+use Rattle.streetmap_cells.specs.Searches.{is_marked}
 use Rattle.streetmap_cells.specs.declared.cells.Cells.{Cells}
 use Rattle.streetmap_cells.specs.declared.marks.Marks.{Marks}
 use Rattle.streetmap_outlines.specs.Outlines.{IsOutlineOf, IsListedIf, AreListedUnder, IsListedChunk, AreListed}

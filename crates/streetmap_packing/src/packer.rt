@@ -34,7 +34,7 @@ pub struct Packer {
 }
 
 impl Packer {
-    ghost use Rattle.std.specs.Prelude.{◌<◌, ◌+◌, ◌^◌, ◌++◌, ◌∷◌, [], true, IfOk, OnOk, Ok, Err};
+    ghost use Rattle.std.specs.Prelude.{◌<◌, ◌+◌, ◌^◌, ◌++◌, ◌∷◌, [], true, IfOk, OnOk, Ok};
     ghost use Rattle.serde_json.specs.Written.{compact_text};
     ghost use Rattle.streetmap_batch.specs.BatchText.{edit_data};
     ghost use Rattle.streetmap_batch.specs.BatchValue.{EditValue};

@@ -1,6 +1,6 @@
 -- Outcomes, one after the other.
-use Rattle.std.proofs.Common.{inl, inr, Result, Ok, Err, refl}
-use Rattle.streetmap_placing.specs.Placed.{Then, Made, Answers}
+use Rattle.std.proofs.Common.{inr, Result, Ok, Err}
+use Rattle.streetmap_placing.specs.Placed.{Then, Answers}
 use Rattle.streetmap_placing.specs.declared.fault.PlacingFault.{PlacingFault}
 use Rattle.streetmap_placing.specs.declared.fault.PlacingFault.TheVariants.{Memory, NotJson, TooManyDigits, OutOfGrid, Fraction}
 

@@ -1,5 +1,5 @@
 //! The text of a feature, read.
-ghost use Rattle.std.specs.Prelude.{◌≡◌, option_map};
+ghost use Rattle.std.specs.Prelude.{◌≡◌};
 ghost use Rattle.json.specs.Value.{value_view};
 ghost use Rattle.serde_json.specs.View.{view};
 ghost use Rattle.streetmap_placing.specs.Placed.{Answers};

@@ -6,17 +6,12 @@ use Rattle.sqlite.specs.Order.{Row, column}
 use Rattle.sqlite.specs.Store.{Ghosts}
 use Rattle.sqlite.specs.Given.{HasGiven}
 use Rattle.sqlite.specs.Held.{Held, state}
-use Rattle.sqlite.specs.State.{State as Seen, HasCleanDisk, IsUnchanged, KeepsCommit, Survives}
+use Rattle.sqlite.specs.State.{State as Seen, IsUnchanged, Survives}
 use Rattle.sqlite_trees.specs.Tree.{Trees}
 use Rattle.sqlite.proofs.StateLemmas.{unchanged, survives_then}
-use Rattle.sqlite.proofs.InsideLemmas.{keeps_then}
-use Rattle.sqlite.proofs.Callers.{unchanged_then}
 use Rattle.streetmap_geojson.specs.FeatureValue.{FeatureValue}
 use Rattle.streetmap_rows.specs.Rows.{feature_text}
 use Rattle.streetmap_reading.specs.Candidates.{candidate_row}
-use Rattle.streetmap_rows.specs.TableReads.{Stopped}
-use Rattle.streetmap_rows.specs.declared.fault.ReadFault.{ReadFault}
-use Rattle.streetmap_rows.specs.declared.fault.ReadFault.TheVariants.{Memory, Store, Unread}
 
 pub map_append : {A B : Type 0} (f : A → B) (xs ys : List A) → map f (xs ++ ys) ≡ map f xs ++ map f ys
 map_append f [] ys = refl

@@ -1,6 +1,6 @@
 -- Collections read one after the other.
-use Rattle.std.proofs.Common.{◌≤◌, ◌≡◌, List, [], ◌∷◌, ◌++◌, map, Some, Ok, Err, Result}
-use Rattle.std.proofs.Common.{MatchResult, None, IsTrue, refl, sym, ap, subst, ◌∙◌, append-nil}
+use Rattle.std.proofs.Common.{◌≤◌, ◌≡◌, List, [], ◌∷◌, ◌++◌, map, Some}
+use Rattle.std.proofs.Common.{None, IsTrue, refl, sym, ap, subst, ◌∙◌, append-nil}
 use Rattle.std.proofs.Common.{append_assoc, length, arith}
 use Rattle.std.specs.List.{AllByRecursion}
 use Rattle.std.specs.FinMap.{get, entries}
@@ -13,11 +13,9 @@ use Rattle.streetmap_ledger.specs.Summaries.{summary_of, summaries_in}
 use Rattle.streetmap_ledger.specs.SummaryView.{summary_value, summary_values}
 use Rattle.streetmap_ledger.specs.declared.summary.Summary.{Summary}
 use Rattle.streetmap_rows.specs.KeptStates.{Keeps}
-use Rattle.streetmap_rows.specs.declared.fault.ReadFault.{ReadFault}
 use Rattle.streetmap_rows.specs.TableReads.{Stays}
-use Rattle.streetmap_rows.specs.TableReads.{Stopped}
 use Rattle.streetmap_reading.proofs.BetweenRows.{map_append, survives_still}
-use Rattle.streetmap_rows.proofs.ReadsInTurn.{clean_before, stopped_on, survives_both}
+use Rattle.streetmap_rows.proofs.ReadsInTurn.{clean_before, survives_both}
 use Rattle.streetmap_reading.specs.Held.{head_of}
 use Rattle.streetmap_reading.specs.PassResults.{CompletesHead}
 use Rattle.streetmap_reading.proofs.ShownOutlines.{found_each}

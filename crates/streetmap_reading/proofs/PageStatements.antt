@@ -5,11 +5,7 @@ use Rattle.std.specs.List.{AllByRecursion}
 use Rattle.std.specs.Option.{option_copied, option_to_list}
 use Rattle.std.proofs.lemmas.Bool.{cases_Bool, false_from_ne_true}
 use Rattle.sqlite.specs.Order.{Row}
-use Rattle.sqlite.specs.Listing.{understood}
-use Rattle.sqlite.specs.State.{State as Seen, IsUnchanged, Survives, CommitsShowing}
-use Rattle.sqlite.proofs.Callers.{IsPlain, never_commits}
-use Rattle.sqlite.proofs.StateLemmas.{survives_weaker, survives_then}
-use Rattle.sqlite_trees.specs.Tree.{Trees}
+use Rattle.sqlite.specs.State.{State as Seen, IsUnchanged}
 use Rattle.streetmap_grid.specs.Values.{BoxValue}
 use Rattle.streetmap_moment.specs.IntervalValue.{IntervalValue}
 use Rattle.streetmap_geojson.specs.FeatureValue.{FeatureValue}
@@ -29,7 +25,6 @@ use Rattle.streetmap_rows.specs.TableReads.{Stopped}
 use Rattle.streetmap_reading.specs.FoldEffects.{TakesAll}
 use Rattle.streetmap_reading.specs.Held.{IsCandidate, HoldsPage}
 use Rattle.streetmap_reading.specs.Choices.{chosen_of, TakesChosen}
-use Rattle.streetmap_rows.specs.TableReads.{Stays}
 use Rattle.streetmap_rows.specs.Views.{collection_view}
 use Rattle.streetmap_reading.proofs.Folded.{folded}
 use Rattle.streetmap_reading.proofs.PageRowsShown.{chosen_stored}

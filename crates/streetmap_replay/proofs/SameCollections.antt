@@ -18,7 +18,7 @@ use Rattle.streetmap_ledger.specs.WellFormed.{IsState}
 use Rattle.streetmap_ledger.specs.declared.summary.Summary.{Summary}
 use Rattle.streetmap_ledger.proofs.TextMaps.{one_text}
 use Rattle.streetmap_replay.proofs.ItemsByPlace.{get_map, get_low}
-use Rattle.streetmap_replay.specs.Alike.{AreAlike, AreSame, IsSame, Differs, Compares}
+use Rattle.streetmap_replay.specs.Alike.{AreSame, IsSame, Differs, Compares}
 use Rattle.streetmap_replay.specs.Alike.{IsUnlike, is_named}
 use Rattle.streetmap_replay.specs.Stops.{kept_end, fresh_end, IsStop}
 use Rattle.streetmap_replay.specs.declared.fault.ReplayFault.{ReplayFault}

@@ -8,7 +8,7 @@ use Rattle.streetmap_ledger.specs.State.{State}
 use Rattle.streetmap_ledger.specs.Batches.{act}
 use Rattle.streetmap_ledger.specs.Keep.{LeavesOnly, LeavesEither}
 use Rattle.streetmap_rows.specs.KeptStates.{Rests, AreTreesOf, MayLeave, MayBecome}
-use Rattle.streetmap_rows.proofs.OneState.{one_kept, trees_of_one}
+use Rattle.streetmap_rows.proofs.OneState.{trees_of_one}
 
 -- an open connection leaves its last commit
 pub leaves_only : (seen : Seen) (s : State) → Rests seen s → ((trees : Trees) → seen.may_leave trees → trees ≡ seen.committed.trees) → LeavesOnly (MayLeave seen) (Some s)

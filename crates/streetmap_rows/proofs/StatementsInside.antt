@@ -1,5 +1,5 @@
 -- What a statement that was run inside a transaction leaves, whatever it is.
-use Rattle.std.proofs.Common.{◌≡◌, ℕ, List, false, Result, Ok, Err, IsTrue, OnOk, IsErrAnd, sym}
+use Rattle.std.proofs.Common.{◌≡◌, ℕ, List, false, Result, Ok, Err, IsTrue, OnOk, IsErrAnd}
 use Rattle.sqlite.specs.declared.error.Error.{Error}
 use Rattle.sqlite.specs.declared.error.Error.TheVariants.{SqliteFailure}
 use Rattle.sqlite.specs.declared.error.ErrorCode.TheVariants.{TransactionState}

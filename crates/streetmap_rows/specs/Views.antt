@@ -6,10 +6,7 @@ use Rattle.sqlite.specs.declared.types.Value.TheVariants.{Int, Text as Words}
 use Rattle.sqlite.specs.Order.{Row}
 use Rattle.sqlite.specs.Values.{or_null}
 use Rattle.streetmap_batch.specs.Text.{Text}
-use Rattle.streetmap_geojson.specs.FeatureValue.{FeatureValue}
 use Rattle.streetmap_ledger.specs.State.{State, Collection, AcceptedBatch}
-use Rattle.streetmap_rows.specs.Rows.{feature_at}
-use Rattle.streetmap_rows.specs.Holds.{KeyPair}
 
 -- what is kept for a key
 abbrev pub kept_view : AcceptedBatch → Row

@@ -1,6 +1,6 @@
 -- Calls of a keeper over tables.
 use Rattle.std.proofs.Common.{◌≡◌, ◌⊎◌, inl, inr, ℕ, Option, None, Some, Result, Ok, Err, MatchResult, IfErr, IsSome, IsTrue, option_map}
-use Rattle.std.proofs.Common.{refl, sym, ap, subst, ◌∙◌, arith}
+use Rattle.std.proofs.Common.{refl, sym, ap, subst, ◌∙◌}
 use Rattle.std.specs.Prelude.{IsErrOf}
 use Rattle.std.specs.FinMap.{len}
 use Rattle.sqlite_disk.specs.Disk.{MoreFaults}
@@ -11,7 +11,7 @@ use Rattle.sqlite.proofs.Callers.{unchanged_then}
 use Rattle.streetmap_batch.specs.BatchValue.{BatchValue}
 use Rattle.streetmap_ledger.specs.State.{State}
 use Rattle.streetmap_ledger.specs.Batches.{act}
-use Rattle.streetmap_ledger.specs.Keep.{Reads, Writes, IsCall, IsRead, IsWrite, ShutsBy, LeavesOnly, LeavesEither}
+use Rattle.streetmap_ledger.specs.Keep.{Reads, Writes, IsRead, IsWrite, ShutsBy, LeavesOnly, LeavesEither}
 use Rattle.streetmap_ledger.specs.declared.reply.Cause.{Cause}
 use Rattle.streetmap_ledger.specs.declared.reply.Reply.{Reply}
 use Rattle.streetmap_ledger.specs.declared.reply.Fault.{Fault}

@@ -1,5 +1,5 @@
 //! What is done over a keeper of tables, which are created or opened for it.
-ghost use Rattle.std.specs.Prelude.{◌≡◌, false};
+ghost use Rattle.std.specs.Prelude.{◌≡◌};
 
 use crate::files::Visit;
 use sqlite::{Alter, Connection};

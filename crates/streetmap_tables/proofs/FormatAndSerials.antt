@@ -1,5 +1,5 @@
 -- What the format row and the serials of a state's tables show, and what a query in a transaction keeps.
-use Rattle.std.proofs.Common.{◌≡◌, ◌⊎◌, inl, inr, ℕ, suc, List, [], ◌∷◌, map, filter, length, codes, Bool, true, false, ◌&&◌, drop, find, Option, Some, None, option_map, pos, ℤ, if◌then◌else◌, refl, sym, ap, subst, ◌∙◌, nat_le, ◌^◌, IsTrue}
+use Rattle.std.proofs.Common.{◌≡◌, ◌⊎◌, ℕ, suc, List, [], ◌∷◌, map, filter, length, codes, Bool, true, false, ◌&&◌, drop, find, Option, Some, None, option_map, pos, ℤ, if◌then◌else◌, refl, sym, ap, ◌∙◌, nat_le, ◌^◌}
 use Rattle.std.specs.List.{list_all}
 use Rattle.std.specs.Option.{option_to_list}
 use Rattle.std.specs.Cmp.{eq_by_cmp_equiv}
@@ -13,10 +13,7 @@ use Rattle.sqlite_sql.specs.Term.{eval_all}
 use Rattle.sqlite.specs.Query.{IsAnswerAs, Output, output}
 use Rattle.sqlite.specs.Program.{overlay}
 use Rattle.sqlite.specs.Command.TheVariants.{Select}
-use Rattle.sqlite.specs.Clock.{timed}
-use Rattle.sqlite.specs.State.{State as Seen, IsUnchanged, IsRolledBack, KeepsCommit, Shown, ShowsRows, FailsToQuery, FailsToShow, IsNotRun, IsTooLate}
-use Rattle.sqlite.proofs.InsideLemmas.{unchanged_keeps}
-use Rattle.sqlite_schema.specs.declared.command.Returning.{Returning}
+use Rattle.sqlite.specs.State.{State as Seen, IsUnchanged, IsRolledBack, KeepsCommit, Shown, FailsToQuery, IsTooLate}
 use Rattle.sqlite_trees.specs.Tree.{Trees}
 use Rattle.sqlite_rules.specs.Lists.{Has}
 use Rattle.streetmap_batch.specs.Text.{Text}

@@ -7,9 +7,8 @@ use Rattle.sqlite.specs.Order.{Row}
 use Rattle.sqlite.specs.State.{State as Seen, IsUnchanged, Shown, FailsToQuery, IsTooLate}
 use Rattle.sqlite.specs.declared.error.Error.{Error}
 use Rattle.streetmap_rows.specs.Failures.{IsOfStore, HasReason}
-use Rattle.streetmap_rows.proofs.Compiles.{selects_format, select_format_is, selects_collection}
-use Rattle.streetmap_rows.proofs.Compiles.{select_collection_is}
-use Rattle.streetmap_rows.specs.Statements.{select_format, select_collection}
+use Rattle.streetmap_rows.proofs.Compiles.{selects_format, select_format_is}
+use Rattle.streetmap_rows.specs.Statements.{select_format}
 use Rattle.streetmap_tables.specs.Adoption.{serials_text}
 use Rattle.streetmap_tables.specs.Part.{old_rows_text, HasCarried}
 use Rattle.sqlite.specs.Store.{Ghosts}

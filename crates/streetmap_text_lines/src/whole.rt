@@ -1,5 +1,5 @@
 //! One whole line of bounded length, read from a reader: with its line feed.
-ghost use Rattle.std.specs.Prelude.{◌≡◌, ◌≤◌, Some, Err, IfOk, OnErr, IfSome, vec_len};
+ghost use Rattle.std.specs.Prelude.{◌≡◌, ◌≤◌, Some, Err, IfOk, OnErr, IfSome};
 ghost use Rattle.streetmap_text_lines.specs.Lines.{first_too_long};
 ghost use Rattle.streetmap_text_lines.specs.LineReads.{LosesPart};
 ghost use Rattle.streetmap_text_lines.specs.Whole.{TakesWhole};

@@ -1,11 +1,10 @@
 //! A stream of requests, answered in order: a turn reads one and answers it.
 ghost use Rattle.std.specs.Prelude.{◌≡◌, ◌<◌, ◌+◌, ◌-◌, ◌^◌, Option, IfOk, if◌then◌else◌};
 ghost use Rattle.std.specs.Prelude.{length, true};
-ghost use Rattle.std.specs.Io.KnownBytes.{Consumes, IsAtEnd, Keeps};
+ghost use Rattle.std.specs.Io.KnownBytes.{Consumes, Keeps};
 ghost use Rattle.streetmap_http.specs.Head.{IsHead};
-ghost use Rattle.streetmap_http.specs.Framing.{Frames, Breaks, sized};
-ghost use Rattle.streetmap_http.specs.SentAnswers.{SentSays};
-ghost use Rattle.streetmap_http.specs.FramingView.{framing_value, head_value};
+ghost use Rattle.streetmap_http.specs.Framing.{Frames, sized};
+ghost use Rattle.streetmap_http.specs.FramingView.{head_value};
 ghost use Rattle.streetmap_batch.specs.Text.{Text};
 ghost use Rattle.streetmap_routes.specs.BaseView.{root_of};
 ghost use Rattle.streetmap_connections.specs.Answers.{answer_text};

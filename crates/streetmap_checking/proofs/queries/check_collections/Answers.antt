@@ -1,4 +1,4 @@
-use Rattle.std.proofs.Common.{rules, [], refl, ap}
+use Rattle.std.proofs.Common.{[], refl, ap}
 use Rattle.sqlite.specs.Held.{state}
 use Rattle.streetmap_tables.proofs.BeforeCleanEnd.{is_handed}
 use Rattle.streetmap_rows.specs.Statements.{select_collections}

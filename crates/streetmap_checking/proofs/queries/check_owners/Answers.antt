@@ -1,4 +1,4 @@
-use Rattle.std.proofs.Common.{rules, [], refl, map}
+use Rattle.std.proofs.Common.{[], refl, map}
 use Rattle.sqlite.specs.Held.{state}
 use Rattle.streetmap_checking.specs.Good.{AreOwnerRows}
 use Rattle.streetmap_checking.specs.Held.{HoldsOwnerRows, IsGoodOwners, known}

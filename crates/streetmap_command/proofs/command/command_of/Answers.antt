@@ -1,4 +1,4 @@
-use Rattle.std.proofs.Common.{rules, ◌≡◌, List, Option, Some, IfOk, IfErr, IsSome, Result, sym, subst}
+use Rattle.std.proofs.Common.{◌≡◌, List, Option, Some, IfOk, IfErr, IsSome, Result, sym, subst}
 use Rattle.std.specs.Box.{box_value}
 use Rattle.clap.specs.Words.{Row, Text, rows_of, found_of}
 use Rattle.clap.specs.declared.parser.matches.ArgMatches.TheViews.{out-ArgMatches, out-SubCommand}

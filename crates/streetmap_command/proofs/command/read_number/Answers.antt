@@ -1,4 +1,4 @@
-use Rattle.std.proofs.Common.{rules, sym, ◌∙◌, arith}
+use Rattle.std.proofs.Common.{sym, ◌∙◌, arith}
 use Rattle.streetmap_command.proofs.Numbers.{none_read}
 use Rattle.streetmap_command.proofs.command.read_number.Goals as goal
 

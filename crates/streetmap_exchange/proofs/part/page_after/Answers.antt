@@ -1,4 +1,3 @@
-use Rattle.std.proofs.Common.{rules}
 use Rattle.streetmap_replay.proofs.CallsInTurn.{answered_read}
 use Rattle.streetmap_exchange.proofs.part.page_after.Goals as goal
 

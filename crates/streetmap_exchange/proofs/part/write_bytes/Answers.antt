@@ -1,4 +1,3 @@
-use Rattle.std.proofs.Common.{rules}
 use Rattle.streetmap_text_lines.proofs.WriteLemmas.{first_is_beginning, first_is_less}
 use Rattle.streetmap_exchange.proofs.part.write_bytes.Goals as goal
 

@@ -1,4 +1,3 @@
-use Rattle.std.proofs.Common.{rules}
 use Rattle.std.proofs.KnownBytes.{Appends-kept}
 use Rattle.streetmap_text_lines.proofs.WriteLemmas.{beginning_all}
 use Rattle.streetmap_exchange.proofs.part.write_end.Goals as goal

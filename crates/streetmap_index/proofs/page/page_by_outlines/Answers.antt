@@ -6,7 +6,7 @@ use Rattle.streetmap_query.specs.Views.{query_value}
 use Rattle.streetmap_ledger.specs.Pages.{candidates, page_over}
 use Rattle.streetmap_ledger.specs.Folds.{HoldsCandidates}
 use Rattle.streetmap_ledger.proofs.Examining.{same_page}
-use Rattle.streetmap_ledger.proofs.Calls.{no_read, read_so, read_then, read_made, read_failed, read_lost, read_after}
+use Rattle.streetmap_ledger.proofs.Calls.{no_read, read_so, read_then, read_made, read_failed, read_after}
 use Rattle.streetmap_outlines.specs.Outlines.{joined, LiesWithin, AreOutlines, IsBounded, AreBounded, IsListedChunk, AreListed}
 use Rattle.streetmap_outlines.proofs.Covering.{passed_over}
 use Rattle.streetmap_outlines.specs.Selections.{is_marked_if}

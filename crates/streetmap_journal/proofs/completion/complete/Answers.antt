@@ -1,5 +1,5 @@
 use Rattle.std.proofs.Common.{◌≡◌, ◌∙◌, List, ℕ, Some, sym, subst, true, false}
-use Rattle.streetmap_replay.proofs.CallsInTurn.{no_reads, read_of, failed_read, reads_then}
+use Rattle.streetmap_replay.proofs.CallsInTurn.{read_of, failed_read, reads_then}
 use Rattle.streetmap_journal.specs.Completion.{IsKeptLine}
 use Rattle.streetmap_journal.specs.Reports.{WriterIsInformed}
 use Rattle.streetmap_journal.specs.Written.{position_of}

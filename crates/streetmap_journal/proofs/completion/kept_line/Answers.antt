@@ -2,7 +2,6 @@ use Rattle.std.proofs.Common.{◌≡◌, Some, sym, ap, ◌∙◌}
 use Rattle.std.specs.Option.{option_map}
 use Rattle.streetmap_ledger.specs.KeptView.{keyed_batch}
 use Rattle.streetmap_ledger.proofs.Calls.{read_made}
-use Rattle.streetmap_replay.specs.Journal.{kept_text}
 use Rattle.streetmap_journal.proofs.OneLineFurther.{kept_line_is}
 use Rattle.streetmap_journal.proofs.completion.kept_line.Goals as goal
 

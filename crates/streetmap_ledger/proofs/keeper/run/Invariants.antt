@@ -1,4 +1,4 @@
-use Rattle.std.proofs.Common.{◌≡◌, map, length, take, vec_capacity, Some, None}
+use Rattle.std.proofs.Common.{◌≡◌, map, length, take, vec_capacity, None}
 use Rattle.streetmap_ledger.specs.State.{State}
 use Rattle.streetmap_ledger.specs.Batches.{after_all, replies_of}
 use Rattle.streetmap_batch.specs.BatchView.{batch_value}

@@ -1,4 +1,4 @@
-use Rattle.std.proofs.Common.{rules, subst, [], ◌∷◌, ◌++◌}
+use Rattle.std.proofs.Common.{subst, [], ◌∷◌, ◌++◌}
 use Rattle.std.proofs.KnownBytes.{Appends-trans, Appends-kept}
 use Rattle.std.specs.Io.KnownBytes.{Appends}
 use Rattle.streetmap_text_lines.proofs.WriteLemmas.{beginning_after, beginning_all, on_err}

@@ -1,6 +1,6 @@
-use Rattle.std.proofs.Common.{refl, subst, sym}
+use Rattle.std.proofs.Common.{subst, sym}
 use Rattle.std.proofs.lemmas.Result.{on_ok_weaker}
-use Rattle.streetmap_ledger.specs.Folds.{IsFoldOf, HoldsCandidates}
+use Rattle.streetmap_ledger.specs.Folds.{IsFoldOf}
 use Rattle.streetmap_ledger.specs.Pages.{candidates}
 use Rattle.streetmap_ledger.proofs.Examining.{passed_on}
 use Rattle.streetmap_memory.proofs.collection.examine.Goals as goal

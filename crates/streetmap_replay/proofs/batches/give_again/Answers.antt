@@ -1,4 +1,3 @@
-use Rattle.std.proofs.Common.{rules}
 use Rattle.streetmap_replay.proofs.CallsInTurn.{no_calls, call_of}
 use Rattle.streetmap_replay.proofs.batches.give_again.Goals as goal
 

@@ -1,10 +1,8 @@
-use Rattle.std.proofs.Common.{arith, rules, sym, subst}
-use Rattle.std.proofs.lemmas.Grind.{common_steps}
+use Rattle.std.proofs.Common.{sym, subst}
 use Rattle.sqlite.specs.Held.{state}
 use Rattle.streetmap_rows.specs.Representations.{StandsFor}
 use Rattle.streetmap_rows.specs.Elsewhere.{IsSameElsewhere}
-use Rattle.streetmap_rows.proofs.ResultCases.{handed_on, err_handed_on}
-use Rattle.streetmap_rows.proofs.ErrorReasons.{run_inside}
+use Rattle.streetmap_rows.proofs.ResultCases.{handed_on}
 use Rattle.streetmap_rows.proofs.StateWrites.{delete_represented, delete_reported}
 use Rattle.streetmap_rows.proofs.StatementsInside.{ran_inside, failed_inside}
 use Rattle.streetmap_rows.proofs.writes.delete_feature.Goals as goal

@@ -1,5 +1,4 @@
-use Rattle.std.proofs.Common.{arith, rules, ◌≡◌, pos, Ok, Err, sym, subst}
-use Rattle.std.proofs.lemmas.Grind.{common_steps}
+use Rattle.std.proofs.Common.{rules, ◌≡◌, pos, Ok, Err, sym, subst}
 use Rattle.sqlite.specs.Held.{state}
 use Rattle.sqlite_value.specs.Value.{owned}
 use Rattle.sqlite.specs.State.{ExecutesInside}
@@ -7,8 +6,7 @@ use Rattle.sqlite.specs.declared.types.Value.TheVariants.{Int}
 use Rattle.streetmap_rows.specs.Representations.{StandsFor}
 use Rattle.streetmap_rows.specs.Elsewhere.{IsSameElsewhere}
 use Rattle.streetmap_rows.specs.Statements.{insert_batch}
-use Rattle.streetmap_rows.proofs.ResultCases.{handed_on, err_handed_on}
-use Rattle.streetmap_rows.proofs.ErrorReasons.{run_inside}
+use Rattle.streetmap_rows.proofs.ResultCases.{handed_on}
 use Rattle.streetmap_rows.proofs.StateWrites.{keep_represented, keep_reported}
 use Rattle.streetmap_rows.proofs.BoundParameters.{seven}
 use Rattle.streetmap_rows.proofs.StatementsInside.{ran_inside, failed_inside}

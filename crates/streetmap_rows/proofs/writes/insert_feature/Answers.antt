@@ -9,8 +9,7 @@ use Rattle.streetmap_grid.specs.Views.{box_value}
 use Rattle.streetmap_rows.specs.Representations.{StandsFor}
 use Rattle.streetmap_rows.specs.Elsewhere.{IsSameElsewhere}
 use Rattle.streetmap_rows.specs.Statements.{insert_feature}
-use Rattle.streetmap_rows.proofs.ResultCases.{handed_on, err_handed_on}
-use Rattle.streetmap_rows.proofs.ErrorReasons.{run_inside}
+use Rattle.streetmap_rows.proofs.ResultCases.{handed_on}
 use Rattle.streetmap_rows.proofs.StateWrites.{insert_represented, insert_reported}
 use Rattle.streetmap_rows.proofs.BoundParameters.{nine, feature_bound}
 use Rattle.streetmap_rows.proofs.StatementsInside.{ran_inside, failed_inside}

@@ -1,4 +1,4 @@
-use Rattle.std.proofs.Common.{rules, ◌∙◌, sym}
+use Rattle.std.proofs.Common.{◌∙◌, sym}
 use Rattle.std.specs.FinMap.{len}
 use Rattle.sqlite.specs.Held.{state}
 use Rattle.streetmap_rows.proofs.CrashLeaves.{leaves_only}

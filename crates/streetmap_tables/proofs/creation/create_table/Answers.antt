@@ -5,8 +5,6 @@ use Rattle.streetmap_tables.proofs.Creating.{created_by}
 use Rattle.streetmap_tables.proofs.CreateRefused.{reported_created}
 use Rattle.streetmap_tables.proofs.Refusals.{allowed_if_ours}
 use Rattle.streetmap_tables.proofs.BeforeCleanEnd.{is_handed}
-use Rattle.streetmap_rows.proofs.ResultCases.{err_handed_on}
-use Rattle.streetmap_rows.proofs.ErrorReasons.{run_inside}
 use Rattle.streetmap_rows.proofs.StatementsInside.{ran_inside, failed_inside}
 use Rattle.streetmap_tables.proofs.creation.create_table.Goals as goal
 

@@ -3,8 +3,6 @@ use Rattle.std.proofs.lemmas.Grind.{common_steps}
 use Rattle.sqlite.specs.Held.{state}
 use Rattle.streetmap_tables.proofs.PutFormat.{format_put, format_reported}
 use Rattle.streetmap_tables.proofs.BeforeCleanEnd.{is_handed}
-use Rattle.streetmap_rows.proofs.ResultCases.{err_handed_on}
-use Rattle.streetmap_rows.proofs.ErrorReasons.{run_inside}
 use Rattle.streetmap_rows.proofs.StatementsInside.{ran_inside, failed_inside}
 use Rattle.streetmap_tables.proofs.creation.insert_format.Goals as goal
 

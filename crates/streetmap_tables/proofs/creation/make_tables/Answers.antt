@@ -1,4 +1,3 @@
-use Rattle.std.proofs.Common.{rules}
 use Rattle.sqlite.specs.Held.{state}
 use Rattle.streetmap_ledger.specs.State.{opening_state}
 use Rattle.streetmap_rows.proofs.CrashLeaves.{leaves_only}

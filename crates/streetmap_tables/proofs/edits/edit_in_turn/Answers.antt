@@ -1,4 +1,4 @@
-use Rattle.std.proofs.Common.{rules, drop_of_length-le, ◌∙◌, ◌+◌, ◌∷◌, refl, sym, ap, subst, arith, map, drop, inl}
+use Rattle.std.proofs.Common.{drop_of_length-le, ◌∙◌, ◌+◌, ◌∷◌, refl, sym, ap, subst, arith, map, drop, inl}
 use Rattle.std.proofs.lemmas.List.{drop_more}
 use Rattle.sqlite.specs.Held.{state}
 use Rattle.sqlite.specs.State.{HasCleanDisk}

@@ -1,4 +1,4 @@
-use Rattle.std.proofs.Common.{rules, ◌∙◌}
+use Rattle.std.proofs.Common.{◌∙◌}
 use Rattle.sqlite.specs.Held.{state}
 use Rattle.streetmap_rows.proofs.ResultCases.{handed_on}
 use Rattle.streetmap_tables.proofs.CallsInTransaction.{keeps_rest, still_represented}

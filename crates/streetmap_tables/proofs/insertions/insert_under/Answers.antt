@@ -1,4 +1,4 @@
-use Rattle.std.proofs.Common.{rules, ◌∙◌, map, length, sym, subst, ap}
+use Rattle.std.proofs.Common.{◌∙◌, map, length, sym, subst, ap}
 use Rattle.std.specs.Option.{option_copied}
 use Rattle.sqlite.specs.Held.{state}
 use Rattle.streetmap_batch.specs.BatchView.{edit_value}

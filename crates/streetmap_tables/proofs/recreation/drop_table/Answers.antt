@@ -4,8 +4,6 @@ use Rattle.sqlite.specs.Held.{state}
 use Rattle.streetmap_tables.proofs.BeforeCleanEnd.{is_handed}
 use Rattle.streetmap_tables.proofs.Drops.{dropped_by}
 use Rattle.streetmap_tables.proofs.DropRefused.{reported_dropped}
-use Rattle.streetmap_rows.proofs.ResultCases.{err_handed_on}
-use Rattle.streetmap_rows.proofs.ErrorReasons.{run_inside}
 use Rattle.streetmap_rows.proofs.StatementsInside.{ran_inside, failed_inside}
 use Rattle.streetmap_tables.proofs.recreation.drop_table.Goals as goal
 

@@ -3,7 +3,7 @@ use Rattle.std.proofs.lemmas.Grind.{common_steps}
 use Rattle.std.specs.FinMap.{get, insert}
 use Rattle.streetmap_ledger.specs.State.{timed, with_feature, with_features}
 use Rattle.streetmap_grid.specs.Views.{box_value}
-use Rattle.std.proofs.Common.{subst, subst₂}
+use Rattle.std.proofs.Common.{subst₂}
 use Rattle.std.specs.Option.{option_copied}
 use Rattle.streetmap_tables.specs.StoredFeatures.{IsTimed}
 use Rattle.sqlite.specs.Held.{state}

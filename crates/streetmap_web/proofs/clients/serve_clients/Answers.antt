@@ -1,4 +1,3 @@
-use Rattle.std.proofs.Common.{rules}
 use Rattle.streetmap_connections.specs.Served.{slots_of}
 use Rattle.streetmap_web.proofs.RequestsInTurn.{base_kept, all_calls, serves_clients}
 use Rattle.streetmap_web.proofs.clients.serve_clients.Goals as goal

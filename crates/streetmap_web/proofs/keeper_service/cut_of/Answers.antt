@@ -1,4 +1,4 @@
-use Rattle.std.proofs.Common.{rules, arith}
+use Rattle.std.proofs.Common.{arith}
 use Rattle.streetmap_web.proofs.NoRequestYet.{none_in_head, none_in_body, none_before_head, none_before_body}
 use Rattle.streetmap_web.proofs.keeper_service.cut_of.Goals as goal
 

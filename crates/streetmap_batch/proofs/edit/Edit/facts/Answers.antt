@@ -1,7 +1,7 @@
 use Rattle.std.proofs.Common.{◌≡◌, None, Some, sym, subst}
 use Rattle.std.specs.Str.{is_utf8, IsUtf8}
 use Rattle.std.proofs.lemmas.Str.{is_utf8-from_IsUtf8}
-use Rattle.std.specs.Prelude.{IsTrue, Option, List, ℕ}
+use Rattle.std.specs.Prelude.{IsTrue, List, ℕ}
 use Rattle.streetmap_batch.specs.BatchFacts.{IsTitle, IsTimePropertyIf, IsSoundEdit}
 use Rattle.streetmap_batch.specs.BatchView.{edit_value}
 use Rattle.streetmap_batch.specs.declared.edit.Edit.{Edit}

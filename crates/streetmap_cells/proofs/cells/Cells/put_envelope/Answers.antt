@@ -1,4 +1,4 @@
-use Rattle.std.proofs.Common.{Contains, refl, sym, subst, rules}
+use Rattle.std.proofs.Common.{Contains, refl, sym, subst}
 use Rattle.std.specs.Prelude.{is_ok}
 use Rattle.streetmap_cells.proofs.Listing.{pushed, kept}
 use Rattle.streetmap_cells.proofs.cells.Cells.put_envelope.Goals as goal

@@ -1,4 +1,4 @@
-use Rattle.std.proofs.Common.{rules, refl, ap, inl, ◌++◌, Option}
+use Rattle.std.proofs.Common.{refl, ap, inl, ◌++◌, Option}
 use Rattle.streetmap_connections.specs.declared.client.Client.{Client}
 use Rattle.streetmap_connections.specs.declared.limits.TheConstants.{MOST_INPUT}
 use Rattle.streetmap_connections.specs.Slots.{past_of, present}

@@ -1,4 +1,4 @@
-use Rattle.std.proofs.Common.{rules, refl, arith}
+use Rattle.std.proofs.Common.{refl, arith}
 use Rattle.streetmap_journal.proofs.PartOfLine.{lacking_put}
 use Rattle.streetmap_journal.proofs.journal.Journal.put.Goals as goal
 

@@ -1,6 +1,6 @@
-use Rattle.std.proofs.Common.{◌≡◌, ◌+◌, ◌<◌, ◌^◌, ◌∷◌, [], true, string_bytes, sym, ap, ◌∙◌, arith}
+use Rattle.std.proofs.Common.{◌≡◌, ◌+◌, ◌<◌, ◌^◌, ◌∷◌, [], string_bytes, sym, ap, ◌∙◌, arith}
 use Rattle.streetmap_batch.specs.BatchView.{edit_value}
-use Rattle.streetmap_packing.specs.PackingState.{is_passing, with_edit, next}
+use Rattle.streetmap_packing.specs.PackingState.{is_passing, with_edit}
 use Rattle.streetmap_packing.specs.Packs.{passes}
 use Rattle.streetmap_packing.specs.PackerView.{packing}
 use Rattle.streetmap_packing.proofs.KeyLemmas.{keys_have_room, alone_passes, some_under_way}
