@@ -105,7 +105,7 @@ impl RowFold for BatchRows {
 }
 
 /// Whether N serials are the numbers from 1 to N, each once.
-pub fn are_serials(alloc: Global, serials: &[u64]) -> Result<bool, AllocError>
+pub(crate) fn are_serials(alloc: Global, serials: &[u64]) -> Result<bool, AllocError>
     ensures { IfOk result (λ are. IsTrue are ↔ AreSerials serials.now) }
 {
     if serials.len() as u64 > MOST_BATCHES {

@@ -24,7 +24,7 @@ pub fn is_text(row: &Row, at: usize, text: &[u8]) -> bool
 }
 
 /// Whether a cell has a text.
-pub fn has_text(row: &Row, at: usize) -> bool
+pub(crate) fn has_text(row: &Row, at: usize) -> bool
     ensures { IsTrue result ↔ (at < length row.now)
         × ((text : Text) × (column row.now at ≡ Words text)) }
 {
@@ -64,7 +64,7 @@ pub fn one_more(count: u64) -> Result<u64, ReadFault>
 }
 
 /// The sum of two counts; if no number is left, the error is the one for memory.
-pub fn sum_of(one: u64, other: u64) -> Result<u64, ReadFault>
+pub(crate) fn sum_of(one: u64, other: u64) -> Result<u64, ReadFault>
     ensures { MatchResult result (λ sum. sum ≡ one + other) (Refuses ⊥) }
 {
     match one.checked_add(other) {

@@ -21,7 +21,7 @@ use streetmap_reading::fold_rows;
 use streetmap_rows::{ReadFault, SELECT_COLLECTIONS};
 
 /// Whether the row of the format exists, and no other.
-pub fn check_format<S: Alter>(conn: &mut Connection<S>) -> Result<(), ReadFault>
+pub(crate) fn check_format<S: Alter>(conn: &mut Connection<S>) -> Result<(), ReadFault>
     ensures { Queries S.Store (λ old. ShowsOrWhyNot (λ _. SeesFormat old) (NoFormat old) old)
         (λ _ _. ⊥) conn.old conn.new result }
 {
@@ -39,7 +39,7 @@ pub fn check_format<S: Alter>(conn: &mut Connection<S>) -> Result<(), ReadFault>
 }
 
 /// What is kept of all collections, in byte order of ids.
-pub fn check_collections<S: Alter>(
+pub(crate) fn check_collections<S: Alter>(
     alloc: Global,
     conn: &mut Connection<S>,
 ) -> Result<Vec<Head>, ReadFault>
@@ -81,7 +81,7 @@ fn check_features<S: Alter>(
 }
 
 /// How many features these collections have.
-pub fn check_all_features<S: Alter>(
+pub(crate) fn check_all_features<S: Alter>(
     alloc: Global,
     conn: &mut Connection<S>,
     heads: &[Head],
@@ -99,7 +99,10 @@ pub fn check_all_features<S: Alter>(
 }
 
 /// Whether each feature is in one of these collections.
-pub fn check_owners<S: Alter>(conn: &mut Connection<S>, heads: Vec<Head>) -> Result<(), ReadFault>
+pub(crate) fn check_owners<S: Alter>(
+    conn: &mut Connection<S>,
+    heads: Vec<Head>,
+) -> Result<(), ReadFault>
     ensures { Queries S.Store (λ old. ShowsOrWhyNot (λ _. SeesOwners (known heads.items) old)
         (NoOwners (known heads.items) old) old) (λ _ _. ⊥) conn.old conn.new result }
 {
@@ -113,7 +116,10 @@ pub fn check_owners<S: Alter>(conn: &mut Connection<S>, heads: Vec<Head>) -> Res
 }
 
 /// The number of batches, whose serials are the numbers from 1 to it.
-pub fn check_batches<S: Alter>(alloc: Global, conn: &mut Connection<S>) -> Result<u64, ReadFault>
+pub(crate) fn check_batches<S: Alter>(
+    alloc: Global,
+    conn: &mut Connection<S>,
+) -> Result<u64, ReadFault>
     ensures { Queries S.Store
         (λ old. ShowsOrWhyNot (λ count. SeesBatches count old) (NoBatches old) old)
         (λ _ _. ⊥) conn.old conn.new result }

@@ -82,7 +82,7 @@ impl<S: Stream> Client<S> {
     }
 
     /// The stream alone, after the client is over.
-    pub fn into_stream(self) -> S
+    pub(crate) fn into_stream(self) -> S
         ensures { result ≡ self.stream }
     {
         let Client { stream, .. } = self;
@@ -90,7 +90,7 @@ impl<S: Stream> Client<S> {
     }
 
     /// Its stream became ready.
-    pub fn wake(&mut self, readable: bool, writable: bool)
+    pub(crate) fn wake(&mut self, readable: bool, writable: bool)
         ensures { self.new ≡ woken readable writable self.old }
     {
         self.readable = self.readable || readable;
@@ -100,7 +100,7 @@ impl<S: Stream> Client<S> {
     /// Whether it took longer than `patience`, in milliseconds, to send the next piece of a request
     /// or the rest of it, or to take a byte of an answer; longer than any request may take; or
     /// longer than a second to end its side after everything was sent.
-    pub fn is_late(&self, now: u64, patience: u64) -> bool
+    pub(crate) fn is_late(&self, now: u64, patience: u64) -> bool
         ensures { IsTrue result ↔ IsLate now patience self.now }
     {
         let patience = if self.finishes {
@@ -114,7 +114,7 @@ impl<S: Stream> Client<S> {
 
     /// Whether no byte of a request was received, nothing is to be sent, and its stream had nothing
     /// more to read.
-    pub fn is_idle(&self) -> bool
+    pub(crate) fn is_idle(&self) -> bool
         ensures { IsTrue result ↔ IsIdle self.now }
     {
         !self.readable && !self.finishes && self.connection.is_idle()
@@ -122,7 +122,7 @@ impl<S: Stream> Client<S> {
 
     /// Whether an answer, or a part of one, is still to be sent, or only the end of what the other
     /// side sends is still to be read.
-    pub fn is_busy(&self) -> bool
+    pub(crate) fn is_busy(&self) -> bool
         ensures { OnFalse result (IsQuiet self.now) }
     {
         self.finishes || self.connection.wants_send()
@@ -130,21 +130,21 @@ impl<S: Stream> Client<S> {
 
     /// When it was accepted, was last answered, last took a byte of an answer, or sent the last
     /// whole piece of a request, in milliseconds.
-    pub fn since(&self) -> u64
+    pub(crate) fn since(&self) -> u64
         ensures { result ≡ self.now.since }
     {
         self.since
     }
 
     /// The bytes of its input that wait for an answer.
-    pub fn waiting(&self) -> usize
+    pub(crate) fn waiting(&self) -> usize
         ensures { result ≡ length (history self.now.connection).unread }
     {
         self.connection.waiting()
     }
 
     /// Takes some steps. It reads no more when `most_input` bytes of its input wait.
-    pub fn work<V: Service>(&mut self, service: &mut V, now: u64, most_input: usize) -> Work
+    pub(crate) fn work<V: Service>(&mut self, service: &mut V, now: u64, most_input: usize) -> Work
         ensures moves { Moves most_input (place_of S.remaining S.contents self.old)
             (place_of S.remaining S.contents self.new) }
         ensures calls { Calls V.answers service.old service.new (exchanges_of self.old)

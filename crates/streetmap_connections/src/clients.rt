@@ -135,7 +135,7 @@ impl<S: Stream + Drop> Clients<S> {
 
     /// The place for the next client: one that is free, or that of the client that has been idle
     /// the longest, if it was idle for longer than the limits require.
-    pub fn place_for_next(&self, now: u64) -> Option<usize>
+    pub(crate) fn place_for_next(&self, now: u64) -> Option<usize>
         ensures gives_way { IfSome result (λ place. GivesWayAt self.now.slots.items place) }
         ensures free_first { IfSome result (λ place. IsFreeAt self.now.slots.items place
             ⊎ All IsTaken self.now.slots.items) }
@@ -187,7 +187,7 @@ impl<S: Stream + Drop> Clients<S> {
     }
 
     /// Lets a client in at a place that gives way: the client at that place ends.
-    pub fn let_in(&mut self, place: usize, stream: S, now: u64)
+    pub(crate) fn let_in(&mut self, place: usize, stream: S, now: u64)
         requires { GivesWayAt self.old.slots.items place }
         ensures comes { Timeline (histories_in (slots_of self.old)) []
             (histories_in (slots_of self.new)) }
@@ -205,7 +205,7 @@ impl<S: Stream + Drop> Clients<S> {
     }
 
     /// Notes that the stream of the client at a place became ready.
-    pub fn wake(&mut self, place: usize, readable: bool, writable: bool)
+    pub(crate) fn wake(&mut self, place: usize, readable: bool, writable: bool)
         ensures same { histories_in (slots_of self.new) ≡ histories_in (slots_of self.old) }
         ensures kept { map exchanges_in (slots_of self.new)
             ≡ map exchanges_in (slots_of self.old) }
@@ -219,7 +219,7 @@ impl<S: Stream + Drop> Clients<S> {
     }
 
     /// Whether a client is busy (`Client::is_busy`).
-    pub fn is_busy(&self) -> bool
+    pub(crate) fn is_busy(&self) -> bool
         ensures { OnFalse result (All AreQuiet self.now.slots.items) }
     {
         let slots = self.slots.as_slice();
@@ -242,7 +242,7 @@ impl<S: Stream + Drop> Clients<S> {
 
     /// Each client takes its turn, and those that are late, or over, leave. Returns whether one can
     /// continue at once.
-    pub fn work<V: Service>(&mut self, service: &mut V, now: u64) -> bool
+    pub(crate) fn work<V: Service>(&mut self, service: &mut V, now: u64) -> bool
         ensures serves { Serves V.answers V.refuses service.old service.new (slots_of self.old)
             (slots_of self.new) }
         ensures moves { EachMoves S.remaining S.contents (clients_of self.old)

@@ -39,7 +39,7 @@ impl Connection {
     }
 
     /// Whether an answer, or a part of one, is still to be sent.
-    pub fn wants_send(&self) -> bool
+    pub(crate) fn wants_send(&self) -> bool
         ensures left { OnTrue result ((history self.now).unsent ≢ []) }
         ensures sent { OnFalse result ((history self.now).unsent ≡ []) }
     {
@@ -47,7 +47,7 @@ impl Connection {
     }
 
     /// Whether the input may begin with a whole request.
-    pub fn may_answer(&self) -> bool
+    pub(crate) fn may_answer(&self) -> bool
         ensures { IsTrue result ↔ MayAnswer self.now }
     {
         !self.wants_send() && !self.buffers.closes && self.buffers.needs <= self.buffers.input.len()
@@ -64,7 +64,7 @@ impl Connection {
     }
 
     /// Whether no byte of a request was received, and nothing is to be sent.
-    pub fn is_idle(&self) -> bool
+    pub(crate) fn is_idle(&self) -> bool
         ensures { IsTrue result ↔ ((history self.now).unread ≡ [])
             × ((history self.now).unsent ≡ []) }
     {
@@ -72,14 +72,14 @@ impl Connection {
     }
 
     /// The bytes of input that wait for an answer.
-    pub fn waiting(&self) -> usize
+    pub(crate) fn waiting(&self) -> usize
         ensures { result ≡ length (history self.now).unread }
     {
         self.buffers.input.len()
     }
 
     /// Whether the end of the input was read.
-    pub fn has_ended(&self) -> bool
+    pub(crate) fn has_ended(&self) -> bool
         ensures { result ≡ (history self.now).ended }
     {
         self.buffers.ended
@@ -90,7 +90,7 @@ impl Connection {
     /// # Errors
     ///
     /// If memory for the bytes that the read may return runs out: then nothing is read.
-    pub fn receive_from<S: Stream>(
+    pub(crate) fn receive_from<S: Stream>(
         &mut self,
         stream: &mut S,
     ) -> Result<io::Result<usize>, AllocError>
@@ -146,7 +146,7 @@ impl Connection {
     /// # Errors
     ///
     /// As the stream's; then nothing is sent.
-    pub fn send_to<S: Stream>(&mut self, stream: &mut S) -> io::Result<usize>
+    pub(crate) fn send_to<S: Stream>(&mut self, stream: &mut S) -> io::Result<usize>
         ensures ok { IfOk result (λ n. (history self.new ≡ after_send (history self.old) n)
             × Appends (S.contents stream.old) (S.contents stream.new)
             (take n (history self.old).unsent)) }

@@ -97,7 +97,7 @@ impl Decimal {
 
     /// The number of an option's text as a count of 10^-places, if that is a whole number below
     /// 10^36.
-    pub fn count_of_option(text: &[u8], places: u8) -> Option<i128>
+    pub(crate) fn count_of_option(text: &[u8], places: u8) -> Option<i128>
         ensures reads { ReadsOption places text.now result }
         ensures bound { IfSome result (λ u. unsigned_abs u < 10 ^ 36) }
     {
@@ -113,7 +113,7 @@ impl Decimal {
     /// # Errors
     ///
     /// `OutOfGrid` if the count is 10^37 or more.
-    pub fn enclosing(&self, places: u8) -> Result<(i128, i128), DecimalFault>
+    pub(crate) fn enclosing(&self, places: u8) -> Result<(i128, i128), DecimalFault>
         ensures { Encloses places self.now.mantissa self.now.exponent result }
     {
         let power = self.exponent + places as i128;

@@ -28,7 +28,7 @@ fn edge_area(a: &Position, b: &Position) -> i64
 }
 
 /// Twice the area inside a ring, in square millimetres.
-pub fn double_area(positions: &[Position]) -> i128
+pub(crate) fn double_area(positions: &[Position]) -> i128
     ensures { result ≡ ring.double_area (positions_value positions.now) }
 {
     let mut sum: i128 = 0;

@@ -58,7 +58,7 @@ fn turned_over(odd: bool, x: i64, y: i64, ring: &[Position]) -> bool
 }
 
 /// Whether the south-western corner of the box is inside of the rings.
-pub fn holds_corner(rings: &[Ring], area: &GridBox) -> bool
+pub(crate) fn holds_corner(rings: &[Ring], area: &GridBox) -> bool
     ensures { IsTrue result ↔ IsInside area.now.x0 area.now.y0 (rings_value rings.now) }
 {
     let mut odd = false;

@@ -124,7 +124,7 @@ fn bounds_of(geometry: &Geometry) -> Option<GridBox>
 }
 
 /// The extent of a geometry, which has at least one position.
-pub fn extent_of_geometry(geometry: &Geometry) -> GridBox
+pub(crate) fn extent_of_geometry(geometry: &Geometry) -> GridBox
     ensures extent { IsExtent (vertices (geometry_value geometry.now)) (box_value result) }
     ensures value { box_value result ≡ extent_of (geometry_value geometry.now) }
 {

@@ -57,7 +57,7 @@ impl Ring {
 
     /// Twice the area inside the ring, in square millimetres: the sum over its edges of `ax * by -
     /// bx * ay`. Above zero for a counterclockwise ring, below zero for a clockwise one.
-    pub fn double_area(&self) -> i128
+    pub(crate) fn double_area(&self) -> i128
         ensures { result ≡ double_area (ring_value self.now) }
     {
         area::double_area(&self.positions)

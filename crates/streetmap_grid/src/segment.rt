@@ -73,7 +73,7 @@ fn are_both_reached(a: Slab, b: Slab) -> bool
 }
 
 /// Whether some point of the segment from `a` to `b` lies in the box.
-pub fn segment_meets(a: &Position, b: &Position, area: &GridBox) -> bool
+pub(crate) fn segment_meets(a: &Position, b: &Position, area: &GridBox) -> bool
     ensures { IsTrue result ↔ SegmentMeets (position_value a.now) (position_value b.now)
         (box_value area.now) }
 {

@@ -65,7 +65,7 @@ impl Index {
 
     /// Whether a collection is to be learnt at this read: it is not known, and learning is not put
     /// off. While learning is put off, reads of collections that are not known are counted down.
-    pub fn is_due(&mut self, name: &str) -> bool
+    pub(crate) fn is_due(&mut self, name: &str) -> bool
         ensures index { (s : State) → IsIndexOf self.old s → IsIndexOf self.new s }
         ensures due { known_under name.now self.old.known.entries ≡ None
             → result ≡ nat_eq self.old.reads_off 0 }

@@ -186,7 +186,7 @@ fn page_by_outlines<K: Outlined>(
 }
 
 /// The page of a collection by what is known of it.
-pub fn page_with<K: Outlined>(
+pub(crate) fn page_with<K: Outlined>(
     alloc: Global,
     keeper: &mut K,
     collection: &str,

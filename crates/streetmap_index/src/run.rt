@@ -30,7 +30,7 @@ fn is_due(query: &Query, outline: &KeptOutline) -> bool
 
 /// How many of these outlines, from the first on and `most` at most, are of features that a page
 /// reads one after the other.
-pub fn run_length(query: &Query, outlines: &[KeptOutline], most: usize) -> usize
+pub(crate) fn run_length(query: &Query, outlines: &[KeptOutline], most: usize) -> usize
     ensures within { result ≤ length outlines.now }
     ensures examined { All (IsExamined (query_value query.now)) (take result outlines.now) }
 {
@@ -149,7 +149,7 @@ fn take_each<K: Outlined>(
 /// Takes the next features, which are those with these outlines, as the keeper has them, and
 /// returns whether they exist: each alone if they are few and their rows are known, else by the ids
 /// of the first and the last.
-pub fn take_run<K: Outlined>(
+pub(crate) fn take_run<K: Outlined>(
     alloc: Global,
     keeper: &mut K,
     collection: &str,

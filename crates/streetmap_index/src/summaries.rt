@@ -73,7 +73,7 @@ fn summaries(
 }
 
 /// The summary of a keeper's collection by what is known of it.
-pub fn collection_with<K: Keeper>(
+pub(crate) fn collection_with<K: Keeper>(
     alloc: Global,
     keeper: &K,
     id: &str,
@@ -92,7 +92,7 @@ pub fn collection_with<K: Keeper>(
 }
 
 /// The summaries of all collections of a keeper by what is known of them, in byte order of ids.
-pub fn collections_with<K: Keeper>(
+pub(crate) fn collections_with<K: Keeper>(
     alloc: Global,
     keeper: &K,
     known: &BTreeMap<String, OutlinedCollection>,

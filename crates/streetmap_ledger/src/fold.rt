@@ -161,7 +161,7 @@ impl<'a> PageFold<'a> {
     }
 
     /// Counts the next feature, which is not selected.
-    pub fn skip_unselected(&mut self)
+    pub(crate) fn skip_unselected(&mut self)
         ensures { (q : QueryValue) (fs : List FeatureValue) (f : FeatureValue)
             → IsFoldOf q self.old fs → selects_of q f ≡ false
             → IsFoldOf q self.new (fs ++ f ∷ []) }

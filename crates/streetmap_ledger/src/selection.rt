@@ -119,7 +119,7 @@ pub fn is_candidate(query: &Query, outline: &Outline) -> bool
 }
 
 /// Whether the query selects the feature with this outline, if the outline decides it.
-pub fn selects_unread(query: &Query, outline: &Outline) -> Option<bool>
+pub(crate) fn selects_unread(query: &Query, outline: &Outline) -> Option<bool>
     ensures { (f : FeatureValue) → outline.now ≡ outline_of f → IsFeature f
         → IfSome result (λ known. known ≡ selects_of (query_value query.now) f) }
 {
@@ -133,7 +133,7 @@ pub fn selects_unread(query: &Query, outline: &Outline) -> Option<bool>
 }
 
 /// Whether a feature with this id comes after the query's, if that can be decided.
-pub fn comes_after_unread(query: &Query, id: Option<&[u8]>) -> Option<bool>
+pub(crate) fn comes_after_unread(query: &Query, id: Option<&[u8]>) -> Option<bool>
     ensures { (f : FeatureValue) → IfSome id.entry (λ known. known.now ≡ f.id)
         → IfSome result (λ known. known ≡ comes_after_of (query_value query.now).after f) }
 {

@@ -25,7 +25,7 @@ fn copy_of(alloc: Global, key: &str, kept: &kept::KeptBatch) -> Result<KeptBatch
 }
 
 /// The batch that was accepted with a serial; none if no batch was.
-pub fn batch_with(
+pub(crate) fn batch_with(
     alloc: Global,
     keys: &BTreeMap<String, kept::KeptBatch>,
     serial: u64,

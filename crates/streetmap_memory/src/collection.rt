@@ -130,7 +130,7 @@ impl PlainCollection {
     }
 
     /// Puts this into the slot at the id, if it exists, and returns what the slot held.
-    pub fn replace_slot(
+    pub(crate) fn replace_slot(
         &mut self,
         id: &str,
         slot: Option<PackedFeature>,
@@ -148,7 +148,7 @@ impl PlainCollection {
     }
 
     /// Removes the slot.
-    pub fn remove_slot(&mut self, id: &str)
+    pub(crate) fn remove_slot(&mut self, id: &str)
         ensures { self.new ≡ cut_slot self.old id.now }
     {
         let _ = self.slots.remove(id);
@@ -165,7 +165,7 @@ impl PlainCollection {
     }
 
     /// Removes the slot if it is empty.
-    pub fn sweep(&mut self, id: &str)
+    pub(crate) fn sweep(&mut self, id: &str)
         ensures { self.new ≡ swept_slot self.old id.now }
     {
         if self.is_emptied(id) {

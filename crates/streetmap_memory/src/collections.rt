@@ -32,7 +32,7 @@ fn remove_slot(collections: &mut BTreeMap<String, PlainCollection>, name: &str, 
 }
 
 /// Puts this into a slot if it exists, and returns what that was.
-pub fn replace_slot(
+pub(crate) fn replace_slot(
     collections: &mut BTreeMap<String, PlainCollection>,
     name: &str,
     id: &str,
@@ -89,7 +89,11 @@ pub fn put(
 }
 
 /// The undo of a write to a slot that was this before.
-pub fn undo_of<'a>(name: &'a str, id: &'a str, was: Option<Option<PackedFeature>>) -> Undo<'a>
+pub(crate) fn undo_of<'a>(
+    name: &'a str,
+    id: &'a str,
+    was: Option<Option<PackedFeature>>,
+) -> Undo<'a>
     ensures { (t : SlotCollections) (slot : Option FeatureValue)
         → slot_in t name.now id.now ≡ was
         → undone result (put_in t name.now id.now slot) ≡ t }
@@ -141,7 +145,7 @@ fn undo(collections: &mut BTreeMap<String, PlainCollection>, edit: Undo<'_>)
 }
 
 /// Takes edits back, the last first.
-pub fn rewind(collections: &mut BTreeMap<String, PlainCollection>, mut log: Vec<Undo<'_>>)
+pub(crate) fn rewind(collections: &mut BTreeMap<String, PlainCollection>, mut log: Vec<Undo<'_>>)
     ensures { map_of collections.new.entries
         ≡ rewound log.entry.items (map_of collections.old.entries) }
 {
@@ -176,7 +180,7 @@ fn sweep_edit(collections: &mut BTreeMap<String, PlainCollection>, edit: Undo<'_
 }
 
 /// Removes the slots that edits wrote and left empty.
-pub fn sweep(collections: &mut BTreeMap<String, PlainCollection>, mut log: Vec<Undo<'_>>)
+pub(crate) fn sweep(collections: &mut BTreeMap<String, PlainCollection>, mut log: Vec<Undo<'_>>)
     ensures { map_of collections.new.entries
         ≡ all_swept log.entry.items (map_of collections.old.entries) }
 {

@@ -188,7 +188,7 @@ fn act<'a>(
 
 /// Applies edits in order; the texts of their features are cut from that of the batch. If an edit
 /// is refused, or memory runs out, what was done is taken back.
-pub fn act_all(
+pub(crate) fn act_all(
     alloc: Global,
     collections: &mut BTreeMap<String, PlainCollection>,
     edits: &[Edit],

@@ -6,7 +6,6 @@ use Rattle.std.proofs.lemmas.List.{take-set, drop-set-lt}
 use Rattle.std.proofs.lemmas.List.Elements.{All-append, All-cons, All-take, All-drop}
 
 module _ {X : Type 0} (P : X → Type 0) where
-
   pub each_inserted : (xs : List X) (i : ℕ) (x : X) → P x → All P xs → All P (insert xs i x)
   each_inserted xs i x p h = All-append P (take i xs) (x ∷ drop i xs) (All-take P i xs h) (All-cons P x (drop i xs) p (All-drop P i xs h))
 

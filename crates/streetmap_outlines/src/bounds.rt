@@ -44,7 +44,7 @@ pub fn grown(bounds: Option<GridBox>, outlines: &[KeptOutline]) -> Option<GridBo
 }
 
 /// How many of the outlines have an extent.
-pub fn count_extents(outlines: &[KeptOutline]) -> u64
+pub(crate) fn count_extents(outlines: &[KeptOutline]) -> u64
     ensures { result ≡ count_by has_extent outlines.now }
 {
     let mut count = 0;
@@ -72,7 +72,7 @@ fn bounds_of_seconds_too(
 
 /// The latest first second and the earliest last second of the outlines' times; none if one of them
 /// has no time.
-pub fn bounds_of_seconds(outlines: &[KeptOutline]) -> Option<(i64, i64)>
+pub(crate) fn bounds_of_seconds(outlines: &[KeptOutline]) -> Option<(i64, i64)>
     ensures { AllTimedBy outlines.now result }
 {
     let mut bounds = Some((i64::MIN, i64::MAX));

@@ -42,7 +42,7 @@ fn envelope_of(extent: Option<GridBox>) -> Envelope
 
 /// Keeps the extents of outlines, in place of those kept before: of as many, from the first on, as
 /// memory allows.
-pub fn keep_extents(extents: &mut Vec<Envelope>, outlines: &[KeptOutline])
+pub(crate) fn keep_extents(extents: &mut Vec<Envelope>, outlines: &[KeptOutline])
     ensures { AreExtentsOf extents.new.items outlines.now }
 {
     extents.clear();
@@ -104,7 +104,7 @@ fn count_in_block(window: &Envelope, extents: &[Envelope]) -> Option<u32>
 
 /// How many of the extents overlap the window, if each of these has three bounds in it; none if one
 /// has fewer.
-pub fn count_in_window(window: &Envelope, extents: &[Envelope]) -> Option<u64>
+pub(crate) fn count_in_window(window: &Envelope, extents: &[Envelope]) -> Option<u64>
     ensures count { IfSome result (λ count. count
         ≡ count_by (λ e. overlaps e window.now) extents.now) }
     ensures reported { IsSome result ↔ All (λ e. DecidesMeeting e window.now) extents.now }

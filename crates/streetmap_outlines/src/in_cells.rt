@@ -13,7 +13,7 @@ use streetmap_grid::GridBox;
 const SPARE_ROOM: usize = 1024;
 
 /// Puts an extent, if any, into cells under a chunk's number.
-pub fn list_extent(
+pub(crate) fn list_extent(
     cells: &mut Cells,
     number: u32,
     extent: Option<GridBox>,
@@ -28,7 +28,7 @@ pub fn list_extent(
 }
 
 /// Puts the extents of outlines into cells, under a chunk's number.
-pub fn list_outlines(
+pub(crate) fn list_outlines(
     cells: &mut Cells,
     number: u32,
     outlines: &[KeptOutline],
@@ -52,7 +52,7 @@ fn count_of(chunks: &[Chunk]) -> usize {
 }
 
 /// Cells with the extents of the outlines in chunks.
-pub fn cells_of(alloc: Global, chunks: &[Chunk]) -> Result<Cells, AllocError>
+pub(crate) fn cells_of(alloc: Global, chunks: &[Chunk]) -> Result<Cells, AllocError>
     ensures { IfOk result (λ cells. AreListed cells chunks.now) }
 {
     let room = count_of(chunks)

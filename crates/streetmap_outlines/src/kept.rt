@@ -81,7 +81,10 @@ impl KeptOutline {
 }
 
 /// What is kept of outlines, one by one.
-pub fn kept_of(alloc: Global, outlines: Vec<FeatureOutline>) -> Result<Vec<KeptOutline>, AllocError>
+pub(crate) fn kept_of(
+    alloc: Global,
+    outlines: Vec<FeatureOutline>,
+) -> Result<Vec<KeptOutline>, AllocError>
     ensures same { IfOk result (λ kept. outline_values kept.items
         ≡ feature_outline_values outlines.items) }
     ensures count { IfOk result (λ kept. length kept.items ≡ length outlines.items) }

@@ -115,7 +115,7 @@ fn lies_whole_within_box(query: &Query, chunk: &Chunk) -> bool
 /// How many features of a chunk the query selects, if its bounds show that it selects all those
 /// that a page examines: all of them if the query has no box, otherwise those with an extent. None
 /// if they do not show it.
-pub fn count_by_bounds(query: &Query, chunk: &Chunk) -> Option<u64>
+pub(crate) fn count_by_bounds(query: &Query, chunk: &Chunk) -> Option<u64>
     ensures { IsBounded chunk.now
         → IfSome result (CountsWhole (query_value query.now) chunk.now) }
 {

@@ -22,7 +22,7 @@ fn lies_between(low: u32, high: u32, at: u32) -> bool
 }
 
 /// Whether three of the four bounds of an extent, or all, lie between those of a window.
-pub fn has_three_bounds_in(extent: &Envelope, window: &Envelope) -> bool
+pub(crate) fn has_three_bounds_in(extent: &Envelope, window: &Envelope) -> bool
     ensures { IsTrue result ↔ HasThreeBoundsIn extent.now window.now }
 {
     let west = lies_between(window.x0, window.x1, extent.x0);
@@ -36,7 +36,7 @@ pub fn has_three_bounds_in(extent: &Envelope, window: &Envelope) -> bool
 /// extent is the coordinate of a position. If three of the four lie between those of the box, the
 /// position at one of them lies in the box: the extent begins or ends there in one direction, and
 /// lies within the box in the other. So a line that crosses one edge of the box need not be read.
-pub fn decides_meeting(query: &Query, extent: Option<GridBox>) -> bool
+pub(crate) fn decides_meeting(query: &Query, extent: Option<GridBox>) -> bool
     ensures { IsTrue result → (geometry : Option GeometryValue)
         → option_map box_value extent ≡ option_map extent_of geometry → IsGeometryIf geometry
         → passes geometry_meets geometry (query_value query.now).bbox ≡ true }

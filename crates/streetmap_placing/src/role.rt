@@ -26,7 +26,7 @@ pub enum Role {
 
 impl Role {
     /// The role of the member of that name.
-    pub fn of_member(self, name: &str) -> Role
+    pub(crate) fn of_member(self, name: &str) -> Role
         ensures { result ≡ member_role self name.now }
     {
         match self {
@@ -38,7 +38,7 @@ impl Role {
     }
 
     /// The role of the element at that index of an array of `count` elements.
-    pub fn of_element(self, count: usize, index: usize) -> Role
+    pub(crate) fn of_element(self, count: usize, index: usize) -> Role
         ensures { result ≡ element_role self count index }
     {
         match self {

@@ -18,7 +18,7 @@ use streetmap_ledger::PageFold;
 use streetmap_rows::{ReadFault, read_body};
 
 /// The feature of a row that shows its text first.
-pub fn read_row(
+pub(crate) fn read_row(
     alloc: Global,
     scratch: &mut Scratch,
     row: &Row,

@@ -66,7 +66,7 @@ fn number_at(row: &Row, at: usize) -> Result<Option<i64>, ReadFault>
 }
 
 /// The integer in a cell.
-pub fn integer_at(row: &Row, at: usize) -> Result<i64, ReadFault>
+pub(crate) fn integer_at(row: &Row, at: usize) -> Result<i64, ReadFault>
     ensures reads { (n : ℤ) → at < length row.now → column row.now at ≡ Int n → result ≡ Ok n }
     ensures refuses { IfErr result (Refuses (Unit {0})) }
 {
@@ -134,7 +134,7 @@ pub fn box_at(row: &Row, from: usize) -> Result<Option<GridBox>, ReadFault>
 }
 
 /// The first and the last second, which are in this cell and the next one, or none.
-pub fn seconds_at(row: &Row, from: usize) -> Result<Option<(i64, i64)>, ReadFault>
+pub(crate) fn seconds_at(row: &Row, from: usize) -> Result<Option<(i64, i64)>, ReadFault>
     requires { from + 1 < 2 ^ 64 }
     ensures reads { (s : Option (ℤ × ℤ)) → from + 1 < length row.now
         → column row.now from ≡ or_null Int (option_map (λ (p : ℤ × ℤ). p.0) s)

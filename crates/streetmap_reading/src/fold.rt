@@ -78,7 +78,7 @@ fn take_first<S: Alter, F: RowFold>(
 /// # Errors
 ///
 /// As `fold_rows`.
-pub fn fold_first<S: Alter, F: RowFold>(
+pub(crate) fn fold_first<S: Alter, F: RowFold>(
     conn: &mut Connection<S>,
     sql: &str,
     params: &[ValueRef<'_>],

@@ -29,7 +29,7 @@ impl RowFold for Passing {
 /// reads all rows of the table in their own order. In order of ids each row is looked up in the
 /// table, which takes several times as long as the step to the next one. But if a file has many
 /// collections, a pass over all rows for each of them would take longer.
-pub fn most_by_ids<S: Alter>(conn: &mut Connection<S>) -> Result<u64, ReadFault>
+pub(crate) fn most_by_ids<S: Alter>(conn: &mut Connection<S>) -> Result<u64, ReadFault>
     ensures { ReadsTables S.Store (ReadsState (λ _ _. Unit {0})) conn.old conn.new result }
 {
     let few = fold_first(

@@ -126,7 +126,7 @@ fn take_candidates<S: Alter>(
 }
 
 /// The row of a collection, its title and its time property; none if it does not exist.
-pub fn collection_row<S: Alter>(
+pub(crate) fn collection_row<S: Alter>(
     conn: &mut Connection<S>,
     id: &str,
 ) -> Result<Option<Row>, ReadFault>
@@ -139,7 +139,7 @@ pub fn collection_row<S: Alter>(
 }
 
 /// The time property in the row of a collection.
-pub fn property_in(row: &Row) -> Result<Option<String>, ReadFault>
+pub(crate) fn property_in(row: &Row) -> Result<Option<String>, ReadFault>
     ensures { (name : _) (c : Collection) → row.now ≡ collection_view c → HasTextNames name c
         → MatchResult result (λ time. option_map string_bytes time ≡ c.time) (λ fault. fault
         ≡ ReadFault.Memory) }

@@ -69,7 +69,7 @@ fn next_batches<S: Alter>(
 }
 
 /// The batches of the first rows of a query, as many as `next_batches` takes.
-pub fn first_batches<S: Alter>(
+pub(crate) fn first_batches<S: Alter>(
     alloc: Global,
     conn: &mut Connection<S>,
     sql: &str,

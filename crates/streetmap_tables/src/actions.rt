@@ -13,7 +13,7 @@ use streetmap_ledger::{Batch, Counts, Reply};
 use streetmap_rows::insert_batch;
 
 /// Acts on a batch whose key is new.
-pub fn act_inside<S: Alter>(
+pub(crate) fn act_inside<S: Alter>(
     tx: &mut Transaction<'_, S>,
     alloc: Global,
     count: u64,

@@ -54,7 +54,7 @@ fn read_format<S: Alter>(tx: &mut Transaction<'_, S>) -> Result<Vec<Row>, Error>
 }
 
 /// The serials of all batches, a row for each.
-pub fn read_serials<S: Alter>(tx: &mut Transaction<'_, S>) -> Result<Vec<Row>, Error>
+pub(crate) fn read_serials<S: Alter>(tx: &mut Transaction<'_, S>) -> Result<Vec<Row>, Error>
     ensures { StaysInside S.Store HasReason ReadsSerials tx.old tx.new result }
 {
     tx.query_all("SELECT serial FROM streetmap_batches", &[])

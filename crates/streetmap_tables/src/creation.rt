@@ -50,7 +50,7 @@ fn is_one_used(schema: &Schema) -> bool
 
 /// Makes a table by its text, which is one CREATE TABLE. The text of one of our tables, whose name
 /// is free, is refused only if the store fails or the schema has no place for the table.
-pub fn create_table<S: Alter>(tx: &mut Transaction<'_, S>, sql: &str) -> Result<(), Error>
+pub(crate) fn create_table<S: Alter>(tx: &mut Transaction<'_, S>, sql: &str) -> Result<(), Error>
     ensures runs { StaysInside S.Store HasReason (CreatesTable sql.now) tx.old tx.new result }
     ensures ran { HasCleanDisk (state S.Store tx.new.conn.now)
         → IsTrue (state S.Store tx.old.conn.now).in_transaction
@@ -61,7 +61,7 @@ pub fn create_table<S: Alter>(tx: &mut Transaction<'_, S>, sql: &str) -> Result<
 }
 
 /// Writes the row of format 2 into tables that have every other row of a state.
-pub fn insert_format<S: Alter>(tx: &mut Transaction<'_, S>) -> Result<(), Error>
+pub(crate) fn insert_format<S: Alter>(tx: &mut Transaction<'_, S>) -> Result<(), Error>
     ensures runs { StaysInside S.Store HasReason InsertsFormat tx.old tx.new result }
     ensures ran { HasCleanDisk (state S.Store tx.new.conn.now)
         → IsTrue (state S.Store tx.old.conn.now).in_transaction

@@ -184,7 +184,7 @@ fn edit_run<S: Alter>(
 }
 
 /// Makes edits in order, up to the first that is refused, whose place from 1 it returns.
-pub fn edit_each<S: Alter>(
+pub(crate) fn edit_each<S: Alter>(
     tx: &mut Transaction<'_, S>,
     alloc: Global,
     edits: &[Edit],

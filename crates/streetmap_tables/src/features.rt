@@ -38,7 +38,7 @@ pub fn fault_of(error: Error) -> ReadFault
 }
 
 /// The rows of all features.
-pub fn take_rows<S: Alter>(tx: &mut Transaction<'_, S>) -> Result<Vec<Row>, ReadFault>
+pub(crate) fn take_rows<S: Alter>(tx: &mut Transaction<'_, S>) -> Result<Vec<Row>, ReadFault>
     ensures { StaysInside S.Store HasReasonIn TakesOldRows tx.old tx.new result }
 {
     match tx.query_all("SELECT collection, id, body FROM streetmap_features", &[]) {
@@ -127,7 +127,7 @@ fn put_row<S: Alter>(tx: &mut Transaction<'_, S>, alloc: Global, row: &Row) -> R
 }
 
 /// Inserts the features of all rows.
-pub fn put_rows<S: Alter>(
+pub(crate) fn put_rows<S: Alter>(
     tx: &mut Transaction<'_, S>,
     alloc: Global,
     rows: &[Row],

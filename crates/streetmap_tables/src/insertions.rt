@@ -179,7 +179,7 @@ fn come_to_know<S: Alter>(
 /// # Errors
 ///
 /// The error of the store, or that memory ran out.
-pub fn insert_all<S: Alter>(
+pub(crate) fn insert_all<S: Alter>(
     tx: &mut Transaction<'_, S>,
     alloc: Global,
     edits: &[Edit],

@@ -61,7 +61,7 @@ fn reply_in(row: &Row, text: &str) -> Result<Reply, Error>
 }
 
 /// The answer to a batch whose key is known; none if it is new.
-pub fn kept_reply<S: Alter>(
+pub(crate) fn kept_reply<S: Alter>(
     conn: &mut Connection<S>,
     key: &str,
     text: &str,

@@ -24,7 +24,7 @@ fn drop_table<S: Alter>(tx: &mut Transaction<'_, S>, sql: &str) -> Result<(), Er
 
 /// Drops the tables of the features and of the format, and makes those of format 2 with the format
 /// row.
-pub fn remake_tables<S: Alter>(tx: &mut Transaction<'_, S>) -> Result<(), Error>
+pub(crate) fn remake_tables<S: Alter>(tx: &mut Transaction<'_, S>) -> Result<(), Error>
     ensures runs { StaysInside S.Store HasReason RemakesTables tx.old tx.new result }
     ensures ran { HasCleanDisk (state S.Store tx.new.conn.now)
         → IsTrue (state S.Store tx.old.conn.now).in_transaction

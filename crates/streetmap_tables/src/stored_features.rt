@@ -28,7 +28,7 @@ pub fn text_of(feature: &WrittenFeature) -> &str
 ///
 /// The error of the store, or that memory ran out; or, if the tables are not those of a state, that
 /// the statement was refused.
-pub fn put_feature<S: Alter>(
+pub(crate) fn put_feature<S: Alter>(
     tx: &mut Transaction<'_, S>,
     alloc: Global,
     collection: &str,

@@ -34,7 +34,7 @@ pub fn time_property<S: Alter>(
 /// # Errors
 ///
 /// `AllocError` if memory runs out.
-pub fn seconds_under(
+pub(crate) fn seconds_under(
     alloc: Global,
     feature: &WrittenFeature,
     property: Option<&str>,
