@@ -261,7 +261,7 @@ edits_found n (d ∷ ds) es h =
     let more = edits_found (n + 1) ds m.1 m.3 in
     subst (λ (w : List EditValue). AreEdits (d ∷ ds) w × (length w ≡ length (d ∷ ds))) is ((edit_found (n + 1) d m.0 m.2, more.0), omega (arith, more.1))
 
-edits_again : (n : ℕ) (ds : List Data) (es : List EditValue) → AreEdits ds es → (edits_after n ds ≡ Ok es) × (length es ≡ length ds)
+pub edits_again : (n : ℕ) (ds : List Data) (es : List EditValue) → AreEdits ds es → (edits_after n ds ≡ Ok es) × (length es ≡ length ds)
 unfolding edits_after
 edits_again n [] [] h = (refl, refl)
 edits_again n [] (e ∷ es) h = absurd h
@@ -294,7 +294,7 @@ batch_found d b read =
       few = omega (arith, few, edits.1);
     })
 
-batch_again : (d : Data) (b : BatchValue) → IsBatch d b → batch d ≡ Ok b
+pub batch_again : (d : Data) (b : BatchValue) → IsBatch d b → batch d ≡ Ok b
 unfolding batch keyed
 batch_again d b h =
     let edits = edits_again 0 h.edits_are.0 b.edits h.edits_are.2 in

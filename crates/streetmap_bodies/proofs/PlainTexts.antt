@@ -1,5 +1,5 @@
 -- Codes, sentences and keys are written as they are.
-use Rattle.std.proofs.Common.{◌≡◌, ℕ, ◌≤◌, Bool, true, false, List, [], ◌∷◌, ◌++◌, length, ap, sym, refl, ◌∙◌, ◌&&◌, IsTrue, arith, lit≤, subst, Some}
+use Rattle.std.proofs.Common.{◌≡◌, ℕ, ◌≤◌, true, List, [], ◌∷◌, ◌++◌, length, ap, sym, refl, ◌∙◌, ◌&&◌, IsTrue, arith, lit≤, subst, Some}
 use Rattle.std.proofs.lemmas.Grind.{common_steps}
 use Rattle.std.specs.Option.{ForSome}
 use Rattle.std.specs.List.{list_all}
@@ -26,6 +26,7 @@ use Rattle.streetmap_bodies.specs.RequestFaults as request
 use Rattle.streetmap_bodies.specs.declared.request_fault.RequestFault.{RequestFault}
 use Rattle.streetmap_bodies.specs.declared.request_fault.RequestFault.TheVariants as request_faults
 use Rattle.streetmap_bodies.specs.Plain.{IsPlain, IsEscapeFree}
+use Rattle.streetmap_batch.proofs.NameFacts.{both_true}
 
 pub query_code : (f : QueryFault) → IsPlain (query.code_of f)
 unfolding escape_byte
@@ -107,10 +108,6 @@ refusal_description refusal_kinds.Full = (refl, lit≤ tt)
 plain_byte : (b : ℕ) → is_key_byte b ≡ true → escape_byte b ≡ b ∷ []
 unfolding escape_byte
 plain_byte b h = grind (arith, common_steps)
-
-both_true : (a b : Bool) → (a && b) ≡ true → (a ≡ true) × (b ≡ true)
-both_true true b h = (refl, h)
-both_true false b h = cc
 
 plain_bytes : (s : List ℕ) → list_all is_key_byte s ≡ true → IsEscapeFree s
 plain_bytes [] h = refl

@@ -15,6 +15,7 @@ use Rattle.streetmap_checking.specs.declared.formats.FormatRows.{FormatRows}
 use Rattle.streetmap_checking.proofs.RowCells.{serial_of_cells}
 use Rattle.streetmap_reading.proofs.BetweenRows.{map_append}
 use Rattle.std.proofs.lemmas.List.{take_more}
+use Rattle.streetmap_tables.proofs.FormatAndSerials.{map_length}
 
 pub format_found : (start now : FormatRows) (rows : List Row) → HoldsFormatRows start now rows → (now.found ≡ 0 → ⊥) → AreFormatRows rows
 format_found start now rows (inl h) some = absurd (some h.1)
@@ -52,10 +53,6 @@ same_serials (d ∷ es) (f ∷ fs) e =
 
 pub no_serials : (rows : List Row) (are : AreEntryRows batch_cells IsAccepted rows) (serials : List ℕ) → serials ≡ serials_of are.entries → (AreSerials serials → ⊥) → AreBatchRows rows → ⊥
 no_serials rows are serials is other good = other (subst AreSerials (same_serials good.0.entries are.entries (sym good.0.are ∙ are.are) ∙ sym is) good.1)
-
-map_length : {A B : Type 0} (f : A → B) (xs : List A) → length (map f xs) ≡ length xs
-map_length f [] = refl
-map_length f (x ∷ xs) = ap suc (map_length f xs)
 
 pub as_many : (es : List (Text × AcceptedBatch)) (serials : List ℕ) → serials ≡ serials_of es → length serials ≡ length es
 as_many es serials is = ap length is ∙ map_length (λ (e : Text × AcceptedBatch). e.1.serial) es

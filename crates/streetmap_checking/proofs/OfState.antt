@@ -1,5 +1,5 @@
 -- The tables of a state show good rows, as many as it has.
-use Rattle.std.proofs.Common.{◌≡◌, ◌≢◌, ◌≤◌, ◌&&◌, Bool, true, false, T, inl, inr, ℕ, suc, List, [], ◌∷◌, map, length, Some, refl, sym, ap, subst, ◌∙◌, arith}
+use Rattle.std.proofs.Common.{◌≡◌, ◌≢◌, ◌≤◌, ◌&&◌, Bool, true, false, T, inl, inr, ℕ, List, [], ◌∷◌, map, length, Some, refl, sym, ap, subst, ◌∙◌, arith}
 use Rattle.std.specs.List.{AllByRecursion}
 use Rattle.std.specs.Ordering.{is_lt}
 use Rattle.std.specs.FinMap.{get, len, entries, entries_sorted, get-entries, len-entries, is_sorted}
@@ -34,26 +34,13 @@ use Rattle.streetmap_checking.specs.declared.check.Totals.{Totals}
 use Rattle.streetmap_checking.proofs.Only.{only_of, only_so, sees_good, not_none}
 use Rattle.streetmap_checking.proofs.RowCells.{name_of_cells, time_of_cells}
 use Rattle.streetmap_checking.proofs.Shown.{format_row, formats_at, features_at, batches_at, owners_at}
+use Rattle.streetmap_tables.proofs.FormatAndSerials.{map_length}
+use Rattle.streetmap_ledger.proofs.TextMaps.{first, second}
+use Rattle.streetmap_reading.proofs.RowsInTurn.{map_again as map_twice}
 
 both : (a b : Bool) → T a → T b → T (a && b)
 both true b p q = q
 both false b p q = absurd p
-
-first : (a b : Bool) → T (a && b) → T a
-first true b p = tt
-first false b p = p
-
-second : (a b : Bool) → T (a && b) → T b
-second true b p = p
-second false b p = absurd p
-
-map_length : {A B : Type 0} (f : A → B) (xs : List A) → length (map f xs) ≡ length xs
-map_length f [] = refl
-map_length f (x ∷ xs) = ap suc (map_length f xs)
-
-map_twice : {A B C : Type 0} (f : B → C) (g : A → B) (xs : List A) → map f (map g xs) ≡ map (λ x. f (g x)) xs
-map_twice f g [] = refl
-map_twice f g (x ∷ xs) = ap (λ l. f (g x) ∷ l) (map_twice f g xs)
 
 -- as many entries if the rows are the same
 as_many : {A B : Type 0} (f : A → Row) (g : B → Row) (xs : List A) (ys : List B) → map f xs ≡ map g ys → length xs ≡ length ys

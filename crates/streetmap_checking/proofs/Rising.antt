@@ -10,18 +10,11 @@ use Rattle.streetmap_batch.specs.Text.{Text, text_cmp}
 use Rattle.streetmap_reading.proofs.BetweenRows.{map_append}
 use Rattle.streetmap_checking.specs.Good.{AreEntryRows}
 use Rattle.streetmap_checking.specs.Held.{last_key, ComesAfterLast}
+use Rattle.streetmap_ledger.proofs.TextMaps.{first, second}
 
 both : (a b : Bool) → T a → T b → T (a && b)
 both true b p q = q
 both false b p q = absurd p
-
-first : (a b : Bool) → T (a && b) → T a
-first true b p = tt
-first false b p = p
-
-second : (a b : Bool) → T (a && b) → T b
-second true b p = p
-second false b p = absurd p
 
 less_is : (o : Ordering) → T (is_lt o) → o ≡ Less
 less_is o h = elim o as (λ x. T (is_lt x) → x ≡ Less) [ Less ↦ λ t. refl | Equal ↦ λ t. absurd t | Greater ↦ λ t. absurd t ] h

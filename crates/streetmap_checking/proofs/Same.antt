@@ -1,12 +1,10 @@
 -- A state whose rows are shown is the one that the tables hold.
-use Rattle.std.proofs.Common.{◌≡◌, inl, inr, ℕ, List, [], ◌∷◌, map, Option, None, Some, Ok, Result, pos}
+use Rattle.std.proofs.Common.{◌≡◌, inl, inr, ℕ, List, [], ◌∷◌, map, Option, Some, Ok, Result}
 use Rattle.std.proofs.Common.{refl, sym, ap, subst, ◌∙◌}
 use Rattle.std.specs.FinMap.{FinMap, find, get, entries, entries_sorted, get-entries, same_map}
 use Rattle.std.specs.Cmp.Lexicographic.{nat_list_cmp_total}
-use Rattle.sqlite.specs.declared.types.Value.{Value}
-use Rattle.sqlite.specs.declared.types.Value.TheVariants.{Int, Text as Words}
+use Rattle.sqlite.specs.declared.types.Value.TheVariants.{Text as Words}
 use Rattle.sqlite.specs.Order.{Row, column, bytes}
-use Rattle.sqlite.specs.Values.{or_null}
 use Rattle.sqlite.specs.State.{State as Seen}
 use Rattle.sqlite_rules.specs.Lists.{Has}
 use Rattle.streetmap_moment.specs.IntervalValue.{IntervalValue}
@@ -21,7 +19,7 @@ use Rattle.streetmap_rows.specs.Rows.{collection_cells, batch_cells, feature_tex
 use Rattle.streetmap_rows.specs.Statements.{select_collections}
 use Rattle.streetmap_rows.proofs.TextKeys.{one_text}
 use Rattle.streetmap_rows.proofs.OrderedRows.{find_has}
-use Rattle.streetmap_rows.proofs.OneState.{one_text_one_feature, untimed_is}
+use Rattle.streetmap_rows.proofs.OneState.{one_text_one_feature, untimed_is, nat_in as number_in, text_in, text_back}
 use Rattle.streetmap_reading.proofs.ShownOutlines.{collections_at}
 use Rattle.streetmap_checking.specs.CheckResults.{ShowsState}
 use Rattle.streetmap_checking.specs.Good.{feature_view}
@@ -52,18 +50,6 @@ same_entries m n e =
 -- an entry is found
 entry_at : {V : Type 0} (m : FinMap text_cmp V) (e : Text × V) → Has (entries m) e → get m e.0 ≡ Some e.1
 entry_at m e h = get-entries m e.0 ∙ find_has (entries m) e.0 e.1 (entries_sorted m) h
-
-abbrev number_in : Value → ℕ
-number_in (Int (pos n)) = n
-number_in _ = 0
-
-abbrev text_in : Value → Option Text
-text_in (Words t) = Some t
-text_in _ = None
-
-text_back : (o : Option Text) → text_in (or_null Words o) ≡ o
-text_back None = refl
-text_back (Some t) = refl
 
 same_batch : (x y : Text × AcceptedBatch) → batch_cells x.0 x.1 ≡ batch_cells y.0 y.1 → x ≡ y
 same_batch x y cells = λ i. (

@@ -1,8 +1,7 @@
 -- What the statements of a check show of the database of a state.
-use Rattle.std.proofs.Common.{◌≡◌, ◌≢◌, inl, inr, ℕ, suc, List, [], ◌∷◌, map, filter, codes, drop, Bool, true, false, Option, Some, None, option_map, pos, refl, sym, ap, subst, ◌∙◌}
-use Rattle.std.specs.FinMap.{find, get, entries, entries_sorted, get-entries}
+use Rattle.std.proofs.Common.{◌≡◌, ◌≢◌, ℕ, suc, List, [], ◌∷◌, map, filter, codes, drop, Bool, true, false, Option, Some, None, option_map, pos, refl, sym, ap, subst, ◌∙◌}
+use Rattle.std.specs.FinMap.{get, entries, entries_sorted, get-entries}
 use Rattle.std.specs.Option.{option_and_then}
-use Rattle.std.proofs.lemmas.Bool.{cases_Bool}
 use Rattle.std.specs.List.Sorted.{IsPermutation}
 use Rattle.std.proofs.lemmas.List.Sorted.{IsPermutation-sym, Contains-permutation}
 use Rattle.sqlite.specs.declared.types.Value.TheVariants.{Null, Int, Text as Words}
@@ -16,14 +15,14 @@ use Rattle.sqlite_catalog.proofs.LayoutLemmas.{ascending_filter}
 use Rattle.sqlite_rules.specs.Lists.{Has}
 use Rattle.sqlite_rules.proofs.ListLemmas.{all_from, has_filtered, has_kept, has_contained, contains_had}
 use Rattle.streetmap_geojson.specs.FeatureValue.{FeatureValue}
-use Rattle.streetmap_batch.specs.Text.{Text, text_cmp}
+use Rattle.streetmap_batch.specs.Text.{Text}
 use Rattle.streetmap_ledger.specs.State.{State, Collection, AcceptedBatch}
 use Rattle.streetmap_rows.specs.Holds.{first_key, is_first, same_text, pair_key}
 use Rattle.streetmap_rows.proofs.OneRowChosen.{picked, staged}
 use Rattle.streetmap_rows.proofs.NamedTables.{IsFound}
 use Rattle.streetmap_rows.proofs.HeldKeys.{cells_of, there}
 use Rattle.streetmap_rows.proofs.TextKeys.{first_is, first_self, column_later, text_is}
-use Rattle.streetmap_rows.proofs.OrderedRows.{Says, AreRowsOf, keeps, ordered_query, shows_entries, mapped_has, has_mapped, passing}
+use Rattle.streetmap_rows.proofs.OrderedRows.{Says, AreRowsOf, keeps, ordered_query, shows_entries, mapped_has, has_mapped, found_in}
 use Rattle.streetmap_rows.specs.KeptStates.{Keeps}
 use Rattle.streetmap_rows.specs.Rows.{AreOf, feature_at, feature_cells, batch_cells, meta_cells}
 use Rattle.streetmap_rows.specs.Tables.{Roots, features, batches, meta, features_name, batches_name, meta_name}
@@ -37,13 +36,7 @@ use Rattle.streetmap_checking.specs.Good.{AreOwnerRows, feature_view}
 use Rattle.streetmap_checking.specs.Statements.{select_formats, select_features, select_owners, select_batches}
 use Rattle.streetmap_checking.proofs.Compiles.{select_formats_means, select_formats_never, select_features_means, select_features_never, select_owners_means, select_owners_never, select_batches_means, select_batches_never}
 use Rattle.streetmap_checking.proofs.Only.{OnlyShows, only_by}
-
-pub found_in : {V : Type 0} (es : List (Text × V)) (q : Text) (v : V) → find text_cmp q es ≡ Some v → Has es (q, v)
-found_in [] q v h = absurd (cc)
-found_in (e ∷ es) q v h = elim (cases_Bool (same_text q e.0)) [
-  | inl here ↦ inl (let is : Some e.1 ≡ Some v = sym (rw here refl) ∙ h in let same : e.1 ≡ v = cc in λ i. (text_is q e.0 here i, sym same i))
-  | inr other ↦ inr (found_in es q v (sym (rw other refl) ∙ h))
-]
+use Rattle.streetmap_reading.proofs.ShownOutlines.{all_pass}
 
 abbrev format_terms : List Term
 format_terms = col 1 1 ∷ col 1 2 ∷ []
@@ -61,10 +54,6 @@ feature_shows : (params : Row) → Shows feature_terms params feature_view
 feature_shows params r p f cells =
     let at : (n : ℕ) → column r (suc n) ≡ column (feature_cells p f) n = λ n. column_later r n ∙ ap (λ x. column x n) cells in
     λ i. at 1 i ∷ at 2 i ∷ at 3 i ∷ at 4 i ∷ at 5 i ∷ at 6 i ∷ at 7 i ∷ at 8 i ∷ []
-
-all_pass : (es : List (Text × FeatureValue)) → passing (is_chosen None None) es ≡ es
-all_pass [] = refl
-all_pass (e ∷ es) = ap (λ l. e ∷ l) (all_pass es)
 
 abbrev pub format_row : Row
 format_row = Words (codes "format") ∷ Int (pos 2) ∷ []

@@ -1,5 +1,5 @@
 -- Rows that are good are those of a state.
-use Rattle.std.proofs.Common.{◌≡◌, ◌≢◌, ◌≤◌, ◌&&◌, Bool, true, false, T, inl, inr, ℕ, suc, List, [], ◌∷◌, map, length, Some, refl, sym, ap, subst, ◌∙◌, arith}
+use Rattle.std.proofs.Common.{◌≡◌, ◌≢◌, ◌≤◌, ◌&&◌, Bool, true, false, T, inl, inr, ℕ, List, [], ◌∷◌, map, length, Some, refl, sym, ap, subst, ◌∙◌, arith}
 use Rattle.std.specs.List.{AllByRecursion}
 use Rattle.std.specs.Ordering.{is_lt}
 use Rattle.std.specs.FinMap.{get, len, entries, is_sorted, from_sorted, entries-from_sorted, get-from_sorted, len-entries}
@@ -24,26 +24,13 @@ use Rattle.streetmap_checking.specs.QueryResults.{Known, SeesAllFeatures}
 use Rattle.streetmap_checking.specs.CheckResults.{ShowsTotals, ShowsState, IsOfState, AreTotals, feature_count}
 use Rattle.streetmap_checking.specs.declared.check.Totals.{Totals}
 use Rattle.streetmap_checking.proofs.Shown.{found_in}
+use Rattle.streetmap_tables.proofs.FormatAndSerials.{map_length}
+use Rattle.streetmap_ledger.proofs.TextMaps.{first, second}
+use Rattle.streetmap_reading.proofs.RowsInTurn.{map_again as map_twice}
 
 both : (a b : Bool) → T a → T b → T (a && b)
 both true b p q = q
 both false b p q = absurd p
-
-first : (a b : Bool) → T (a && b) → T a
-first true b p = tt
-first false b p = p
-
-second : (a b : Bool) → T (a && b) → T b
-second true b p = p
-second false b p = absurd p
-
-map_length : {A B : Type 0} (f : A → B) (xs : List A) → length (map f xs) ≡ length xs
-map_length f [] = refl
-map_length f (x ∷ xs) = ap suc (map_length f xs)
-
-map_twice : {A B C : Type 0} (f : B → C) (g : A → B) (xs : List A) → map f (map g xs) ≡ map (λ x. f (g x)) xs
-map_twice f g [] = refl
-map_twice f g (x ∷ xs) = ap (λ l. f (g x) ∷ l) (map_twice f g xs)
 
 -- what a map of sorted entries has is one of them
 has_of : {V : Type 0} (es : List (Text × V)) (q : Text) (v : V) → T (is_sorted text_cmp es) → get (from_sorted {R = text_cmp} es) q ≡ Some v → Has es (q, v)

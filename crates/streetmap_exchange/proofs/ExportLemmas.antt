@@ -20,7 +20,7 @@ use Rattle.streetmap_replay.specs.Calls.{AreReads}
 use Rattle.streetmap_replay.proofs.CallsInTurn.{then_lost}
 use Rattle.streetmap_ledger.specs.State.{State, Collection}
 use Rattle.streetmap_ledger.specs.WellFormed.{IsState}
-use Rattle.streetmap_ledger.specs.Pages.{PageValue, selected, page_over, page_in}
+use Rattle.streetmap_ledger.specs.Pages.{PageValue, page_over, page_in}
 use Rattle.streetmap_ledger.specs.Walks.{page_after, IsWalk, ends, goes_on, shown}
 use Rattle.streetmap_ledger.proofs.Walking.{walks_show_all}
 use Rattle.streetmap_ledger.specs.declared.reply.Fault.TheVariants.{Memory, Device, Damaged, Reopen}
@@ -35,6 +35,7 @@ use Rattle.streetmap_text_lines.specs.Written.{AppendsBeginning, AppendsLess}
 use Rattle.streetmap_text_lines.proofs.WriteLemmas.{beginning_longer, beginning_after}
 use Rattle.streetmap_text_lines.proofs.WriteLemmas.{beginning_all, less_longer, less_after}
 use Rattle.streetmap_text_lines.proofs.WriteLemmas.{less_none}
+use Rattle.streetmap_replay.proofs.Pages.{all_selected, last}
 
 -- ---- the text in parts
 
@@ -92,11 +93,6 @@ is_any-append (f ∷ fs) gs = refl
 abbrev all : QueryValue
 all = part_query None
 
--- the query selects all features
-all_selected : (fs : List FeatureValue) → selected all fs ≡ fs
-all_selected [] = refl
-all_selected (f ∷ fs) = ap (λ gs. f ∷ gs) (all_selected fs)
-
 -- the pages before this one are written; from it on the walk shows the rest
 pub record Underway (s : State) (name : Text) (old new : Option (List ℕ)) (later : Bool) (page : PageValue) : Type 0 where
   pub collection : Collection
@@ -147,10 +143,6 @@ turned fs _ _ id (ends after none) h = absurd cc
 turned fs _ _ id (goes_on after reported pages next walk) h =
     let same : reported ≡ id = cc in
     record { more = pages; walk = subst (λ i. IsWalk all fs (Some i) pages) same walk; shows = refl }
-
-last : (fs : List FeatureValue) (after : Option Text) (pages : List PageValue) → IsWalk all fs after pages → (page_after all fs after).next ≡ None → shown pages ≡ (page_after all fs after).features
-last fs _ _ (ends after none) h = append-nil _
-last fs _ _ (goes_on after reported pages next walk) h = absurd cc
 
 -- the page shows the first of what the walk shows
 front_of : (fs : List FeatureValue) (after : Option Text) (pages : List PageValue) → IsWalk all fs after pages → (more : List FeatureValue) × (shown pages ≡ (page_after all fs after).features ++ more)

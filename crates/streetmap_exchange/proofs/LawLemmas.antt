@@ -1,6 +1,6 @@
 -- What is exported of a collection, imported again.
 use Rattle.std.proofs.Common.{◌≡◌, ℕ, ◌+◌, List, [], ◌∷◌, ◌++◌, map, Bool, true, false, cond, T, All, Option, None, Some, Result, Ok, Err, ok_or, IsTrue, refl, sym, ap, subst, ◌∙◌, nat_lt, nat_eq, append_assoc, append-nil}
-use Rattle.std.specs.Ordering.{is_eq, is_lt}
+use Rattle.std.specs.Ordering.{is_eq}
 use Rattle.std.specs.declared.cmp.Ordering.{Ordering}
 use Rattle.std.specs.declared.cmp.Ordering.TheVariants.{Less, Equal, Greater}
 use Rattle.std.specs.Cmp.Lexicographic.{pointwise, nat_list_cmp_total}
@@ -33,6 +33,7 @@ use Rattle.streetmap_exchange.specs.Imports.{edit_of, batch_of_features, import_
 use Rattle.streetmap_exchange.specs.Laws.{ImportOfExport}
 use Rattle.streetmap_exchange.proofs.LineFeeds.{json_fed}
 use Rattle.streetmap_exchange.proofs.ImportLemmas.{again, import_found}
+use Rattle.streetmap_ledger.proofs.Serials.{not_equal as less_than}
 
 -- ---- the entries of a map
 
@@ -40,11 +41,6 @@ use Rattle.streetmap_exchange.proofs.ImportLemmas.{again, import_found}
 abbrev Each : (Text → FeatureValue → Type 0) → List (Text × FeatureValue) → Type 0
 Each P [] = Unit {0}
 Each P (e ∷ es) = P e.0 e.1 × Each P es
-
-less_than : (r : Ordering) → T (is_lt r) → is_eq r ≡ false
-less_than Less h = refl
-less_than Equal h = absurd h
-less_than Greater h = absurd h
 
 -- a key below all the others is not found among them
 not_among : (k : Text) (es : List (Text × FeatureValue)) → T (below_all text_cmp k es) → find text_cmp k es ≡ None

@@ -25,7 +25,7 @@ use Rattle.streetmap_geojson.specs.FeatureMeaning.{ReadsAs, ReadsAt}
 use Rattle.streetmap_feature_text.specs.Written.{number_data, position_elements, position_data, line_data, polygon_data, coordinates_of, simple_data, geometry_member, feature_data}
 use Rattle.streetmap_geojson.proofs.Lists.{list_of-items_of}
 
-both : (a b : Bool) → IsTrue (a && b) → IsTrue a × IsTrue b
+pub both : (a b : Bool) → IsTrue (a && b) → IsTrue a × IsTrue b
 both true true h = (refl, refl)
 both true false h = absurd cc
 both false b h = absurd cc

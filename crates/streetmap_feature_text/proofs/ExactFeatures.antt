@@ -1,5 +1,5 @@
 -- What is written for a feature is kept exactly by its text.
-use Rattle.std.proofs.Common.{◌≡◌, ℕ, ◌^◌, ◌<◌, ℤ, pos, negsuc, Bool, true, false, ◌&&◌, IsTrue, All, List, [], ◌∷◌, map, Option, None, Some, refl, arith, codes}
+use Rattle.std.proofs.Common.{◌≡◌, ℕ, ◌^◌, ◌<◌, ℤ, pos, negsuc, true, ◌&&◌, IsTrue, All, List, [], ◌∷◌, map, Option, None, Some, refl, arith, codes}
 use Rattle.std.specs.List.{list_all}
 use Rattle.std.specs.Str.{is_utf8}
 use Rattle.std.specs.Prelude.{nat_lt}
@@ -18,6 +18,7 @@ use Rattle.streetmap_geojson.specs.FeatureValue.{FeatureValue}
 use Rattle.streetmap_geojson.specs.FeatureInvariant.{IsGeometryIf, IsFeature}
 use Rattle.streetmap_json.specs.ExactData.{is_exact, are_exact}
 use Rattle.streetmap_feature_text.specs.Written.{number_data, position_elements, position_data, line_data, polygon_data, coordinates_of, name_of, typed_data, simple_data, geometry_member, feature_data, collection_data}
+use Rattle.streetmap_feature_text.proofs.Again.{both}
 
 exact_number : (z : ℤ) → IsCoordinate z → IsTrue (is_exact (number_data z))
 exact_number (pos n) h = let low : n < 2 ^ 64 = omega (arith, ints, h.1) in lt-ltb n (2 ^ 64) low
@@ -49,19 +50,14 @@ exact_coordinates (values.multi_line_string ls) h = exact_each line_data IsLine 
 exact_coordinates (values.polygon rs) h = exact_each line_data IsRing (λ r k. exact_line r k.0) rs h.0
 exact_coordinates (values.multi_polygon ps) h = exact_each polygon_data IsPolygon exact_polygon ps h.0
 
-both : (a b : Bool) → IsTrue (a && b) → IsTrue a × IsTrue b
-both true true h = (refl, refl)
-both true false h = absurd cc
-both false b h = absurd cc
-
-ascii_all : (bs : List ℕ) → list_all (λ b. nat_lt b 128) bs ≡ true → All (λ b. b < 128) bs
+pub ascii_all : (bs : List ℕ) → list_all (λ b. nat_lt b 128) bs ≡ true → All (λ b. b < 128) bs
 ascii_all [] h = All-nil (λ b. b < 128)
 ascii_all (b ∷ bs) h =
     let p = both (nat_lt b 128) (list_all (λ b. nat_lt b 128) bs) h in
     All-cons (λ b. b < 128) b bs (ltb-true b 128 p.0) (ascii_all bs p.1)
 
 -- a text of ASCII bytes is UTF-8
-ascii_utf8 : (bs : List ℕ) → list_all (λ b. nat_lt b 128) bs ≡ true → is_utf8 bs ≡ true
+pub ascii_utf8 : (bs : List ℕ) → list_all (λ b. nat_lt b 128) bs ≡ true → is_utf8 bs ≡ true
 ascii_utf8 bs h = is_utf8-from_IsUtf8 bs (IsUtf8-from_ascii bs (IsAscii-from_all bs (ascii_all bs h)))
 
 exact_name : (s : SimpleValue) → IsTrue (is_utf8 (name_of s))

@@ -179,7 +179,7 @@ some_first : {X : Type 0} (f : X → List PositionValue) (xs : List X) → 1 ≤
 some_first f [] h a = absurd (omega arith)
 some_first f (x ∷ xs) h a = omega (arith, a.0, length-append (f x) (flat_map f xs))
 
-weaken : {X : Type 0} (V W : X → Type 0) → ((x : X) → V x → W x) → (xs : List X) → AllByRecursion V xs → AllByRecursion W xs
+pub weaken : {X : Type 0} (V W : X → Type 0) → ((x : X) → V x → W x) → (xs : List X) → AllByRecursion V xs → AllByRecursion W xs
 weaken V W f [] h = tt
 weaken V W f (x ∷ xs) h = (f x h.0, weaken V W f xs h.1)
 

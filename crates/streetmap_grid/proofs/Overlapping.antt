@@ -20,6 +20,7 @@ use Rattle.streetmap_grid.proofs.Whole.{mul_mono, mul_cancel, mul-add, mul-neg}
 use Rattle.streetmap_grid.proofs.Closing.{same_equal}
 use Rattle.streetmap_grid.proofs.Signs.{le_decides}
 use Rattle.streetmap_grid.proofs.Parity.{IsEven, EndsLevel, IsOutside, rings_even}
+use Rattle.streetmap_grid.proofs.Growing.{weaken}
 
 abbrev pub HoldsPosition : BoxValue → PositionValue → Type 0
 HoldsPosition e p = Holds e p.x p.y
@@ -92,9 +93,6 @@ some_overlaps P V Q f (x ∷ xs) h (inl m) = f x h.0 m
 some_overlaps P V Q f (x ∷ xs) h (inr m) = some_overlaps P V Q f xs h.1 m
 
 -- ---- the corner, by parity
-weaken : {X : Type 0} (V W : X → Type 0) → ((x : X) → V x → W x) → (xs : List X) → AllByRecursion V xs → AllByRecursion W xs
-weaken V W f [] h = tt
-weaken V W f (x ∷ xs) h = (f x h.0, weaken V W f xs h.1)
 
 not_both : (n : ℕ) → IsEven n → n % 2 ≡ 1 → ⊥
 not_both n (k, e) o = omega arith
@@ -150,7 +148,7 @@ all_closed rings h = weaken IsRing (λ r. IsTrue (is_closed r)) (λ r k. k.2) ri
 polygon_overlaps : (e g : BoxValue) → IsOrdered g → (rings : List (List PositionValue)) → IsPolygon rings → AllByRecursion (HoldsPosition e) (polygon_vertices rings) → PolygonMeets rings g → Overlaps e g
 polygon_overlaps e g o rings w h m = rings_overlap e g o rings (all_closed rings w) (each_held (HoldsPosition e) (λ ring. ring) rings h) m
 
-zip_all : {X : Type 0} (V W : X → Type 0) (xs : List X) → AllByRecursion V xs → AllByRecursion W xs → AllByRecursion (λ x. V x × W x) xs
+pub zip_all : {X : Type 0} (V W : X → Type 0) (xs : List X) → AllByRecursion V xs → AllByRecursion W xs → AllByRecursion (λ x. V x × W x) xs
 zip_all V W [] h k = tt
 zip_all V W (x ∷ xs) h k = ((h.0, k.0), zip_all V W xs h.1 k.1)
 

@@ -12,7 +12,7 @@ use Rattle.streetmap_grid.specs.Meeting.{Holds, SegmentMeets, LineMeets, Polygon
 use Rattle.streetmap_grid.specs.Extent.{polygon_vertices, simple_vertices, vertices, IsWithin, is_within}
 use Rattle.streetmap_grid.specs.WellFormed.{IsLine, IsRing, IsPolygon, IsSimple, IsGeometry}
 use Rattle.streetmap_grid.proofs.Signs.{le_decides}
-use Rattle.streetmap_grid.proofs.Overlapping.{HoldsPosition, IsOrdered, each_held}
+use Rattle.streetmap_grid.proofs.Overlapping.{HoldsPosition, IsOrdered, each_held, zip_all}
 
 -- ---- boxes
 
@@ -52,10 +52,6 @@ line_meets_by g (a ∷ b ∷ ps) two h = inl (segment_begins g a b h.0)
 first_does : {X : Type 0} (V P : X → Type 0) → ((x : X) → V x → P x) → (xs : List X) → 1 ≤ length xs → AllByRecursion V xs → SomeOf P xs
 first_does V P f [] one h = absurd (omega arith)
 first_does V P f (x ∷ xs) one h = inl (f x h.0)
-
-zip_all : {X : Type 0} (V W : X → Type 0) (xs : List X) → AllByRecursion V xs → AllByRecursion W xs → AllByRecursion (λ x. V x × W x) xs
-zip_all V W [] h k = tt
-zip_all V W (x ∷ xs) h k = ((h.0, k.0), zip_all V W xs h.1 k.1)
 
 polygon_meets_by : (g : BoxValue) (rings : List (List PositionValue)) → IsPolygon rings → AllByRecursion (HoldsPosition g) (polygon_vertices rings) → PolygonMeets rings g
 polygon_meets_by g rings w h =

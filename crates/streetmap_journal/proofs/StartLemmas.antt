@@ -1,6 +1,6 @@
 -- An existing journal, which goes on.
 use Rattle.std.proofs.Common.{◌≡◌, ◌≤◌, ◌<◌, ◌+◌, ◌-◌, ◌^◌, ℕ, List, [], ◌∷◌, ◌++◌, length, take}
-use Rattle.std.proofs.Common.{drop, Option, None, Some, IsSome, true, false, sym, ap, ◌∙◌, arith, append_assoc}
+use Rattle.std.proofs.Common.{drop, Option, None, Some, true, false, sym, ap, ◌∙◌, arith, append_assoc}
 use Rattle.std.proofs.Common.{append-nil, length-append, length-drop, IfSome}
 use Rattle.std.proofs.Math.Seq.{take-append-add, take-append_seam}
 use Rattle.std.proofs.lemmas.Fmt.{length-decimal-le}
@@ -19,9 +19,8 @@ use Rattle.streetmap_replay.specs.View.{line_with}
 use Rattle.std.proofs.Common.{◌⊎◌, inl, inr, subst, Ok, Err}
 use Rattle.std.specs.Io.KnownBytes.{Keeps}
 use Rattle.streetmap_ledger.specs.Model.{Model}
-use Rattle.streetmap_ledger.specs.declared.reply.Cause.{Cause}
 use Rattle.streetmap_replay.specs.Calls.{AreReads}
-use Rattle.streetmap_replay.proofs.CallsInTurn.{no_fault_read, reads_then}
+use Rattle.streetmap_replay.proofs.CallsInTurn.{no_fault_read, reads_then, not_shut}
 use Rattle.streetmap_journal.proofs.LinesSoFar.{matches_kept}
 use Rattle.streetmap_journal.specs.Comparison.{Matches, line_head, lines_from, serial_following}
 use Rattle.streetmap_journal.specs.Comparison.{end_answer}
@@ -144,11 +143,6 @@ found_by s requested after a b found first kept h = record {
   begins = first;
   matches = matches_kept s after a b found kept h;
 }
-
--- a store without a cause is not shut
-not_shut : {A : Type 0} (cause : Option Cause) → cause ≡ None → IsSome cause → A
-not_shut None none shut = absurd cc
-not_shut (Some why) none shut = absurd cc
 
 module _ {K : Type 0} {model : Model K} {a b : K} where
   -- a call that was answered, and then calls that were no fault

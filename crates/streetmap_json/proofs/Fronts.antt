@@ -129,7 +129,7 @@ abbrev pub before : List Data → Items → Items
 before [] rest = rest
 before (d ∷ ds) rest = item d (before ds rest)
 
-one_more : (ds : List Data) (d : Data) (rest : Items) → before ds (item d rest) ≡ before (ds ++ d ∷ []) rest
+pub one_more : (ds : List Data) (d : Data) (rest : Items) → before ds (item d rest) ≡ before (ds ++ d ∷ []) rest
 one_more [] d rest = refl
 one_more (e ∷ ds) d rest = ap (item e) (one_more ds d rest)
 

@@ -15,11 +15,11 @@ use Rattle.streetmap_ledger.proofs.Repeat.{either}
 abbrev Stays : State → Outcome → Type 0
 Stays s o = is_accepted o.reply ≡ false → o.state ≡ s
 
-fresh_stays : (s : State) (b : BatchValue) (serial : ℕ) (r : Result State (ℕ × Refusal)) → Stays s (fresh s b serial r)
+pub fresh_stays : (s : State) (b : BatchValue) (serial : ℕ) (r : Result State (ℕ × Refusal)) → Stays s (fresh s b serial r)
 fresh_stays s b serial (Ok t) fails = cc
 fresh_stays s b serial (Err e) fails = refl
 
-by_key_stays : (s : State) (b : BatchValue) (o : Option AcceptedBatch) → Stays s (by_key s b o)
+pub by_key_stays : (s : State) (b : BatchValue) (o : Option AcceptedBatch) → Stays s (by_key s b o)
 by_key_stays s b (Some kept) = either (Stays s) (pointwise nat_eq kept.text (batch_text b)) _ _ (λ fails. refl) (λ fails. refl)
 by_key_stays s b None = either (Stays s) (nat_lt (len s.keys) most_batches) _ _ (fresh_stays s b (len s.keys + 1) (edited 1 s b.edits)) (λ fails. refl)
 

@@ -76,7 +76,7 @@ new_first e es sorted one = by (list_any (eqb e.1.serial) (serials_of es)) refl 
       let moved = ap (λ (k : Text). find_key text_cmp k es) (sym same) in
       none_some b.0.1 (sym (none_below e.0 es (first _ _ sorted)) ∙ (moved ∙ u.0))
 
-none_all : (n : ℕ) (ns : List ℕ)
+pub none_all : (n : ℕ) (ns : List ℕ)
     → list_any (eqb n) ns ≡ false → AllByRecursion (λ m. eqb n m ≡ false) ns
 none_all n [] h = tt
 none_all n (m ∷ ns) h =

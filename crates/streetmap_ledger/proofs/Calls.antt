@@ -128,18 +128,6 @@ module _ {K : Type 0} {model : Model K} where
   read_after {T} {U} {V} {a} {b} {c} {x} {y} {z} {Is} {As} {Both} first second both =
       read_made (read_then {Both = λ s u. Is s x × As s u} first second (λ s u e is also. (is, also))) (λ s e found. both s e found.0 found.1)
 
-  -- a read whose result was lost as memory ran out
-  pub read_lost : {T U : Type 0} {a b : K} {x : T} {Is : State → T → Type 0} {As : State → U → Type 0} → IsRead model a b (Ok x) Is → IsRead model a b (Err Memory) As
-  read_lost {T} {U} {a} {b} {x} {Is} {As} read = record {
-    call = record {
-      preserved = read.call.preserved;
-      began_clean = read.call.began_clean;
-      faults = read.call.faults;
-      reopen = λ err. absurd cc;
-    };
-    reads = λ h s e. (read.reads h s e).1;
-  }
-
   -- a fault that is passed on
   pub call_failed : {T U : Type 0} {a b : K} {fault : Fault} → IsCall {T = T} model a b (Err fault) → IsCall {T = U} model a b (Err fault)
   call_failed {T} {U} {a} {b} {fault} call = record {

@@ -48,7 +48,7 @@ selected_are_candidates q f h e =
 last_is : (p : FeatureValue → Bool) (fs : List FeatureValue) (f : FeatureValue) (b : Bool) → p f ≡ b → filter p (fs ++ f ∷ []) ≡ filter p fs ++ cond b (f ∷ []) []
 last_is p fs f b e = filter-append p fs (f ∷ []) ∙ ap (λ t. filter p fs ++ cond t (f ∷ []) []) e
 
-refuted : (b : Bool) → (b ≡ true → ⊥) → b ≡ false
+pub refuted : (b : Bool) → (b ≡ true → ⊥) → b ≡ false
 refuted true h = absurd (h refl)
 refuted false h = refl
 

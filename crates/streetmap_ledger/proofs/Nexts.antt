@@ -72,7 +72,7 @@ nexts_split s n j (suc k) =
     ∙ (ap (λ bs. bs ++ last) (nexts_split s n j k)
     ∙ append_assoc (batches_next s n j) (batches_next s (n + j) k) last))
 
-at_most : {A : Type 0} (o : Option A) → length (option_to_list o) ≤ 1
+pub at_most : {A : Type 0} (o : Option A) → length (option_to_list o) ≤ 1
 at_most None = omega arith
 at_most (Some x) = omega arith
 
@@ -85,7 +85,7 @@ nexts_short s n (suc k) =
     let long = length-append (batches_next s n k) (option_to_list (batch_in s (n + suc k))) in
     omega (arith, rest, one, long)
 
-get_last : {A : Type 0} (xs : List A) (x : A) (n : ℕ)
+pub get_last : {A : Type 0} (xs : List A) (x : A) (n : ℕ)
     → length xs ≡ n → slice_get (xs ++ x ∷ []) n ≡ Some x
 get_last [] x zero h = refl
 get_last [] x (suc n) h = absurd (omega (arith, h))

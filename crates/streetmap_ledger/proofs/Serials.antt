@@ -26,7 +26,7 @@ same_serial a = grind (arith, nat_tests)
 
 -- ---- entries in order of their keys
 
-not_equal : (r : Ordering) → T (is_lt r) → is_eq r ≡ false
+pub not_equal : (r : Ordering) → T (is_lt r) → is_eq r ≡ false
 not_equal Less h = refl
 not_equal Equal h = absurd h
 not_equal Greater h = absurd h

@@ -228,7 +228,7 @@ module _ (q : QueryValue) (fs : List FeatureValue) (some : 1 ≤ q.limit) (up : 
   walk_from (suc n) after few = walk_by (suc n) after few (λ id fewer. walk_from n (Some id) (omega arith)) (nat_lt q.limit (length (following after (selected q fs)))) refl
 
 -- ---- the features of a well-formed collection are in order of ids
-is_less : (r : Ordering) → T (is_lt r) → r ≡ Less
+pub is_less : (r : Ordering) → T (is_lt r) → r ≡ Less
 is_less Less h = refl
 is_less Equal h = absurd h
 is_less Greater h = absurd h

@@ -72,7 +72,7 @@ meets-seconds_overlap a b h k m =
 
 -- ---- the relation and its test
 
-starts_after-is : (start end : Option ℤ) → starts_after start end ≡ true → (s : ℤ) × (e : ℤ) × (start ≡ Some s) × (end ≡ Some e) × (e <ℤ s)
+pub starts_after-is : (start end : Option ℤ) → starts_after start end ≡ true → (s : ℤ) × (e : ℤ) × (start ≡ Some s) × (end ≡ Some e) × (e <ℤ s)
 starts_after-is None end h = cc
 starts_after-is (Some s) None h = cc
 starts_after-is (Some s) (Some e) h = (s, e, refl, refl, omega (arith, ints))

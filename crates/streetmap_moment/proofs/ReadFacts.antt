@@ -1,5 +1,5 @@
 -- The results of the readers of intervals and of time properties, in terms of the texts.
-use Rattle.std.proofs.Common.{◌≡◌, inl, inr, ℕ, List, [], ◌∷◌, ◌++◌, Option, Some, None, Result, Ok, Err, refl, ap, ◌∙◌, sym, arith, true, false, ℤ, pos, ◌<ℤ◌, IfOk, IfErr, ok_or}
+use Rattle.std.proofs.Common.{◌≡◌, inl, inr, ℕ, List, [], ◌∷◌, ◌++◌, Option, Some, None, Result, Ok, Err, refl, ap, ◌∙◌, sym, arith, false, ℤ, pos, ◌<ℤ◌, IfOk, IfErr, ok_or}
 use Rattle.std.proofs.lemmas.Bool.{cases_Bool}
 use Rattle.std.proofs.lemmas.Option.{same_Some, none-some}
 use Rattle.std.proofs.lemmas.Int.{ints}
@@ -16,6 +16,7 @@ use Rattle.streetmap_moment.specs.Views.{moment_result, interval_value, interval
 use Rattle.streetmap_moment.specs.declared.moments.Moment.{Moment}
 use Rattle.streetmap_moment.proofs.TextFacts.{bind_is, via, ended_takes_int, date_takes, date_again, moment_takes, moment_again}
 use Rattle.streetmap_moment.proofs.IntervalTextFacts.{ends_takes, ends_read}
+use Rattle.streetmap_moment.proofs.IntervalFacts.{starts_after-is as empty_tested}
 
 -- ---- date-times
 
@@ -42,11 +43,6 @@ order_tested : (start end : Option ℤ) → IsInOrder start end → starts_after
 order_tested None end h = refl
 order_tested (Some s) None h = refl
 order_tested (Some s) (Some e) h = grind (arith, ints)
-
-empty_tested : (start end : Option ℤ) → starts_after start end ≡ true → (s : ℤ) × (e : ℤ) × (start ≡ Some s) × (end ≡ Some e) × (e <ℤ s)
-empty_tested None end h = cc
-empty_tested (Some s) None h = cc
-empty_tested (Some s) (Some e) h = (s, e, refl, refl, omega (arith, ints))
 
 pub in_order_ends : (i : IntervalValue) → IsInOrder i.start i.end → ordered_ends (Some i) ≡ Ok i
 in_order_ends i h = rw (order_tested i.start i.end h) refl

@@ -1,5 +1,5 @@
 -- Extents within bounds, and what bounds off a box show of them.
-use Rattle.std.proofs.Common.{◌≡◌, ℤ, ◌≤ℤ◌, List, [], ◌∷◌, ◌++◌, Option, None, Some, Bool, true, false, All, option_map, refl, sym, ap, subst, ◌∙◌, append_assoc, append-nil, arith}
+use Rattle.std.proofs.Common.{◌≡◌, ℤ, ◌≤ℤ◌, List, [], ◌∷◌, ◌++◌, Option, None, Some, false, All, option_map, refl, sym, ap, subst, ◌∙◌, append_assoc, append-nil, arith}
 use Rattle.std.specs.Int.{int_max, int_min}
 use Rattle.std.proofs.lemmas.Int.{ints, clamps}
 use Rattle.std.proofs.lemmas.List.Elements.{All-head, All-tail, All-weaker}
@@ -18,7 +18,7 @@ use Rattle.streetmap_ledger.specs.Pages.{passes, extent_overlaps, is_candidate}
 use Rattle.streetmap_ledger.specs.Folds.{HoldsCandidates}
 use Rattle.streetmap_ledger.specs.declared.fold.PageFold.{PageFold}
 use Rattle.streetmap_outlines.specs.declared.kept.KeptOutline.{KeptOutline}
-use Rattle.streetmap_ledger.proofs.Examining.{left_out}
+use Rattle.streetmap_ledger.proofs.Examining.{left_out, refuted}
 use Rattle.streetmap_outlines.specs.Outlines.{IsOutlineOf, LiesWithin, AllLieWithin}
 use Rattle.streetmap_outlines.specs.Outlines.{Pairs}
 
@@ -56,10 +56,6 @@ pub spanning_extent : (bounds : Option GridBox) → option_map box_value bounds 
 unfolding extent_of
 spanning_extent None = refl
 spanning_extent (Some g) = ap (λ b. Some b) (made_box (box_value g) (extent_of (corners g)) (least g.x0 g.x1 g.wide) (least g.y0 g.y1 g.tall) (greatest g.x0 g.x1 g.wide) (greatest g.y0 g.y1 g.tall))
-
-refuted : (b : Bool) → (b ≡ true → ⊥) → b ≡ false
-refuted true h = absurd (h refl)
-refuted false h = refl
 
 overlap_too : (e b area : BoxValue) → IsWithin e b → Overlaps e area → Overlaps b area
 overlap_too e b area within (x, (y, (h, k))) = (x, (y, (within x y h, k)))

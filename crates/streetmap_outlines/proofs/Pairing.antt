@@ -1,7 +1,7 @@
 -- The outlines of a collection's features, in the order of their ids.
-use Rattle.std.proofs.Common.{◌≡◌, List, [], ◌∷◌, ◌++◌, T, false, cond, None, Some, map, refl, sym, ap, subst, ◌∙◌, append_assoc, append-nil}
+use Rattle.std.proofs.Common.{◌≡◌, List, [], ◌∷◌, ◌++◌, T, cond, None, Some, map, refl, sym, ap, subst, ◌∙◌, append_assoc, append-nil}
 use Rattle.std.specs.List.{AllByRecursion}
-use Rattle.std.specs.Ordering.{is_lt, is_eq}
+use Rattle.std.specs.Ordering.{is_eq}
 use Rattle.std.specs.declared.cmp.Ordering.{Ordering}
 use Rattle.std.specs.declared.cmp.Ordering.TheVariants.{Less, Equal, Greater}
 use Rattle.std.specs.Cmp.Lexicographic.{nat_list_cmp_total}
@@ -22,17 +22,13 @@ use Rattle.streetmap_ledger.specs.declared.fold.PageFold.{PageFold}
 use Rattle.streetmap_ledger.proofs.TextMaps.{one_text, first, second}
 use Rattle.streetmap_outlines.specs.Outlines.{AreOutlines}
 use Rattle.streetmap_outlines.specs.Outlines.{IsEntry, Pairs}
+use Rattle.streetmap_ledger.proofs.Serials.{not_equal}
 
 -- a feature under its id, as a program can hold it
 pub record IsThere (features : Features) (id : Text) (f : FeatureValue) : Type 0 where
   pub named : f.id ≡ id
   pub made : IsFeature f
   pub there : get features id ≡ Some f
-
-not_equal : (r : Ordering) → T (is_lt r) → is_eq r ≡ false
-not_equal Less h = refl
-not_equal Equal h = absurd h
-not_equal Greater h = absurd h
 
 -- ---- each entry is found under its key
 module _ {X : Type 0} where

@@ -19,6 +19,7 @@ use Rattle.streetmap_outlines.specs.Kept.{outline_value, outline_values}
 use Rattle.streetmap_outlines.specs.declared.kept.KeptOutline.{KeptOutline}
 use Rattle.streetmap_ledger.proofs.TextMaps.{one_text, first, second}
 use Rattle.streetmap_outlines.specs.Outlines.{IsOutlineOf, AreOutlines}
+use Rattle.streetmap_ledger.proofs.Walking.{is_less as less}
 
 abbrev pub Entries : Type 0
 Entries = List (Text × FeatureValue)
@@ -47,11 +48,6 @@ too_few y ys is = absurd cc
 -- ---- the order
 pub flip : (x y : Text) (r : Ordering) → text_cmp x y ≡ r → text_cmp y x ≡ ordering_reverse r
 flip x y r e = nat_list_cmp_total.antisymm y x ∙ ap ordering_reverse e
-
-pub less : (r : Ordering) → T (is_lt r) → r ≡ Less
-less Less h = refl
-less Equal h = absurd h
-less Greater h = absurd h
 
 ascends : (os : List KeptOutline) (es : Entries) (k : ℕ) (d : KeptOutline) → outline_values os ≡ outlines es → T (is_sorted text_cmp es) → k + 1 < length os → is_lt (text_cmp (id_of (slice_index_or os (k + 1) d)) (id_of (slice_index_or os k d))) ≡ false
 ascends [] es k d is up h = absurd (omega arith)

@@ -17,10 +17,7 @@ use Rattle.streetmap_packing.specs.Laws.{OneWay, GoesOn}
 use Rattle.streetmap_packing.specs.PackingState.{comma_after}
 use Rattle.streetmap_packing.proofs.RunLemmas.{one_way, begins_so}
 use Rattle.streetmap_packing.proofs.TextLengths.{text_of, one_longer, front_shorter}
-
-pub both_true : (a b : Bool) → (a && b) ≡ true → (a ≡ true) × (b ≡ true)
-both_true true b h = (refl, h)
-both_true false b h = cc
+use Rattle.streetmap_batch.proofs.NameFacts.{both_true}
 
 pub and_true : (a b : Bool) → a ≡ true → b ≡ true → (a && b) ≡ true
 and_true a b p q = rw (p, q) refl

@@ -13,22 +13,14 @@ use Rattle.streetmap_placing.specs.Roles.{member_role, element_role}
 use Rattle.streetmap_placing.specs.declared.fault.PlacingFault.{PlacingFault}
 use Rattle.streetmap_placing.specs.declared.numbers.Numbers.{Numbers}
 use Rattle.streetmap_placing.specs.declared.role.Role.{Role}
+use Rattle.streetmap_json.proofs.Fronts.{before, one_more, before_none}
 
 -- ---- elements after others
-
-abbrev pub before : List Data → Items → Items
-before [] rest = rest
-before (d ∷ ds) rest = item d (before ds rest)
 
 -- what the remaining elements become, after those already placed
 abbrev pub following : List Data → Result Items PlacingFault → Result Items PlacingFault
 following ds (Ok rest) = Ok (before ds rest)
 following ds (Err f) = Err f
-
-one_more : (ds : List Data) (d : Data) (rest : Items)
-    → before ds (item d rest) ≡ before (ds ++ d ∷ []) rest
-one_more [] d rest = refl
-one_more (e ∷ ds) d rest = ap (item e) (one_more ds d rest)
 
 pub after_one_more : (ds : List Data) (d : Data) (r : Result Items PlacingFault)
     → following ds (following (d ∷ []) r) ≡ following (ds ++ d ∷ []) r
@@ -38,10 +30,6 @@ after_one_more ds d (Err f) = refl
 pub after_none : (r : Result Items PlacingFault) → r ≡ following [] r
 after_none (Ok rest) = refl
 after_none (Err f) = refl
-
-pub before_none : (vs : List Value) → before (map view vs) no_items ≡ items_view vs
-before_none [] = refl
-before_none (v ∷ vs) = ap (item (view v)) (before_none vs)
 
 pub count_is : (js : List json.Json) → items_count (items_of js) ≡ length js
 count_is [] = refl

@@ -22,6 +22,7 @@ use Rattle.streetmap_query.specs.Box.{box_of, box_text}
 use Rattle.streetmap_query.specs.BoxText.{NumberText, HasFewDigits, zeros_spelled, number_spelled, signed, number_meant, IsBoxText}
 use Rattle.streetmap_query.specs.Number.{digit_at, digits_at, whole_at, zeros_from, some_zeros, fraction_at, unsigned_at, bound_at, comma_at, reach, ◌>>=◌}
 use Rattle.streetmap_query.proofs.LimitFacts.{digit_counts}
+use Rattle.streetmap_geojson.proofs.Ids.{magnitude}
 
 -- the text ends there, or a comma follows
 abbrev IsStop : List ℕ → Type 0
@@ -293,11 +294,6 @@ found text (Some g) e = box_takes text (box_value g) (sym e)
 
 pub numerals : IsNumeralModel (λ ds. all_ascii_digits ds ≡ true) (digits_value 10)
 numerals = numerals_by_value _ tells_all_ascii_digits
-
--- the number that is written without a sign
-abbrev magnitude : ℤ → ℕ
-magnitude (pos n) = n
-magnitude (negsuc n) = suc n
 
 abbrev is_below : ℤ → Bool
 is_below (pos n) = false

@@ -1,5 +1,5 @@
 -- A written query reads as the same query.
-use Rattle.std.proofs.Common.{◌≡◌, ℕ, ◌<◌, ◌≤◌, ◌^◌, List, [], ◌∷◌, map, length, Option, Some, None, Ok, refl, ap, sym, ◌∙◌, arith, lit<, lit≤, true, codes, subst, ℤ, pos, negsuc}
+use Rattle.std.proofs.Common.{◌≡◌, ℕ, ◌<◌, ◌≤◌, ◌^◌, List, [], ◌∷◌, map, length, Option, Some, None, Ok, refl, ap, ◌∙◌, arith, lit<, lit≤, true, codes, subst, ℤ, pos, negsuc}
 use Rattle.std.proofs.lemmas.Int.{ints}
 use Rattle.std.proofs.lemmas.Bool.Decides.{nat_tests}
 use Rattle.std.specs.Prelude.{Bool, IsTrue, nat_lt, ◌&&◌, All, IsAscii, decimal, option_map}
@@ -15,7 +15,6 @@ use Rattle.std.proofs.lemmas.Str.Ascii.{All-from_ascii, IsAscii-nil, IsAscii-con
 use Rattle.std.proofs.lemmas.Option.{none-some, same_Some}
 use Rattle.form_urlencoded.specs.Form.{raw_pairs, decode, extend_pairs}
 use Rattle.form_urlencoded.proofs.FormLemmas.{round_trip, IsBytePair}
-use Rattle.form_urlencoded.proofs.OnLiterals.{form_urlencoded_on_literals}
 use Rattle.percent_encoding.proofs.PercentLemmas.{IsByte}
 use Rattle.streetmap_geojson.specs.Id.{is_id}
 use Rattle.std.specs.Str.Parse.{digits_value}
@@ -182,11 +181,3 @@ limit_alone_is n is = record { bbox = λ x e. absurd (none-some x e); datetime =
 pub limit_read : (n : ℕ) → IsLimit n → query_of (Some (query_text (limit_alone n))) ≡ Ok (limit_alone n)
 limit_read n is =
     query_again (limit_alone n) (query_text (limit_alone n)) (limit_alone_is n is) (λ x e. absurd (none-some x e)) (λ x e. absurd (none-some x e)) refl
-
-thousand : query_text (limit_alone 1000) ≡ codes "limit=1000"
-unfolding form_urlencoded_on_literals digits
-thousand = refl
-
--- the longest pages
-pub thousand_read : query_of (Some (codes "limit=1000")) ≡ Ok (limit_alone 1000)
-thousand_read = ap (λ t. query_of (Some t)) (sym thousand) ∙ limit_read 1000 (lit≤ tt, lit≤ tt)

@@ -3,11 +3,11 @@ use Rattle.std.proofs.Common.{nat_le, ◌^◌, ◌≡◌, ◌≢◌, inl, inr, �
 use Rattle.std.proofs.Common.{◌≤◌, List, [], ◌∷◌}
 use Rattle.std.proofs.Common.{◌++◌, length, map, filter, true, false, get_or, eqb}
 use Rattle.std.proofs.Common.{Some}
-use Rattle.std.proofs.Common.{Ordering, Less, Equal, Greater, refl, sym, ap, ap₂, subst, ◌∙◌, arith}
+use Rattle.std.proofs.Common.{refl, sym, ap, ap₂, subst, ◌∙◌, arith}
 use Rattle.std.proofs.Common.{int_cmp}
 use Rattle.std.specs.List.{IsDistinct}
 use Rattle.std.specs.Option.{option_to_list}
-use Rattle.std.specs.Ordering.{is_lt, ordering_then}
+use Rattle.std.specs.Ordering.{is_lt}
 use Rattle.std.specs.List.Sorted.{IsPermutation, IsSorted}
 use Rattle.std.proofs.lemmas.Bool.{false_from_ne_true}
 use Rattle.std.proofs.lemmas.Bool.Decides.{nat_tests}
@@ -16,7 +16,6 @@ use Rattle.std.proofs.lemmas.List.{get_or-map, length-map}
 use Rattle.std.proofs.lemmas.List.Sorted.{IsPermutation-map, IsPermutation-sym}
 use Rattle.std.proofs.lemmas.List.Sorted.{Contains-permutation}
 use Rattle.std.proofs.lemmas.Map.Keys.{IsDistinct-IsPermutation, apart_from_distinct}
-use Rattle.sqlite.specs.declared.types.Value.{Value}
 use Rattle.sqlite.specs.declared.types.Value.TheVariants.{Null, Int}
 use Rattle.sqlite.specs.Order.{Row, column}
 use Rattle.sqlite.specs.Term.{Term}
@@ -30,12 +29,13 @@ use Rattle.sqlite_rules.proofs.ListLemmas.{all_has, all_from, has_contained, con
 use Rattle.streetmap_ledger.specs.State.{State}
 use Rattle.streetmap_ledger.specs.WellFormed.{IsState}
 use Rattle.streetmap_rows.proofs.OneRowChosen.{picked, staged}
-use Rattle.streetmap_rows.proofs.OrderedRows.{ordered_query, keeps, has_mapped, mapped_has}
+use Rattle.streetmap_rows.proofs.OrderedRows.{ordered_query, keeps, has_mapped, mapped_has, unkeyed_again, ended}
 use Rattle.streetmap_ledger.specs.Kept.{KeyedBatch, batch_in, batch_count, batches_next}
 use Rattle.streetmap_ledger.proofs.Serials.{found_under}
 use Rattle.streetmap_ledger.proofs.AllThere.{kept_there}
 use Rattle.streetmap_ledger.proofs.Nexts.{nexts_split}
 use Rattle.streetmap_reading.specs.Serials.{row_of}
+use Rattle.streetmap_rows.proofs.OneState.{nat_in as number}
 
 -- a serial, and what is shown with it
 abbrev pub Numbered : Type 0
@@ -117,10 +117,6 @@ module _ (s : State) (sound : IsState s) where
 
 -- ---- outputs in order
 
-abbrev pub number : Value → ℕ
-number (Int (pos n)) = n
-number _ = 0
-
 abbrev pub number_in : Row → ℕ
 number_in r = number (column r 7)
 
@@ -134,18 +130,8 @@ keyed_again : (es : List Numbered) → map key (map unkey es) ≡ es
 keyed_again [] = refl
 keyed_again (e ∷ es) = ap (λ l. e ∷ l) (keyed_again es)
 
-unkeyed_again : (os : List Output) → ((o : Output) → Has os o → unkey (key o) ≡ o)
-    → map unkey (map key os) ≡ os
-unkeyed_again [] each = refl
-unkeyed_again (o ∷ os) each = λ i. each o (inl refl) i ∷ unkeyed_again os (λ x h. each x (inr h)) i
-
 moved : {A : Type 0} (xs ys : List A) (x : A) → IsPermutation xs ys → Has xs x → Has ys x
 moved xs ys x p h = has_contained ys x (Contains-permutation xs ys x p (contains_had xs x h))
-
-ended : (o : Ordering) → ordering_then o Equal ≡ o
-ended Less = refl
-ended Equal = refl
-ended Greater = refl
 
 -- numbers one by one
 abbrev numbers : List Numbered → List ℕ

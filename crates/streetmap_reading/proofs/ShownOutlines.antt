@@ -87,7 +87,7 @@ extent_cells rows name params r f there of cells =
     λ i. at 3 i ∷ at 4 i ∷ at 5 i ∷ at 6 i ∷ []
 
 -- each feature is chosen
-all_pass : (es : List (Text × FeatureValue)) → passing (is_chosen None None) es ≡ es
+pub all_pass : (es : List (Text × FeatureValue)) → passing (is_chosen None None) es ≡ es
 all_pass [] = refl
 all_pass (e ∷ es) = ap (λ l. e ∷ l) (all_pass es)
 

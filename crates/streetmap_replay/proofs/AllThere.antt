@@ -4,7 +4,7 @@ use Rattle.std.proofs.Common.{List, [], ◌∷◌, ◌++◌, length, map, find, 
 use Rattle.std.proofs.Common.{option_map, refl, sym, ap, ◌∙◌, nat_eq, arith, ◌||◌, ◌-◌, ⊎_elim}
 use Rattle.std.proofs.Common.{take, length-append}
 use Rattle.std.specs.Prelude.{slice_get}
-use Rattle.std.specs.List.{list_any, IsDistinct, AllByRecursion}
+use Rattle.std.specs.List.{list_any, IsDistinct}
 use Rattle.std.specs.Option.{option_to_list}
 use Rattle.std.specs.FinMap.{entries, get, len, find as find_key, is_sorted, get-entries}
 use Rattle.std.specs.FinMap.{entries_sorted, len-entries}
@@ -25,6 +25,8 @@ use Rattle.streetmap_replay.proofs.Texts.{kept_with, text_with, texts_to, texts_
 use Rattle.streetmap_replay.proofs.Texts.{texts_are, journal_is}
 use Rattle.streetmap_replay.proofs.Serials.{none_beyond, none_some, values_of, none_below, under}
 use Rattle.streetmap_replay.proofs.Serials.{apart}
+use Rattle.streetmap_ledger.proofs.AllThere.{none_all}
+use Rattle.streetmap_ledger.proofs.Nexts.{get_last}
 
 abbrev serials_of : List (Text × AcceptedBatch) → List ℕ
 serials_of es = map (λ (e : Text × AcceptedBatch). e.1.serial) es
@@ -93,15 +95,6 @@ new_first e es sorted one = by (list_any (eqb e.1.serial) (serials_of es)) refl 
       none_some v.0 (sym (none_below e.0 es (first _ _ sorted))
       ∙ (ap (λ (k : Text). find_key text_cmp k es) (sym same) ∙ u.1))
 
-none_all : (n : ℕ) (ns : List ℕ) → list_any (eqb n) ns ≡ false →
-    AllByRecursion (λ m. eqb n m ≡ false) ns
-none_all n [] h = tt
-none_all n (m ∷ ns) h = let p = or_parts (eqb n m) (list_any (eqb n) ns) h in
-    (p.0, none_all n ns p.1) where
-      or_parts : (a b : Bool) → (a || b) ≡ false → (a ≡ false) × (b ≡ false)
-      or_parts true b h = absurd cc
-      or_parts false b h = (refl, h)
-
 distinct : (es : List (Text × AcceptedBatch)) → T (is_sorted text_cmp es) → OneEach es →
     IsDistinct eqb (serials_of es)
 unfolding IsDistinct
@@ -118,13 +111,6 @@ get_take zero [] = refl
 get_take zero (x ∷ xs) = refl
 get_take (suc n) [] = refl
 get_take (suc n) (x ∷ xs) = get_take n xs
-
-get_last : {A : Type 0} (xs : List A) (x : A) (n : ℕ) → length xs ≡ n →
-    slice_get (xs ++ x ∷ []) n ≡ Some x
-get_last [] x zero h = refl
-get_last [] x (suc n) h = absurd (omega (arith, h))
-get_last (y ∷ xs) x zero h = absurd (omega (arith, h))
-get_last (y ∷ xs) x (suc n) h = get_last xs x n (omega (arith, h))
 
 get_past : {A : Type 0} (xs : List A) (n : ℕ) → length xs ≤ n → slice_get xs n ≡ None
 get_past [] n h = refl

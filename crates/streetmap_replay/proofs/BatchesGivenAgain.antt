@@ -19,7 +19,7 @@ use Rattle.streetmap_ledger.specs.Kept.{KeyedBatch, batch_count, batch_in, batch
 use Rattle.streetmap_ledger.specs.KeptView.{keyed_batch, keyed_batches}
 use Rattle.streetmap_ledger.specs.declared.kept_batch.KeptBatch.{KeptBatch}
 use Rattle.streetmap_ledger.proofs.AllThere.{kept_there}
-use Rattle.streetmap_ledger.proofs.Nexts.{nexts_short, last_next}
+use Rattle.streetmap_ledger.proofs.Nexts.{nexts_short, last_next, at_most}
 use Rattle.streetmap_ledger.proofs.Serials.{found_of as found_under_key, found_under}
 use Rattle.streetmap_ledger.specs.Batches.{Outcome, act, by_key, counts_of, edited, fresh, kept_for}
 use Rattle.streetmap_ledger.specs.Batches.{most_batches}
@@ -220,10 +220,6 @@ module _ (s : State) (sound : IsState s) (n : ℕ) (t : State) (first : GivesFir
   }
 
 -- ---- parts of the kept batches
-
-at_most : {A : Type 0} (o : Option A) → length (option_to_list o) ≤ 1
-at_most None = omega arith
-at_most (Some x) = omega arith
 
 get_first : {A : Type 0} (xs ys : List A) (i : ℕ) → i < length xs →
     slice_get (xs ++ ys) i ≡ slice_get xs i

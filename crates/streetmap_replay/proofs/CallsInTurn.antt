@@ -10,7 +10,7 @@ use Rattle.streetmap_ledger.specs.declared.reply.Fault.TheVariants.{Memory, Devi
 use Rattle.streetmap_ledger.proofs.Calls.{call_failed}
 use Rattle.streetmap_replay.specs.Calls.{LastAnswer, fails_by, CallsShut, ShutStays, AreCalls, Stays, AreReads}
 
-not_shut : {A : Type 0} (cause : Option Cause) → cause ≡ None → IsSome cause → A
+pub not_shut : {A : Type 0} (cause : Option Cause) → cause ≡ None → IsSome cause → A
 not_shut None none shut = absurd cc
 not_shut (Some why) none shut = absurd cc
 

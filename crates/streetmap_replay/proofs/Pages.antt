@@ -113,7 +113,7 @@ page_placed P fs after h =
     All-take P 1000 _ (All-filter (comes_after after) P _
     (All-filter (selects (part_query after)) P fs h))
 
-all_selected : (fs : List FeatureValue) → selected all fs ≡ fs
+pub all_selected : (fs : List FeatureValue) → selected all fs ≡ fs
 all_selected [] = refl
 all_selected (f ∷ fs) = ap (λ gs. f ∷ gs) (all_selected fs)
 
@@ -162,7 +162,7 @@ turned fs _ _ id (goes_on after reported pages next walk) h =
       shows = refl;
     }
 
-last : (fs : List FeatureValue) (after : Option Text) (pages : List PageValue) →
+pub last : (fs : List FeatureValue) (after : Option Text) (pages : List PageValue) →
     IsWalk all fs after pages → (page_after all fs after).next ≡ None →
     shown pages ≡ (page_after all fs after).features
 last fs _ _ (ends after none) h = append-nil _

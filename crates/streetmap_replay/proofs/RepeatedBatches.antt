@@ -1,35 +1,20 @@
 -- An acknowledged batch is kept, and a batch that is kept is repeated.
 use Rattle.std.proofs.Common.{◌≡◌, ℕ, ◌+◌, List, [], ◌∷◌, ◌++◌, Bool, true, false, cond, All}
-use Rattle.std.proofs.Common.{Option, None, Some, Result, Ok, Err, refl, sym, ap, subst, ◌∙◌}
-use Rattle.std.proofs.Common.{nat_eq, nat_lt}
-use Rattle.std.specs.Cmp.Lexicographic.{pointwise}
-use Rattle.std.specs.FinMap.{get, len}
+use Rattle.std.proofs.Common.{refl, sym, ap, subst, ◌∙◌}
+use Rattle.std.specs.FinMap.{get}
 use Rattle.std.proofs.lemmas.List.Elements.{All-nil, All-cons, All-head, All-tail}
-use Rattle.streetmap_batch.specs.BatchText.{batch_text}
 use Rattle.streetmap_batch.specs.BatchValue.{BatchValue}
-use Rattle.streetmap_ledger.specs.State.{State, AcceptedBatch}
-use Rattle.streetmap_ledger.specs.Batches.{Outcome, edited, fresh, by_key, act, after_all}
-use Rattle.streetmap_ledger.specs.Batches.{most_batches}
+use Rattle.streetmap_ledger.specs.State.{State}
+use Rattle.streetmap_ledger.specs.Batches.{Outcome, act, after_all}
 use Rattle.streetmap_ledger.specs.Laws.{IsAcknowledged, is_accepted, accepted_of}
-use Rattle.streetmap_ledger.specs.declared.reply.Refusal.{Refusal}
 use Rattle.streetmap_ledger.specs.declared.reply.Reply.{Reply}
 use Rattle.streetmap_ledger.specs.declared.reply.Reply.TheVariants.{Accepted, Repeated, Refused}
-use Rattle.streetmap_ledger.proofs.Repeat.{either, IsThere, again, all_keep}
+use Rattle.streetmap_ledger.proofs.Repeat.{IsThere, again, all_keep}
 use Rattle.streetmap_ledger.proofs.Repeat.{acknowledged_there, there_again}
+use Rattle.streetmap_ledger.proofs.Acceptance.{by_key_stays}
 
 abbrev Stays : State → Outcome → Type 0
 Stays s o = is_accepted o.reply ≡ false → o.state ≡ s
-
-fresh_stays : (s : State) (b : BatchValue) (serial : ℕ) (r : Result State (ℕ × Refusal)) →
-    Stays s (fresh s b serial r)
-fresh_stays s b serial (Ok t) fails = cc
-fresh_stays s b serial (Err e) fails = refl
-
-by_key_stays : (s : State) (b : BatchValue) (o : Option AcceptedBatch) → Stays s (by_key s b o)
-by_key_stays s b (Some kept) =
-    either (Stays s) (pointwise nat_eq kept.text (batch_text b)) _ _ (λ fails. refl) (λ fails. refl)
-by_key_stays s b None = either (Stays s) (nat_lt (len s.keys) most_batches) _ _
-    (fresh_stays s b (len s.keys + 1) (edited 1 s b.edits)) (λ fails. refl)
 
 pub act_stays : (s : State) (b : BatchValue) → Stays s (act s b)
 act_stays s b = by_key_stays s b (get s.keys b.key)

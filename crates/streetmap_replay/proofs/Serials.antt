@@ -3,7 +3,7 @@ use Rattle.std.proofs.Common.{◌≡◌, ℕ, zero, suc, ◌<◌, Bool, true, fa
 use Rattle.std.proofs.Common.{◌++◌, map, find, Option, None, Some, option_map, refl, sym, ap, ◌∙◌}
 use Rattle.std.proofs.Common.{nat_eq, arith}
 use Rattle.std.specs.Option.{option_to_list}
-use Rattle.std.specs.Ordering.{is_lt, is_eq}
+use Rattle.std.specs.Ordering.{is_eq}
 use Rattle.std.specs.declared.cmp.Ordering.{Ordering}
 use Rattle.std.specs.declared.cmp.Ordering.TheVariants.{Less, Equal, Greater}
 use Rattle.std.specs.Cmp.Lexicographic.{nat_list_cmp_total}
@@ -16,6 +16,7 @@ use Rattle.streetmap_batch.specs.Text.{Text, text_cmp}
 use Rattle.streetmap_ledger.specs.State.{AcceptedBatch}
 use Rattle.streetmap_ledger.proofs.TextMaps.{one_text, first, second}
 use Rattle.streetmap_replay.proofs.Texts.{Kept, kept_with, text_with, texts_to}
+use Rattle.streetmap_ledger.proofs.Serials.{not_equal}
 
 pub none_some : {A : Type 0} {B : Type 0} (x : A) → None ≡ Some x → B
 none_some x e = cc
@@ -24,11 +25,6 @@ abbrev pub values_of : List (Text × AcceptedBatch) → List AcceptedBatch
 values_of es = map (λ (e : Text × AcceptedBatch). e.1) es
 
 -- ---- one more entry in a list
-
-not_equal : (r : Ordering) → T (is_lt r) → is_eq r ≡ false
-not_equal Less h = refl
-not_equal Equal h = absurd h
-not_equal Greater h = absurd h
 
 module _ (test : AcceptedBatch → Bool) (key : Text) (v : AcceptedBatch) where
   passed_by : (e : Text × AcceptedBatch) (es : List (Text × AcceptedBatch)) → test v ≡ false →

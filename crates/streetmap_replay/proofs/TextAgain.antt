@@ -1,10 +1,8 @@
 -- The text of a batch reads as the batch with the times of its features left out.
-use Rattle.std.proofs.Common.{◌≡◌, ℕ, ◌+◌, ◌<◌, ◌≤◌, Bool, true, false, ◌&&◌, IsTrue, All, List, []}
+use Rattle.std.proofs.Common.{◌≡◌, ℕ, ◌+◌, ◌<◌, ◌≤◌, Bool, true, ◌&&◌, IsTrue, All, List, []}
 use Rattle.std.proofs.Common.{◌∷◌, length, map, Option, None, Some, Ok, codes, refl, ap, arith}
-use Rattle.std.specs.Prelude.{nat_le, nat_lt}
 use Rattle.std.specs.List.{list_all}
 use Rattle.std.specs.Str.{is_utf8}
-use Rattle.std.proofs.lemmas.Bool.{ltb-true, le-leb}
 use Rattle.std.proofs.lemmas.Grind.{common_steps}
 use Rattle.std.proofs.lemmas.List.{length-map}
 use Rattle.std.proofs.lemmas.List.Elements.{All-nil, All-cons, All-head, All-tail}
@@ -15,28 +13,25 @@ use Rattle.serde_json.specs.Read.{max_depth}
 use Rattle.serde_json.specs.View.{items_of}
 use Rattle.streetmap_json.specs.ExactData.{is_exact, are_exact}
 use Rattle.streetmap_geojson.specs.FeatureValue.{FeatureValue}
-use Rattle.streetmap_feature_text.proofs.Again.{feature_again, depth_feature}
-use Rattle.streetmap_feature_text.proofs.ExactFeatures.{exact_feature}
+use Rattle.streetmap_feature_text.proofs.Again.{feature_again, depth_feature, both}
+use Rattle.streetmap_feature_text.proofs.ExactFeatures.{exact_feature, ascii_utf8}
 use Rattle.streetmap_feature_text.proofs.JsonTexts.{text_again}
 use Rattle.streetmap_feature_text.specs.Written.{feature_data}
-use Rattle.streetmap_batch.proofs.Readings.{edit_again}
+use Rattle.streetmap_batch.proofs.Readings.{batch_again}
 use Rattle.streetmap_batch.specs.Text.{Text}
 use Rattle.streetmap_batch.specs.BatchFacts.{IsTitle, IsTimePropertyIf, IsSoundEdit, IsSoundBatch}
 use Rattle.streetmap_batch.specs.BatchValue as edit
 use Rattle.streetmap_batch.specs.BatchValue.{EditValue, BatchValue}
 use Rattle.streetmap_batch.specs.BatchMeaning.{IsEdit, AreEdits, IsBatch, IsBatchText}
-use Rattle.streetmap_batch.specs.ParsedBatches.{has_only, list_of, most_edits, edits_after, keyed}
-use Rattle.streetmap_batch.specs.ParsedBatches.{batch, batch_of}
+use Rattle.streetmap_batch.specs.ParsedBatches.{has_only, list_of}
+use Rattle.streetmap_batch.specs.ParsedBatches.{batch_of}
 use Rattle.streetmap_batch.specs.BatchText.{feature_edit_data, edit_data, batch_data, batch_text}
 use Rattle.streetmap_batch.specs.Names.{is_id_byte, is_key_byte, is_key, is_collection_id}
 use Rattle.streetmap_replay.specs.Again.{untimed_edit, untimed_batch}
 use Rattle.streetmap_replay.specs.Again.{BatchTextReadsAgain}
+use Rattle.streetmap_geojson.proofs.Lists.{list_of-items_of}
 
 -- ---- what is written for an edit reads as it
-
-list_of-items_of : (ds : List Data) → list_of (items_of ds) ≡ ds
-list_of-items_of [] = refl
-list_of-items_of (d ∷ ds) = ap (λ (xs : List Data). d ∷ xs) (list_of-items_of ds)
 
 open_reads : (name title : Text) (time : Option Text) → IsTrue (is_collection_id name) →
     IsTitle title → IsTimePropertyIf time →
@@ -89,22 +84,6 @@ batch_reads b h = record {
 }
 
 -- ---- its text is kept exactly
-
-both : (a b : Bool) → IsTrue (a && b) → IsTrue a × IsTrue b
-both true true h = (refl, refl)
-both true false h = absurd cc
-both false b h = absurd cc
-
-ascii_all : (bs : List ℕ) → list_all (λ b. nat_lt b 128) bs ≡ true → All (λ b. b < 128) bs
-ascii_all [] h = All-nil (λ b. b < 128)
-ascii_all (b ∷ bs) h =
-    let p = both (nat_lt b 128) (list_all (λ b. nat_lt b 128) bs) h in
-    All-cons (λ b. b < 128) b bs (ltb-true b 128 p.0) (ascii_all bs p.1)
-
--- a text of ASCII bytes is UTF-8
-ascii_utf8 : (bs : List ℕ) → list_all (λ b. nat_lt b 128) bs ≡ true → is_utf8 bs ≡ true
-ascii_utf8 bs h = is_utf8-from_IsUtf8 bs
-    (IsUtf8-from_ascii bs (IsAscii-from_all bs (ascii_all bs h)))
 
 low_id_byte : (b : ℕ) → is_id_byte b ≡ true → b < 128
 low_id_byte b h = grind (arith, common_steps)
@@ -235,24 +214,6 @@ is_batch_text b h = (
   text_again (batch_data b) (exact_batch b h) (shallow_batch b h),
   batch_reads b h,
 )
-
-edits_again : (n : ℕ) (ds : List Data) (es : List EditValue) → AreEdits ds es →
-    (edits_after n ds ≡ Ok es) × (length es ≡ length ds)
-unfolding edits_after
-edits_again n [] [] h = (refl, refl)
-edits_again n [] (e ∷ es) h = absurd h
-edits_again n (d ∷ ds) [] h = absurd h
-edits_again n (d ∷ ds) (e ∷ es) h =
-    let more = edits_again (n + 1) ds es h.1 in
-    (rw (edit_again (n + 1) d e h.0, more.0) refl, omega (arith, more.1))
-
-batch_again : (d : Data) (b : BatchValue) → IsBatch d b → batch d ≡ Ok b
-unfolding batch keyed
-batch_again d b h =
-    let edits = edits_again 0 h.edits_are.0 b.edits h.edits_are.2 in
-    let few : nat_le (length h.edits_are.0) most_edits ≡ true =
-    le-leb (length h.edits_are.0) most_edits (omega (arith, h.few, edits.1)) in
-    rw (h.only, h.key_is, h.edits_are.1, h.named, few, edits.0) refl
 
 pub text_is_again : (bytes : List ℕ) (b : BatchValue) → IsBatchText bytes b → batch_of bytes ≡ Ok b
 text_is_again bytes b h = rw h.1 (batch_again h.0 b h.2)

@@ -32,7 +32,7 @@ passed (Ok x) e P is come = absurd is
 passed (Err x) e P is come = subst P (sym is) come
 
 -- an error is no success
-none : {A E : Type 0} (r : Result A E) (e : E) (P : Type 0) → IsErrAnd r (λ x. x ≡ e) → OnOk r P
+pub none : {A E : Type 0} (r : Result A E) (e : E) (P : Type 0) → IsErrAnd r (λ x. x ≡ e) → OnOk r P
 none (Ok x) e P is = absurd is
 none (Err x) e P is = tt
 

@@ -50,7 +50,7 @@ module _ (sql : List ℕ) (params : Row) (old new : Seen) (schema : Schema) (has
       ]
 
 -- a part that stopped did so in its first step or in a later one
-stopped : {A B : Type 0} (First : Part A) (Next : A → Part B) (s : Option Error) → Then First Next (Err s) → First (Err s) ⊎ ((a : A) × First (Ok a) × Next a (Err s))
+pub stopped : {A B : Type 0} (First : Part A) (Next : A → Part B) (s : Option Error) → Then First Next (Err s) → First (Err s) ⊎ ((a : A) × First (Ok a) × Next a (Err s))
 stopped First Next s (inl early) = inl (subst (λ x. First (Err x)) (let e = early.2 in cc) early.1)
 stopped First Next s (inr late) = inr late
 

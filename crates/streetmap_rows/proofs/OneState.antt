@@ -32,15 +32,15 @@ use Rattle.streetmap_rows.specs.Tables.{Roots, IsNamed, IsOurs, meta, collection
 use Rattle.streetmap_rows.specs.KeptStates.{Keeps, AreTreesOf}
 use Rattle.streetmap_rows.proofs.TextKeys.{one_text}
 
-abbrev nat_in : Value → ℕ
+abbrev pub nat_in : Value → ℕ
 nat_in (Int (pos n)) = n
 nat_in _ = 0
 
-abbrev text_in : Value → Option Text
+abbrev pub text_in : Value → Option Text
 text_in (Words t) = Some t
 text_in _ = None
 
-text_back : (o : Option Text) → text_in (or_null Words o) ≡ o
+pub text_back : (o : Option Text) → text_in (or_null Words o) ≡ o
 text_back None = refl
 text_back (Some t) = refl
 

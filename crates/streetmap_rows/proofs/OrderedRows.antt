@@ -28,6 +28,7 @@ use Rattle.streetmap_rows.specs.Queries.{over_in}
 use Rattle.streetmap_rows.proofs.OneRowChosen.{picked, staged}
 use Rattle.streetmap_rows.proofs.TextKeys.{one_text, text_is, text_self}
 use Rattle.streetmap_rows.proofs.Drafts.{rising as upwards}
+use Rattle.streetmap_ledger.proofs.TextMaps.{first, second}
 
 -- the rows of this table that pass the tests, in order of the texts in one column, and what is shown of them
 abbrev pub ordered_query : ℕ → List Term → List Term → ℕ → Query
@@ -54,7 +55,7 @@ keyed_again : (es : List Keyed) → map key (map unkey es) ≡ es
 keyed_again [] = refl
 keyed_again (e ∷ es) = ap (λ l. e ∷ l) (keyed_again es)
 
-unkeyed_again : (os : List Output) → ((o : Output) → Has os o → unkey (key o) ≡ o) → map unkey (map key os) ≡ os
+pub unkeyed_again : (os : List Output) → ((o : Output) → Has os o → unkey (key o) ≡ o) → map unkey (map key os) ≡ os
 unkeyed_again [] each = refl
 unkeyed_again (o ∷ os) each = λ i. each o (inl refl) i ∷ unkeyed_again os (λ x h. each x (inr h)) i
 
@@ -71,7 +72,7 @@ mapped_has f (x ∷ xs) y (inr later) = let r = mapped_has f xs y later in (r.0,
 pub moved : {A : Type 0} (xs ys : List A) (x : A) → IsPermutation xs ys → Has xs x → Has ys x
 moved xs ys x p h = has_contained ys x (Contains-permutation xs ys x p (contains_had xs x h))
 
-ended : (o : Ordering) → ordering_then o Equal ≡ o
+pub ended : (o : Ordering) → ordering_then o Equal ≡ o
 ended Less = refl
 ended Equal = refl
 ended Greater = refl
@@ -79,14 +80,6 @@ ended Greater = refl
 both : (a b : Bool) → T a → T b → T (a && b)
 both true b p q = q
 both false b p q = p
-
-first : (a b : Bool) → T (a && b) → T a
-first true b p = tt
-first false b p = p
-
-second : (a b : Bool) → T (a && b) → T b
-second true b p = p
-second false b p = absurd p
 
 below : {V : Type 0} (k : Text) (es : List (Text × V)) → AllByRecursion (λ y. text_cmp k y ≡ Less) (map (λ e. e.0) es) → T (below_all text_cmp k es)
 below k [] h = tt

@@ -1,5 +1,5 @@
 -- What a statement that was run inside a transaction leaves, whatever it is.
-use Rattle.std.proofs.Common.{◌≡◌, ℕ, List, false, Result, Ok, Err, IsTrue, OnOk, IsErrAnd}
+use Rattle.std.proofs.Common.{◌≡◌, ℕ, List, false, Result, Ok, Err, IsTrue, IsErrAnd}
 use Rattle.sqlite.specs.declared.error.Error.{Error}
 use Rattle.sqlite.specs.declared.error.Error.TheVariants.{SqliteFailure}
 use Rattle.sqlite.specs.declared.error.ErrorCode.TheVariants.{TransactionState}
@@ -13,10 +13,7 @@ use Rattle.streetmap_rows.specs.Failures.{HasReason}
 use Rattle.streetmap_rows.specs.TransactionCalls.{StaysInside}
 use Rattle.streetmap_rows.proofs.ErrorReasons.{run_inside}
 use Rattle.streetmap_rows.proofs.ResultCases.{err_handed_on}
-
-no_success : {A E : Type 0} (r : Result A E) (e : E) (P : Type 0) → IsErrAnd r (λ x. x ≡ e) → OnOk r P
-no_success (Ok x) e P is = absurd is
-no_success (Err x) e P is = tt
+use Rattle.streetmap_rows.proofs.CallsInside.{none as no_success}
 
 module _ {S : Type 0} {g : Ghosts S} {old new : Transaction S} (sql : List ℕ) (params : Row)
     (same : new.conn.ghost_name ≡ old.conn.ghost_name)

@@ -1,10 +1,10 @@
 -- Why a CREATE TABLE of ours may fail.
-use Rattle.std.proofs.Common.{◌≡◌, ◌⊎◌, inl, inr, ℕ, ◌^◌, ◌<◌, ◌≤◌, ◌+◌, List, [], ◌∷◌, length, Ok, Err, Result, refl, None, Some, Option, true, false, ◌==◌, ap, sym, subst, ◌∙◌, arith, IsUtf8, codes, MatchBool}
+use Rattle.std.proofs.Common.{◌≡◌, ◌⊎◌, inl, inr, ℕ, ◌^◌, ◌<◌, ◌≤◌, ◌+◌, List, [], ◌∷◌, length, Ok, Err, Result, refl, None, Some, true, false, ◌==◌, ap, sym, subst, ◌∙◌, arith, IsUtf8, codes, MatchBool}
 use Rattle.sqlite.specs.Schema.{Schema}
 use Rattle.sqlite.specs.Table.{Table}
 use Rattle.sqlite.specs.Command.TheVariants.{CreateTable}
 use Rattle.sqlite.specs.Does.{Does, MakesTable, MakesSequence, lacks_sequence, no_rows, sequence_text}
-use Rattle.sqlite.specs.Rows.{Part, Then, Gives}
+use Rattle.sqlite.specs.Rows.{Then, Gives}
 use Rattle.sqlite.specs.Effect.{Database, alter_error}
 use Rattle.sqlite.specs.Listing.{understood}
 use Rattle.sqlite.specs.State.{State as Seen, mode_of, ExecutesInside}
@@ -25,7 +25,7 @@ use Rattle.sqlite_rules.proofs.ListLemmas.{all_has}
 use Rattle.sqlite_resolve.specs.Compile.{compiled, planned, meaning, returning, command, timed, create_table, creates, is_attached, is_reserved, table_defined_by, table_in}
 use Rattle.sqlite_resolve.specs.Define as define
 use Rattle.streetmap_rows.proofs.StoreErrors.{failure_is}
-use Rattle.streetmap_rows.proofs.FixedRefused.{refused_as}
+use Rattle.streetmap_rows.proofs.FixedRefused.{refused_as, stopped}
 use Rattle.streetmap_rows.proofs.Resolving.{Means, command_is, is_plain, is_fit as runs_so, understood_is}
 use Rattle.streetmap_rows.proofs.InsertRuns.{never_misplaced, never_ends}
 use Rattle.streetmap_tables.specs.Made.{creating, IsTableText}
@@ -46,11 +46,6 @@ pub record IsAllowed (text : List ℕ) (table : Table) : Type 0 where
   pub fit : is_fit (Text (codes "table")) (Text table.name) (Text table.name) (Text text) ≡ true
   pub few : table_reals table < 2 ^ 64
   pub keys_few : AllByRecursion (λ key. index_reals (table_reals table) key < 2 ^ 64) table.uniques
-
--- a part that stopped did so in its first step or in a later one
-stopped : {A B : Type 0} (First : Part A) (Next : A → Part B) (s : Option Error) → Then First Next (Err s) → First (Err s) ⊎ ((a : A) × First (Ok a) × Next a (Err s))
-stopped First Next s (inl early) = inl (subst (λ x. First (Err x)) (let e = early.2 in cc) early.1)
-stopped First Next s (inr late) = inr late
 
 same_ok : {A E : Type 0} (a b : A) (r : Result A E) → r ≡ Ok a → r ≡ Ok b → a ≡ b
 same_ok {A = A} {E = E} a b r p q = let both : ◌≡◌ {A = Result A E} (Ok a) (Ok b) = sym p ∙ q in cc

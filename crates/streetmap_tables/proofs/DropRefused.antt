@@ -30,7 +30,7 @@ use Rattle.streetmap_rows.specs.Failures.{IsOfStore}
 use Rattle.streetmap_rows.proofs.NamedTables.{is_at}
 use Rattle.streetmap_rows.proofs.StoreErrors.{failure_is}
 use Rattle.streetmap_rows.proofs.StatementParts.{same_value}
-use Rattle.streetmap_rows.proofs.FixedRefused.{refused_as}
+use Rattle.streetmap_rows.proofs.FixedRefused.{refused_as, stopped}
 use Rattle.streetmap_rows.proofs.Resolving.{Means, means, command_is, is_plain, is_fit}
 use Rattle.streetmap_rows.proofs.InsertRuns.{never_misplaced, never_ends}
 use Rattle.streetmap_tables.specs.Drops.{IsDropAlone, CanGo}
@@ -65,11 +65,6 @@ module _ (schema : Schema) (db : Trees) (name : List ℕ) (table : Table) (can :
       ])
 
 -- ---- no rule forbids it
-
--- a part that stopped did so in its first step or in a later one
-stopped : {A B : Type 0} (First : Part A) (Next : A → Part B) (s : Option Error) → Then First Next (Err s) → First (Err s) ⊎ ((a : A) × First (Ok a) × Next a (Err s))
-stopped First Next s (inl early) = inl (subst (λ x. First (Err x)) (let e = early.2 in cc) early.1)
-stopped First Next s (inr late) = inr late
 
 module _ (limit : Option ℕ) (params : Row) (mode : Mode) (waits : mode.may_wait ≡ false) (from : Database) (sound : IsDatabase from) (name : List ℕ) (table : Table) (can : CanGo from.schema name table) (apart : IsAscending (λ a b. a.tree ≡ b.tree → ⊥) from.schema.tables) where
   abbrev task : Task

@@ -58,11 +58,11 @@ shows : (n : ℤ) (o : Option Row) → option_map (drop 1) o ≡ cells_for n nam
 shows n None h = absurd (cc)
 shows n (Some r) h = let cells : drop 1 r ≡ Words name ∷ Int n ∷ [] = cc in ap (λ v. (v ∷ []) ∷ []) (column_later r 1 ∙ ap (λ x. column x 1) cells)
 
-filter_all : (p : Row → Bool) (rows : List Row) → ((r : Row) → p r ≡ true) → filter p rows ≡ rows
+pub filter_all : (p : Row → Bool) (rows : List Row) → ((r : Row) → p r ≡ true) → filter p rows ≡ rows
 filter_all p [] all = refl
 filter_all p (r ∷ rows) all = rw (all r) (ap (λ l. r ∷ l) (filter_all p rows all))
 
-map_length : {A B : Type 0} (f : A → B) (xs : List A) → length (map f xs) ≡ length xs
+pub map_length : {A B : Type 0} (f : A → B) (xs : List A) → length (map f xs) ≡ length xs
 map_length f [] = refl
 map_length f (x ∷ xs) = ap suc (map_length f xs)
 

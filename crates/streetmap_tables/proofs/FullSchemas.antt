@@ -55,7 +55,7 @@ placed_any : {A : Type 0} (p : A → Bool) (n : ℕ) (xs : List A) → is_some (
 placed_any p n [] = refl
 placed_any p n (x ∷ xs) = elim (cases_Bool (p x)) [ inl here ↦ rw here refl | inr other ↦ rw other (placed_any p (n + 1) xs) ]
 
-or_false : (b : Bool) → (b || false) ≡ b
+pub or_false : (b : Bool) → (b || false) ≡ b
 or_false true = refl
 or_false false = refl
 

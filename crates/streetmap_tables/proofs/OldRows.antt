@@ -1,5 +1,5 @@
 -- The rows of the features of a state in format 1, in whatever order they are shown.
-use Rattle.std.proofs.Common.{◌≡◌, ◌≢◌, inl, inr, ℕ, ◌≤◌, List, [], ◌∷◌, map, filter, Bool, true, false, ◌&&◌, cond, drop, Option, Some, None, option_map, nat_le, ◌^◌, refl, sym, ap, subst, ◌∙◌, arith}
+use Rattle.std.proofs.Common.{◌≡◌, ◌≢◌, inl, inr, ℕ, ◌≤◌, List, [], ◌∷◌, map, Bool, true, false, ◌&&◌, cond, drop, Option, Some, None, option_map, nat_le, ◌^◌, refl, sym, ap, subst, ◌∙◌, arith}
 use Rattle.std.specs.List.{AllByRecursion, list_all, sum_by}
 use Rattle.std.specs.List.Sorted.{IsPermutation}
 use Rattle.std.proofs.lemmas.List.Sorted.{IsPermutation-map, sum_by-IsPermutation, Contains-permutation, All-permutation}
@@ -26,10 +26,7 @@ use Rattle.streetmap_rows.specs.Rows.{feature_at}
 use Rattle.streetmap_tables.specs.Old.{old_cells}
 use Rattle.streetmap_tables.specs.Part.{pair_in, IsRowOf, AreRowsOf}
 use Rattle.streetmap_tables.proofs.SelectOld.{cells}
-
-filter_all : (p : Row → Bool) (rows : List Row) → ((r : Row) → p r ≡ true) → filter p rows ≡ rows
-filter_all p [] all = refl
-filter_all p (r ∷ rows) all = rw (all r) (ap (λ l. r ∷ l) (filter_all p rows all))
+use Rattle.streetmap_tables.proofs.FormatAndSerials.{filter_all}
 
 map_map : {A B C : Type 0} (f : A → B) (g : B → C) (xs : List A) → map g (map f xs) ≡ map (λ x. g (f x)) xs
 map_map f g [] = refl

@@ -23,6 +23,7 @@ use Rattle.streetmap_rows.proofs.NamedTables.{is_at}
 use Rattle.streetmap_rows.specs.Tables.{IsNamed, features_name}
 use Rattle.streetmap_tables.specs.Made.{Created}
 use Rattle.streetmap_tables.specs.Creation.{HasRoom, KeepsOtherTables}
+use Rattle.streetmap_tables.proofs.FullSchemas.{or_false}
 
 -- ---- lists
 
@@ -47,10 +48,6 @@ all_push P (y ∷ xs) x all one = (all.0, all_push P xs x all.1 one)
 or_true : (b : Bool) → (b || true) ≡ true
 or_true true = refl
 or_true false = refl
-
-or_false : (b : Bool) → (b || false) ≡ b
-or_false true = refl
-or_false false = refl
 
 -- ---- the table of counts
 

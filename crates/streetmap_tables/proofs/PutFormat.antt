@@ -83,7 +83,7 @@ readable = record {
   features = λ p f h. absurd (let e = sym (no_feature p) ∙ h in cc);
 }
 
-meta_ours : is_our_name meta_name ≡ true
+pub meta_ours : is_our_name meta_name ≡ true
 unfolding everything
 meta_ours = refl
 

@@ -24,17 +24,17 @@ use Rattle.streetmap_rows.proofs.HeldKeys.{holds_same}
 use Rattle.streetmap_rows.specs.Tables.{Roots, IsNamed, IsKey, to_key, meta, collections, batches, features, meta_name, collections_name, batches_name, features_name}
 use Rattle.streetmap_rows.specs.Rows.{feature_at, collection_cells}
 use Rattle.streetmap_rows.specs.Representations.{HasTextNames, CanBeRead}
-use Rattle.streetmap_rows.specs.Elsewhere.{is_our_name}
 use Rattle.streetmap_tables.specs.Made.{Created}
 use Rattle.streetmap_tables.specs.Creation.{HasRoom, LacksFormat, KeepsOtherTables}
 use Rattle.streetmap_tables.proofs.OneTableMore.{is_sequence, references_none, room_after, named_kept, named_new, on_kept, on_new, any_kept, others_kept, below, rows_kept}
 use Rattle.streetmap_tables.proofs.OurTablesMade.{meta_alone, features_alone, same_meta, same_features}
-use Rattle.streetmap_tables.proofs.PutFormat.{holds_none}
+use Rattle.streetmap_tables.proofs.PutFormat.{holds_none, meta_ours}
 use Rattle.streetmap_tables.proofs.OtherTables.{others_then}
 use Rattle.streetmap_tables.specs.Old.{WereOurs, KeepsOld, old_features}
 use Rattle.streetmap_tables.specs.Drops.{CanGo, Dropped}
 use Rattle.streetmap_tables.specs.Part.{bare, emptied}
 use Rattle.streetmap_tables.proofs.TableDropped.{named_left, was_there, rows_left, others_left, index_was, any_left, room_left}
+use Rattle.streetmap_rows.proofs.OtherTables.{features_ours}
 
 -- ---- a state without its features
 
@@ -140,14 +140,6 @@ features_own tree = refl
 meta_own : (tree : ℕ) → is_sequence (meta tree) ≡ false
 unfolding everything
 meta_own tree = refl
-
-features_ours : is_our_name features_name ≡ true
-unfolding everything
-features_ours = refl
-
-meta_ours : is_our_name meta_name ≡ true
-unfolding everything
-meta_ours = refl
 
 module _ (s : State) (d0 : Database) (keeps : KeepsOld s d0) where
   abbrev roots : Roots
