@@ -6,9 +6,8 @@ use Rattle.sqlite.specs.State.{HasCleanDisk}
 use Rattle.sqlite.proofs.StateLemmas.{survives_then}
 use Rattle.streetmap_rows.specs.Representations.{StandsFor}
 use Rattle.streetmap_rows.proofs.ResultCases.{handed_on}
-use Rattle.streetmap_tables.proofs.CallsInTransaction.{same_all, keeps_then}
+use Rattle.streetmap_tables.proofs.CallsInTransaction.{same_all, keeps_then, elsewhere_then}
 use Rattle.streetmap_tables.specs.Part.{Lacks, PutsEach}
-use Rattle.streetmap_tables.proofs.EndedCalls.{elsewhere_then}
 use Rattle.streetmap_tables.proofs.PartOfState.{lacks_none}
 use Rattle.streetmap_tables.proofs.Reasons.{reason_in_later, handed_in}
 use Rattle.streetmap_tables.proofs.features.put_rows.Goals as goal
