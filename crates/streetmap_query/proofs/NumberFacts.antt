@@ -1,5 +1,5 @@
 -- Steps of the reader of numbers.
-use Rattle.std.proofs.Common.{◌≡◌, ℕ, ◌+◌, ◌*◌, ◌-◌, ◌<◌, ◌≤◌, ◌^◌, List, [], ◌∷◌, Some, None, refl, ap, arith, false}
+use Rattle.std.proofs.Common.{◌≡◌, ℕ, ◌+◌, ◌*◌, ◌-◌, ◌<◌, ◌≤◌, ◌^◌, List, [], ◌∷◌, length, Some, None, refl, ap, arith, false}
 use Rattle.std.specs.Prelude.{◌==◌}
 use Rattle.std.proofs.Math.Nat.{pow-le-pow_right}
 use Rattle.std.proofs.lemmas.Grind.{common_steps, pow_more}
@@ -7,6 +7,11 @@ use Rattle.std.proofs.lemmas.Option.{cond_some}
 use Rattle.std.proofs.lemmas.Bool.Decides.{nat_tests}
 use Rattle.std.specs.Char.{is_ascii_digit}
 use Rattle.streetmap_query.specs.Number.{digit_at, digits_at}
+
+pub digit_shorter : (text : List ℕ) (n : ℕ) (rest : List ℕ) → digit_at text ≡ Some (n, rest) → length rest < length text
+unfolding digit_at
+digit_shorter [] n rest e = grind (arith, common_steps)
+digit_shorter (b ∷ text) n rest e = grind (arith, common_steps)
 
 -- after the digits
 pub digits_end : (room n : ℕ) (text : List ℕ) → digit_at text ≡ None → digits_at room n text ≡ Some (n, text)

@@ -1,7 +1,6 @@
 use Rattle.std.proofs.Common.{◌≡◌, ◌-◌, ◌+◌, ◌∙◌, sym, ap, arith, None}
 use Rattle.streetmap_query.specs.Number.{digits_at}
-use Rattle.streetmap_moment.proofs.DigitFacts.{digit_shorter}
-use Rattle.streetmap_query.proofs.NumberFacts.{digits_end, digits_full, digits_step, longer, fits}
+use Rattle.streetmap_query.proofs.NumberFacts.{digit_shorter, digits_end, digits_full, digits_step, longer, fits}
 use Rattle.streetmap_query.proofs.numbers.whole.Goals as goal
 
 pub returns-then-places-eq19 : goal.returns-then-places-eq19
