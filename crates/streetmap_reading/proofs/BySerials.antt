@@ -29,7 +29,7 @@ use Rattle.sqlite_rules.proofs.ListLemmas.{all_has, all_from, has_contained, con
 use Rattle.streetmap_ledger.specs.State.{State}
 use Rattle.streetmap_ledger.specs.WellFormed.{IsState}
 use Rattle.streetmap_rows.proofs.OneRowChosen.{picked, staged}
-use Rattle.streetmap_rows.proofs.OrderedRows.{ordered_query, keeps, has_mapped, mapped_has, unkeyed_again, ended}
+use Rattle.streetmap_rows.proofs.OrderedRows.{ordered_query, keeps, has_mapped, mapped_has, ended}
 use Rattle.streetmap_ledger.specs.Kept.{KeyedBatch, batch_in, batch_count, batches_next}
 use Rattle.streetmap_ledger.proofs.Serials.{found_under}
 use Rattle.streetmap_ledger.proofs.AllThere.{kept_there}
@@ -129,6 +129,11 @@ key o = (number (column o.0 0), o.1)
 keyed_again : (es : List Numbered) → map key (map unkey es) ≡ es
 keyed_again [] = refl
 keyed_again (e ∷ es) = ap (λ l. e ∷ l) (keyed_again es)
+
+unkeyed_again : (os : List Output) → ((o : Output) → Has os o → unkey (key o) ≡ o)
+    → map unkey (map key os) ≡ os
+unkeyed_again [] each = refl
+unkeyed_again (o ∷ os) each = λ i. each o (inl refl) i ∷ unkeyed_again os (λ x h. each x (inr h)) i
 
 moved : {A : Type 0} (xs ys : List A) (x : A) → IsPermutation xs ys → Has xs x → Has ys x
 moved xs ys x p h = has_contained ys x (Contains-permutation xs ys x p (contains_had xs x h))

@@ -29,9 +29,12 @@ use Rattle.streetmap_batch.specs.BatchText.{feature_edit_data, edit_data, batch_
 use Rattle.streetmap_batch.specs.Names.{is_id_byte, is_key_byte, is_key, is_collection_id}
 use Rattle.streetmap_replay.specs.Again.{untimed_edit, untimed_batch}
 use Rattle.streetmap_replay.specs.Again.{BatchTextReadsAgain}
-use Rattle.streetmap_geojson.proofs.Lists.{list_of-items_of}
 
 -- ---- what is written for an edit reads as it
+
+list_of-items_of : (ds : List Data) → list_of (items_of ds) ≡ ds
+list_of-items_of [] = refl
+list_of-items_of (d ∷ ds) = ap (λ (xs : List Data). d ∷ xs) (list_of-items_of ds)
 
 open_reads : (name title : Text) (time : Option Text) → IsTrue (is_collection_id name) →
     IsTitle title → IsTimePropertyIf time →
