@@ -23,7 +23,7 @@ use Rattle.streetmap_checking.specs.Good.{CollectionHead, head_cells, IsCollecti
 use Rattle.streetmap_checking.specs.QueryResults.{Known, SeesAllFeatures}
 use Rattle.streetmap_checking.specs.CheckResults.{ShowsTotals, ShowsState, IsOfState, AreTotals, feature_count}
 use Rattle.streetmap_checking.specs.declared.check.Totals.{Totals}
-use Rattle.streetmap_checking.proofs.Shown.{found_in}
+use Rattle.streetmap_rows.proofs.OrderedRows.{found_in}
 use Rattle.streetmap_tables.proofs.FormatAndSerials.{map_length}
 use Rattle.streetmap_ledger.proofs.TextMaps.{first, second}
 use Rattle.streetmap_reading.proofs.RowsInTurn.{map_again as map_twice}

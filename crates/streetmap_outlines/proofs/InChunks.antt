@@ -21,7 +21,8 @@ use Rattle.streetmap_ledger.proofs.TextMaps.{one_text, first, second}
 use Rattle.streetmap_outlines.specs.Outlines.{joined, AreOutlines, AreFilled, IsBounded, AreChunksOf}
 use Rattle.streetmap_outlines.specs.Chunks.{reaches}
 use Rattle.streetmap_outlines.specs.declared.chunk.Chunk.{Chunk}
-use Rattle.streetmap_outlines.proofs.Places.{Entries, outlines, head_is, tail_is, key_is, too_many, too_few, flip, less, others, all_below, entries_left}
+use Rattle.streetmap_outlines.proofs.Places.{Entries, outlines, head_is, tail_is, key_is, too_many, too_few, flip, others, all_below, entries_left}
+use Rattle.streetmap_ledger.proofs.Walking.{is_less as less}
 
 -- ---- whether entries go on to a key
 abbrev goes_to : Text → Entries → Bool

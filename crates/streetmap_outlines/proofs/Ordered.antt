@@ -20,7 +20,8 @@ use Rattle.streetmap_outlines.specs.Outlines.{joined, IsOutlineOf, AreOutlines}
 use Rattle.streetmap_outlines.specs.Chunks.{reaches, AreInOrder, BeginsAfter}
 use Rattle.streetmap_outlines.specs.Selections.{AllComeAfter}
 use Rattle.streetmap_outlines.specs.declared.chunk.Chunk.{Chunk}
-use Rattle.streetmap_outlines.proofs.Places.{Entries, outlines, tail_is, key_is, too_few, flip, less}
+use Rattle.streetmap_outlines.proofs.Places.{Entries, outlines, tail_is, key_is, too_few, flip}
+use Rattle.streetmap_ledger.proofs.Walking.{is_less as less}
 use Rattle.streetmap_outlines.proofs.InChunks.{split, sorted_front, sorted_rest, falls_short}
 
 abbrev Under : (Text → Ordering) → Ordering → KeptOutline → Type 0

@@ -15,7 +15,8 @@ use Rattle.streetmap_batch.specs.Names.{is_key, is_key_byte, is_long}
 use Rattle.streetmap_batch.specs.Text.{Text}
 use Rattle.streetmap_packing.specs.Packs.{numbered, numbered_key, passes}
 use Rattle.streetmap_packing.specs.Laws.{KeysHaveRoom}
-use Rattle.streetmap_packing.proofs.PackLemmas.{both_true, and_true, following, text_long}
+use Rattle.streetmap_packing.proofs.PackLemmas.{and_true, following, text_long}
+use Rattle.streetmap_batch.proofs.NameFacts.{both_true}
 use Rattle.streetmap_packing.proofs.TextLengths.{one_longer}
 
 all_append : (p : ℕ → Bool) (xs ys : List ℕ) → list_all p xs ≡ true → list_all p ys ≡ true →

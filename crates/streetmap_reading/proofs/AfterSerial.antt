@@ -38,7 +38,8 @@ use Rattle.streetmap_reading.specs.BatchStatements.{select_after}
 use Rattle.streetmap_reading.proofs.BatchCompiles.{after_serial, columns, column_names}
 use Rattle.streetmap_reading.proofs.BatchCompiles.{select_after_means, select_after_never}
 use Rattle.streetmap_reading.proofs.RowBySerial.{IsOf, of_row, serial_cell, shown_of, row_there}
-use Rattle.streetmap_reading.proofs.BySerials.{number, number_in, shows_next}
+use Rattle.streetmap_reading.proofs.BySerials.{number_in, shows_next}
+use Rattle.streetmap_rows.proofs.OneState.{nat_in as number}
 
 greater : (m n : ℕ) → is_true (binary (Compare Gt Binary) (Int (pos m)) (Int (pos n))) ≡ nat_lt n m
 unfolding binary
