@@ -11,8 +11,8 @@ use Rattle.streetmap_ledger.specs.declared.reply.Fault.{Fault as KeeperFault}
 use Rattle.streetmap_ledger.specs.declared.reply.Fault.TheVariants as keeper
 use Rattle.streetmap_journal.specs.declared.starts.StartFault.{StartFault}
 use Rattle.streetmap_journal.specs.declared.starts.StartFault.TheVariants as starting
-use Rattle.streetmap_store.specs.declared.fault.CreateFault.{CreateFault}
-use Rattle.streetmap_store.specs.declared.fault.CreateFault.TheVariants as creation
+use Rattle.streetmap_tables.specs.declared.creation.CreateFault.{CreateFault}
+use Rattle.streetmap_tables.specs.declared.creation.CreateFault.TheVariants as creation
 use Rattle.streetmap_tables.specs.declared.openings.OpenFault.{OpenFault}
 use Rattle.streetmap_tables.specs.declared.openings.OpenFault.TheVariants as opening
 use Rattle.streetmap_checking.specs.declared.check.CheckFault.{CheckFault}

@@ -16,7 +16,7 @@ use Rattle.streetmap_store.specs.IndexesListed.{keeps_too}
 use Rattle.streetmap_store.proofs.Reopened.{old_too}
 use Rattle.streetmap_store.specs.HeldFiles.{IsJustOpenedOn, HoldsState, HoldsOldState, LeavesRoom}
 use Rattle.streetmap_store.specs.Reasons.{RefusesToCreate}
-use Rattle.streetmap_store.specs.declared.fault.CreateFault.TheVariants.{Taken}
+use Rattle.streetmap_tables.specs.declared.creation.CreateFault.TheVariants.{Taken}
 
 module _ {D : Type 0} {g : disk.Ghosts D} (image : Image) (c : Held (FileStore D g)) (on : IsJustOpenedOn image c) (clean : HasCleanDisk (file_state c)) where
   sound : IsSound (file_state c).committed.schema (file_state c).committed.trees

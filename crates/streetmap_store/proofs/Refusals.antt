@@ -19,14 +19,12 @@ use Rattle.streetmap_tables.specs.QueryResults.{ShowsFault, ShowsNothing, LosesK
 use Rattle.streetmap_tables.specs.Migration.{IsOld, Carries, Opens, OpensBy}
 use Rattle.streetmap_tables.specs.declared.openings.OpenFault.{OpenFault}
 use Rattle.streetmap_tables.specs.declared.adoption.AdoptFault.TheVariants as adopting
-use Rattle.streetmap_tables.specs.declared.creation.MakeFault.{MakeFault}
-use Rattle.streetmap_tables.specs.declared.creation.MakeFault.TheVariants as making
-use Rattle.streetmap_store.specs.RefusalCauses.{refused_to_open, refused_to_create, not_made}
+use Rattle.streetmap_store.specs.RefusalCauses.{refused_to_open, refused_to_create}
 use Rattle.streetmap_store.specs.Reasons.{IsUnopened, OpensNothing, CreatesNothing}
 use Rattle.streetmap_store.specs.Reasons.{IsForeign, OpenBlamesNoFile, CreateBlamesNoFile, Showed, RefusesToOpen, RefusesToCreate, FailsToConnect, StaysAsItWas, HoldsStill}
 use Rattle.streetmap_tables.specs.declared.openings.OpenFault.TheVariants as opened
-use Rattle.streetmap_store.specs.declared.fault.CreateFault.{CreateFault}
-use Rattle.streetmap_store.specs.declared.fault.CreateFault.TheVariants as created
+use Rattle.streetmap_tables.specs.declared.creation.CreateFault.{CreateFault}
+use Rattle.streetmap_tables.specs.declared.creation.CreateFault.TheVariants as created
 use Rattle.streetmap_store.specs.declared.fault.Left.{Left}
 use Rattle.streetmap_store.specs.declared.fault.Left.TheVariants as left
 use Rattle.streetmap_store.proofs.NewFiles.{new_takes_none}
@@ -164,10 +162,11 @@ old_blame_no_file s old new (opened.Device e) h = tt
 old_blame_no_file s old new opened.Memory h = tt
 
 -- tables that are not made
-pub not_made_for : (image : Image) (fault : MakeFault) → (fault ≡ making.Taken → RefusesToCreate image created.Taken) → RefusesToCreate image (not_made fault)
-not_made_for image making.Taken taken = taken refl
-not_made_for image (making.Device e) taken = tt
-not_made_for image making.Memory taken = tt
+pub not_made_for : (image : Image) (fault : CreateFault) → (fault ≡ created.NotOurs → ⊥) → (fault ≡ created.Taken → RefusesToCreate image created.Taken) → RefusesToCreate image fault
+not_made_for image created.NotOurs of_tables taken = absurd (of_tables refl)
+not_made_for image created.Taken of_tables taken = taken refl
+not_made_for image (created.Device e) of_tables taken = tt
+not_made_for image created.Memory of_tables taken = tt
 
 -- new files are not to blame
 pub new_blame_no_file : (image : Image) → IsNothing image → (fault : CreateFault) → RefusesToCreate image fault → CreateBlamesNoFile fault

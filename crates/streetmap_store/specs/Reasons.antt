@@ -28,8 +28,8 @@ use Rattle.streetmap_tables.specs.declared.adoption.AdoptFault.TheVariants as ad
 use Rattle.streetmap_store.specs.HeldFiles.{IsJustOpenedOn, LeavesRoom}
 use Rattle.streetmap_tables.specs.declared.openings.OpenFault.{OpenFault}
 use Rattle.streetmap_tables.specs.declared.openings.OpenFault.TheVariants as opened
-use Rattle.streetmap_store.specs.declared.fault.CreateFault.{CreateFault}
-use Rattle.streetmap_store.specs.declared.fault.CreateFault.TheVariants as created
+use Rattle.streetmap_tables.specs.declared.creation.CreateFault.{CreateFault}
+use Rattle.streetmap_tables.specs.declared.creation.CreateFault.TheVariants as created
 use Rattle.streetmap_store.specs.declared.fault.Left.{Left}
 use Rattle.streetmap_store.specs.declared.fault.Left.TheVariants as left
 

@@ -3,11 +3,9 @@ use Rattle.sqlite.specs.declared.error.Error.{Error}
 use Rattle.sqlite.specs.declared.error.Error.TheVariants.{SqliteFailure}
 use Rattle.sqlite.specs.declared.error.ErrorCode.TheVariants.{NotADatabase, OutOfMemory}
 use Rattle.streetmap_tables.specs.declared.openings.OpenFault.{OpenFault}
-use Rattle.streetmap_tables.specs.declared.creation.MakeFault.{MakeFault}
-use Rattle.streetmap_tables.specs.declared.creation.MakeFault.TheVariants as making
 use Rattle.streetmap_tables.specs.declared.openings.OpenFault.TheVariants as opened
-use Rattle.streetmap_store.specs.declared.fault.CreateFault.{CreateFault}
-use Rattle.streetmap_store.specs.declared.fault.CreateFault.TheVariants as created
+use Rattle.streetmap_tables.specs.declared.creation.CreateFault.{CreateFault}
+use Rattle.streetmap_tables.specs.declared.creation.CreateFault.TheVariants as created
 
 -- files on which no connection was opened: no database, out of memory, or a failure of the device
 abbrev pub refused_to_open : Error → OpenFault
@@ -19,9 +17,3 @@ abbrev pub refused_to_create : Error → CreateFault
 refused_to_create (SqliteFailure NotADatabase) = created.NotOurs
 refused_to_create (SqliteFailure OutOfMemory) = created.Memory
 refused_to_create e = created.Device e
-
--- tables that are not made
-abbrev pub not_made : MakeFault → CreateFault
-not_made making.Taken = created.Taken
-not_made (making.Device e) = created.Device e
-not_made making.Memory = created.Memory

@@ -13,9 +13,10 @@ ghost use Rattle.streetmap_store.specs.Reasons.{HoldsStill};
 ghost use Rattle.streetmap_store.specs.Reasons.{OpensNothing, CreatesNothing};
 
 use crate::connection::connect;
-use crate::fault::{CreateFault, Left, unopened};
+use crate::fault::{Left, not_made, unopened};
 use crate::keeper::TableKeeper;
 use sqlite::{Connection, FileFrom, FileStore, Leftover, Start};
+use streetmap_tables::{CreateFault, OpenFault};
 
 /// A keeper over the files at a path, which held what `S` says.
 pub type FileKeeper<S> = TableKeeper<FileStore<FileFrom<S>>>;
@@ -54,11 +55,11 @@ pub fn create<S: Start>(
 {
     let conn = match connect(rt, path, start) {
         Ok(conn) => conn,
-        Err((error, left)) => return Err((CreateFault::of_files(error), left)),
+        Err((error, left)) => return Err((not_made(error), left)),
     };
     match TableKeeper::make(rt.alloc(), conn) {
         Ok(keeper) => Ok(keeper),
-        Err((fault, conn)) => Err((CreateFault::of_tables(fault), Left::Connection(conn))),
+        Err((fault, conn)) => Err((fault, Left::Connection(conn))),
     }
 }
 

@@ -1,6 +1,6 @@
 //! The keeper.
 ghost use Rattle.std.specs.Prelude.{◌≡◌, ◌⊎◌, ◌↔◌, Err, Some, false, IsTrue, IfOk, IfErr, IfSome};
-ghost use Rattle.std.specs.Prelude.{IsErrAnd, MatchResult, option_and_then};
+ghost use Rattle.std.specs.Prelude.{◌≢◌, IsErrAnd, MatchResult, option_and_then};
 ghost use Rattle.sqlite.specs.Held.{state};
 ghost use Rattle.sqlite.specs.State.{HasCleanDisk, Survives};
 ghost use Rattle.streetmap_ledger.specs.State.{State, opening_state};
@@ -38,7 +38,7 @@ use streetmap_reading::{
     summaries_of, summary_of,
 };
 use streetmap_rows::{ReadFault, Shut, Stop, settle};
-use streetmap_tables::{MakeFault, OpenFault, apply_batch, make_tables, open_tables};
+use streetmap_tables::{CreateFault, OpenFault, apply_batch, make_tables, open_tables};
 
 /// A keeper over the tables of a connection, between whose calls no transaction is open.
 #[derive(Drop)]
@@ -143,12 +143,13 @@ impl<S: Alter> TableKeeper<S> {
     pub fn make(
         alloc: Global,
         mut conn: Connection<S>,
-    ) -> Result<TableKeeper<S>, (MakeFault, Connection<S>)>
+    ) -> Result<TableKeeper<S>, (CreateFault, Connection<S>)>
         requires { conn.in_transaction ≡ false }
         ensures idle { IfErr result (λ refused. refused.1.in_transaction ≡ false) }
-        ensures taken { IsErrAnd result (λ refused. refused.0 ≡ MakeFault.Taken) ↔ IsTrue
+        ensures of_tables { IfErr result (λ refused. refused.0 ≢ CreateFault.NotOurs) }
+        ensures taken { IsErrAnd result (λ refused. refused.0 ≡ CreateFault.Taken) ↔ IsTrue
             (is_taken (state S.Store conn).now.schema) }
-        ensures untouched { IfErr result (λ refused. refused.0 ≡ MakeFault.Taken
+        ensures untouched { IfErr result (λ refused. refused.0 ≡ CreateFault.Taken
             → refused.1 ≡ conn) }
         ensures clean { MatchResult result (λ keeper. HasCleanDisk (state S.Store keeper.conn)
             → HasCleanDisk (state S.Store conn)) (λ refused. HasCleanDisk (state S.Store refused.1)

@@ -20,7 +20,7 @@ mod file;
 mod keeper;
 pub mod laws;
 
-pub use fault::{CreateFault, Left};
+pub use fault::Left;
 pub use file::{FileKeeper, FilesLeft, create, open};
 pub use keeper::{TableKeeper, what_a_crash_leaves_opens};
-pub use streetmap_tables::OpenFault;
+pub use streetmap_tables::{CreateFault, OpenFault};

@@ -3,7 +3,7 @@ use crate::files::{Visit, output_of_new};
 use sqlite::{Alter, Connection};
 use std::alloc::Global;
 use std::test::Fail;
-use streetmap_tables::{MakeFault, adopt_tables, make_tables};
+use streetmap_tables::{CreateFault, adopt_tables, make_tables};
 
 /// Whether the tables were created.
 fn made<S: Alter>(conn: &mut Connection<S>) -> bool {
@@ -12,7 +12,7 @@ fn made<S: Alter>(conn: &mut Connection<S>) -> bool {
 
 /// Whether a name is taken.
 fn taken<S: Alter>(conn: &mut Connection<S>) -> bool {
-    conn.is_autocommit() && matches!(make_tables(conn), Err(MakeFault::Taken))
+    conn.is_autocommit() && matches!(make_tables(conn), Err(CreateFault::Taken))
 }
 
 /// Whether the tables are opened, with no batch.

@@ -22,8 +22,9 @@ use Rattle.streetmap_rows.specs.Rows.{feature_at, collection_cells, batch_cells,
 use Rattle.streetmap_rows.specs.Representations.{CanBeRead}
 use Rattle.streetmap_rows.specs.Elsewhere.{is_our_name}
 use Rattle.streetmap_rows.specs.KeptStates.{Keeps, Rests, MayLeave}
-use Rattle.streetmap_tables.specs.declared.creation.MakeFault.{MakeFault}
-use Rattle.streetmap_tables.specs.declared.creation.MakeFault.TheVariants.{Taken, Device, Memory}
+use Rattle.streetmap_tables.specs.declared.creation.CreateFault.{CreateFault}
+use Rattle.streetmap_tables.specs.declared.creation.CreateFault.TheVariants.{NotOurs, Taken}
+use Rattle.streetmap_tables.specs.declared.creation.CreateFault.TheVariants.{Device, Memory}
 
 -- a table, an index or a view has one of the four names
 abbrev pub is_taken : Schema → Bool
@@ -94,9 +95,10 @@ MakesAlone old new (Err e) = IsTrue new.is_open → HasSame old new
 
 -- The connection rests at the opening state, and a crash can leave it and no other; a refusal
 -- leaves the database as it was.
-abbrev pub Makes : Seen → Seen → Result (Unit {0}) MakeFault → Type 0
+abbrev pub Makes : Seen → Seen → Result (Unit {0}) CreateFault → Type 0
 Makes old new (Ok _) = Rests new opening_state × MayLeave new (Some opening_state)
     × LeavesOnly (MayLeave new) (Some opening_state)
+Makes old new (Err NotOurs) = ⊥
 Makes old new (Err Taken) = Unit {0}
 Makes old new (Err (Device e)) = IsTrue new.is_open → HasSame old new
 Makes old new (Err Memory) = IsTrue new.is_open × HasSame old new

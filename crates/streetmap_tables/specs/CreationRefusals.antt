@@ -10,8 +10,9 @@ use Rattle.sqlite_catalog.specs.Change.{next_tree, is_used, automatics}
 use Rattle.sqlite_rules.specs.Lists.{Has}
 use Rattle.sqlite.specs.State.{State as Seen}
 use Rattle.streetmap_rows.specs.Failures.{IsOfStore, HasReason}
-use Rattle.streetmap_tables.specs.declared.creation.MakeFault.{MakeFault}
-use Rattle.streetmap_tables.specs.declared.creation.MakeFault.TheVariants.{Taken, Device, Memory}
+use Rattle.streetmap_tables.specs.declared.creation.CreateFault.{CreateFault}
+use Rattle.streetmap_tables.specs.declared.creation.CreateFault.TheVariants.{NotOurs, Taken}
+use Rattle.streetmap_tables.specs.declared.creation.CreateFault.TheVariants.{Device, Memory}
 use Rattle.streetmap_rows.specs.Tables.{meta, meta_text, collections, collections_text, batches}
 use Rattle.streetmap_rows.specs.Tables.{batches_text, features, features_text}
 
@@ -47,14 +48,16 @@ IsFullFor tables schema e =
 abbrev pub IsCreateError : List Table → Schema → Error → Type 0
 IsCreateError tables schema e = IsOfStore e ⊎ IsFullFor tables schema e
 
--- what is returned if the tables were not made
-abbrev pub IsReturned : Schema → MakeFault → Type 0
+-- what is returned if the tables were not made: never that they are in no database
+abbrev pub IsReturned : Schema → CreateFault → Type 0
+IsReturned schema NotOurs = ⊥
 IsReturned schema Taken = Unit {0}
 IsReturned schema (Device e) = IsCreateError our_tables schema e
 IsReturned schema Memory = Unit {0}
 
 -- an error of the store that is returned arose between these two for a reason
-abbrev pub IsReasoned : Seen → Seen → MakeFault → Type 0
+abbrev pub IsReasoned : Seen → Seen → CreateFault → Type 0
+IsReasoned old new NotOurs = ⊥
 IsReasoned old new Taken = Unit {0}
 IsReasoned old new (Device e) = HasReason old new e
 IsReasoned old new Memory = Unit {0}

@@ -1,5 +1,5 @@
 //! Making the tables, in one transaction.
-ghost use Rattle.std.specs.Prelude.{◌≡◌, ◌≤◌, ◌↔◌, [], IsTrue, OnOk, IfErr, Err, false};
+ghost use Rattle.std.specs.Prelude.{◌≡◌, ◌≢◌, ◌≤◌, ◌↔◌, [], IsTrue, OnOk, IfErr, Err, false};
 ghost use Rattle.sqlite.specs.Held.{state};
 ghost use Rattle.sqlite.specs.State.{HasCleanDisk, Survives};
 ghost use Rattle.sqlite.specs.View.{doubt};
@@ -18,12 +18,15 @@ use sqlite::{Alter, Connection, Error, Transaction};
 use sqlite_schema::schema::Schema;
 use streetmap_rows::{CREATE_FEATURES, CREATE_META, is_memory, probe};
 
-/// Why tables were not made.
+/// Why tables were not made, in a connection or in a file.
 #[derive(Drop)]
-pub enum MakeFault {
+pub enum CreateFault {
+    /// `not_ours`: the file is no database of SQLite.
+    NotOurs,
     /// `taken`: a table, an index or a view has one of the four names.
     Taken,
-    /// `device`: the store failed, or has no room for the tables; the error that reported it.
+    /// `device`: the store failed, or has no room for the tables, or the file cannot be opened or is
+    /// in use; the error that reported it.
     Device(Error),
     /// `memory`: out of memory.
     Memory,
@@ -124,7 +127,7 @@ fn make_alone<S: Alter>(conn: &mut Connection<S>) -> Result<(), Error>
 /// Makes the four tables with the opening state, in one transaction.
 ///
 /// `Taken` is returned exactly if a table, an index or a view of the connection has one of the four
-/// names. The other results hold for an open connection with no step limit whose tables leave room:
+/// names, and `NotOurs` never. The other results hold for an open connection with no step limit whose tables leave room:
 /// each has a tree of its own, none refers to the features, and if one counts its rowids the table
 /// of those counts exists. After `Device` the connection may be closed; if it is open its tables
 /// are as they were.
@@ -136,14 +139,15 @@ fn make_alone<S: Alter>(conn: &mut Connection<S>) -> Result<(), Error>
 /// if too few numbers of trees are left, and with `NameTaken` if the name of an index that SQLite
 /// makes for one of their keys is used. After memory ran out `probe` checks the connection: if
 /// memory runs out there too, it is `Device` with that error.
-pub fn make_tables<S: Alter>(conn: &mut Connection<S>) -> Result<(), MakeFault>
+pub fn make_tables<S: Alter>(conn: &mut Connection<S>) -> Result<(), CreateFault>
     requires { conn.old.in_transaction ≡ false }
     ensures idle { conn.new.in_transaction ≡ false }
     ensures clean { doubt (state S.Store conn.old).is_clean
         ≤ doubt (state S.Store conn.new).is_clean }
-    ensures taken { (result ≡ Err MakeFault.Taken) ↔ IsTrue
+    ensures of_tables { result ≢ Err CreateFault.NotOurs }
+    ensures taken { (result ≡ Err CreateFault.Taken) ↔ IsTrue
         (is_taken (state S.Store conn.old).now.schema) }
-    ensures untouched { result ≡ Err MakeFault.Taken → conn.new ≡ conn.old }
+    ensures untouched { result ≡ Err CreateFault.Taken → conn.new ≡ conn.old }
     ensures reason { HasCleanDisk (state S.Store conn.new) →
         IfErr result (IsReasoned (state S.Store conn.old) (state S.Store conn.new)) }
     ensures made { HasCleanDisk (state S.Store conn.new) → IsReady (state S.Store conn.old)
@@ -159,16 +163,16 @@ pub fn make_tables<S: Alter>(conn: &mut Connection<S>) -> Result<(), MakeFault>
         → MayOpen (state S.Store conn.old) (state S.Store conn.new) }
 {
     if is_one_used(conn.schema()) {
-        return Err(MakeFault::Taken);
+        return Err(CreateFault::Taken);
     }
     let Err(error) = make_alone(conn) else {
         return Ok(());
     };
     if !is_memory(error) {
-        return Err(MakeFault::Device(error));
+        return Err(CreateFault::Device(error));
     }
     match probe(conn) {
-        Ok(()) => Err(MakeFault::Memory),
-        Err(error) => Err(MakeFault::Device(error)),
+        Ok(()) => Err(CreateFault::Memory),
+        Err(error) => Err(CreateFault::Device(error)),
     }
 }

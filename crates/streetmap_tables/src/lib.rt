@@ -37,7 +37,7 @@ mod times;
 
 pub use adoption::{AdoptFault, adopt_tables};
 pub use batch::apply_batch;
-pub use creation::{MakeFault, make_tables};
+pub use creation::{CreateFault, make_tables};
 pub use migration::carry_tables;
 pub use openings::{OpenFault, open_tables};
 pub use streetmap_rows::{Shut, Stop};

@@ -9,14 +9,14 @@ pub returns-in-Ok-make-clause-made : goal.returns-in-Ok-make-clause-made
 returns-in-Ok-make-clause-made g c clean room = c.in-Ok-make.ensures.made clean (ready _ c.in-Ok.conn c.in-Ok.ensures.opened (c.in-Ok-make.ensures.clean clean) room)
 
 pub returns-in-Err-clause-refused : goal.returns-in-Err-clause-refused
-returns-in-Err-clause-refused g c clean = rw c.of_files.ensures (not_connected_to_create _ _ _ (c.in-Err.ensures.refused clean))
+returns-in-Err-clause-refused g c clean = rw c.not_made.ensures (not_connected_to_create _ _ _ (c.in-Err.ensures.refused clean))
 
 pub returns-in-Err-clause-new_files : goal.returns-in-Err-clause-new_files
 returns-in-Err-clause-new_files g c clean nothing = new_blame_no_file _ nothing _ (returns-in-Err-clause-refused g c clean)
 
 pub returns-in-Err-make-clause-refused : goal.returns-in-Err-make-clause-refused
 returns-in-Err-make-clause-refused g c clean =
-    rw c.of_tables.ensures (not_made_for _ _ λ is.
+    not_made_for _ _ c.in-Err-make.ensures.of_tables (λ is.
     let same = c.in-Err-make.ensures.untouched is in
     taken _ c.in-Ok.conn c.in-Ok.ensures.opened (subst (λ h. HasCleanDisk (file_state h)) same clean) (c.in-Err-make.ensures.taken.0 is))
 
@@ -30,4 +30,4 @@ pub returns-in-Err-make-clause-stays : goal.returns-in-Err-make-clause-stays
 returns-in-Err-make-clause-stays g c clean = record { first = c.in-Ok.conn; on = c.in-Ok.ensures.opened; clean = c.in-Err-make.ensures.clean clean; showed = c.in-Err-make.ensures.same clean }
 
 pub returns-in-Err-clause-unopened : goal.returns-in-Err-clause-unopened
-returns-in-Err-clause-unopened g c none = rw c.of_files.ensures (unopened_to_create _ (c.in-Err.ensures.unopened none))
+returns-in-Err-clause-unopened g c none = rw c.not_made.ensures (unopened_to_create _ (c.in-Err.ensures.unopened none))
