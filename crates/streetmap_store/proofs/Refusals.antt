@@ -16,9 +16,9 @@ use Rattle.sqlite_store.specs.declared.store.FileStore.{FileStore}
 use Rattle.sqlite.specs.Files.{IsNothing, FailsToOpenFiles, image_of}
 use Rattle.streetmap_ledger.specs.State.{State}
 use Rattle.streetmap_tables.specs.QueryResults.{ShowsFault, ShowsNothing, LosesKeys}
-use Rattle.streetmap_tables.specs.Migration.{IsOld, Carries, Opens, OpensBy}
+use Rattle.streetmap_tables.specs.Adoption.{Opens}
+use Rattle.streetmap_tables.specs.Migration.{IsOld, Carries, OpensBy}
 use Rattle.streetmap_tables.specs.declared.openings.OpenFault.{OpenFault}
-use Rattle.streetmap_tables.specs.declared.adoption.AdoptFault.TheVariants as adopting
 use Rattle.streetmap_store.specs.RefusalCauses.{refused_to_open, refused_to_create}
 use Rattle.streetmap_store.specs.Reasons.{IsUnopened, OpensNothing, CreatesNothing}
 use Rattle.streetmap_store.specs.Reasons.{IsForeign, OpenBlamesNoFile, CreateBlamesNoFile, Showed, RefusesToOpen, RefusesToCreate, FailsToConnect, StaysAsItWas, HoldsStill}
@@ -140,8 +140,8 @@ still_held image (left.Connection c) h = record { first = h.first; on = h.on; cl
 -- tables that are not opened
 pub not_adopted_for : {D : Type 0} {g : disk.Ghosts D} (image : Image) (rest : Left (Leftover D g) (Held (FileStore D g))) (seen : Seen) → ((P : Seen → Type 0) → P seen → Showed image P rest) → (fault : OpenFault)
     → OpensBy seen (Err fault) → RefusesToOpen image fault rest
-not_adopted_for image rest seen show opened.NotOurs by = inr (show (λ x. ShowsFault x adopting.NotOurs ⊎ ShowsNothing x) by)
-not_adopted_for image rest seen show opened.NewFormat by = show (λ x. ShowsFault x adopting.NewFormat) by
+not_adopted_for image rest seen show opened.NotOurs by = inr (show (λ x. ShowsFault x opened.NotOurs ⊎ ShowsNothing x) by)
+not_adopted_for image rest seen show opened.NewFormat by = show (λ x. ShowsFault x opened.NewFormat) by
 not_adopted_for image rest seen show opened.Damaged by = show (λ x. IsOld x ⊎ LosesKeys x) by
 not_adopted_for image rest seen show (opened.Device e) (inl of) = inr (inl of)
 not_adopted_for image rest seen show (opened.Device e) (inr old) = inr (inr (show IsOld old))

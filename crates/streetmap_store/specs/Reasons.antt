@@ -24,7 +24,6 @@ use Rattle.streetmap_tables.specs.Creation.{is_taken}
 use Rattle.streetmap_ledger.specs.State.{State}
 use Rattle.streetmap_tables.specs.Old.{RestsOld}
 use Rattle.streetmap_tables.specs.Migration.{IsOld, UntouchedUnlessFormat1, MayCarry}
-use Rattle.streetmap_tables.specs.declared.adoption.AdoptFault.TheVariants as adopting
 use Rattle.streetmap_store.specs.HeldFiles.{IsJustOpenedOn, LeavesRoom}
 use Rattle.streetmap_tables.specs.declared.openings.OpenFault.{OpenFault}
 use Rattle.streetmap_tables.specs.declared.openings.OpenFault.TheVariants as opened
@@ -124,10 +123,10 @@ module _ {D : Type 0} {g : disk.Ghosts D} where
   abbrev pub RefusesToOpen : Image → OpenFault → Left (Leftover D g) (Held (FileStore D g)) → Type 0
   -- They are no database; or the read of the format row found none of ours, or was refused.
   RefusesToOpen image opened.NotOurs rest = IsForeign image
-      ⊎ Showed image (λ seen. ShowsFault seen adopting.NotOurs ⊎ ShowsNothing seen) rest
+      ⊎ Showed image (λ seen. ShowsFault seen opened.NotOurs ⊎ ShowsNothing seen) rest
   -- The read of the format row found a format above 2.
   RefusesToOpen image opened.NewFormat rest = Showed image (λ seen.
-      ShowsFault seen adopting.NewFormat) rest
+      ShowsFault seen opened.NewFormat) rest
   -- The format is 1, and the tables are damaged, of which no more is said here; or it is 2, and the
   -- read of the batches was refused.
   RefusesToOpen image opened.Damaged rest = Showed image (λ seen. IsOld seen ⊎ LosesKeys seen) rest

@@ -17,7 +17,7 @@ fn taken<S: Alter>(conn: &mut Connection<S>) -> bool {
 
 /// Whether the tables are opened, with no batch.
 fn opens<S: Alter>(conn: &mut Connection<S>) -> bool {
-    conn.is_autocommit() && matches!(adopt_tables(conn), Ok(0))
+    conn.is_autocommit() && matches!(adopt_tables(conn), Ok(Some(0)))
 }
 
 /// Whether statements were run.

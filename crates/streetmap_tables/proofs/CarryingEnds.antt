@@ -10,7 +10,6 @@ use Rattle.streetmap_rows.specs.Tables.{meta, meta_name}
 use Rattle.streetmap_tables.specs.Creation.{HasSame}
 use Rattle.streetmap_tables.specs.Adoption.{LeavesNoMore, LeavesTheSame}
 use Rattle.streetmap_tables.specs.QueryResults.{ShowsFormat, ShowsNothing, AdoptsBy, format_in}
-use Rattle.streetmap_tables.specs.declared.adoption.AdoptFault.TheVariants as adopting
 use Rattle.streetmap_tables.proofs.FormatAndSerials.{format_seen, format_unrefused}
 use Rattle.streetmap_tables.specs.Old.{KeepsOld, RestsOld}
 use Rattle.streetmap_tables.specs.Migration.{IsMigrationError, CarryingRefusedFor, IsRefusedOld, Carries}
@@ -85,18 +84,26 @@ module _ (seen : Seen) (s : State) (rests : RestsOld seen s) where
   never_refused : ShowsNothing seen → ⊥
   never_refused it = it.1 (format_unrefused seen seen rests.kept.roots.meta in_meta rests.unlimited it.0 (inl it.2))
 
-  pub never_counted : (count : ℕ) → AdoptsBy seen (Ok count) → ⊥
+  pub never_counted : (count : ℕ) → AdoptsBy seen (Ok (Some count)) → ⊥
   never_counted count reported = let wrong : Some (pos 2) ≡ Some (pos 1) = old_format (Some (pos 2)) reported.0 in absurd (cc)
 
-  pub never_lost : AdoptsBy seen (Err adopting.Damaged) → ⊥
+  never_lost : AdoptsBy seen (Err Damaged) → ⊥
   never_lost reported = let wrong : Some (pos 2) ≡ Some (pos 1) = old_format (Some (pos 2)) reported.0 in absurd (cc)
 
-  pub never_foreign : AdoptsBy seen (Err adopting.NotOurs) → ⊥
+  never_foreign : AdoptsBy seen (Err NotOurs) → ⊥
   never_foreign (inl it) = let below = it.1 (pos 1) (old_format it.0 it.2) in omega (arith, ints, below)
   never_foreign (inr it) = never_refused it
 
-  pub never_new : AdoptsBy seen (Err adopting.NewFormat) → ⊥
+  never_new : AdoptsBy seen (Err NewFormat) → ⊥
   never_new it =
       let both : Some it.1.0 ≡ Some (pos 1) = sym it.1.1 ∙ old_format it.0 it.2 in
       let same : it.1.0 ≡ pos 1 = cc in
       let above = it.1.2 in omega (arith, ints, same, above)
+
+  -- why they are not read
+  pub refused_unread : (fault : OpenFault) → AdoptsBy seen (Err fault) → IsRefusedOld seen.now.schema fault
+  refused_unread NotOurs reported = never_foreign reported
+  refused_unread NewFormat reported = never_new reported
+  refused_unread Damaged reported = never_lost reported
+  refused_unread (Device e) reported = inl reported
+  refused_unread Memory reported = tt

@@ -14,14 +14,10 @@ use Rattle.streetmap_tables.specs.Part.{old_rows_text, HasCarried}
 use Rattle.sqlite.specs.Store.{Ghosts}
 use Rattle.sqlite.specs.Held.{Held, state}
 use Rattle.streetmap_tables.specs.QueryResults.{Sees, IsUnseen, ShowsRows, ShowsFormat, ShowsKeys}
-use Rattle.streetmap_tables.specs.QueryResults.{ShowsNothing, IsFoundIn, IsRefusedFor, AdoptsBy}
+use Rattle.streetmap_tables.specs.QueryResults.{ShowsNothing, IsFoundIn}
 use Rattle.streetmap_tables.specs.declared.openings.OpenFault.{OpenFault}
 use Rattle.streetmap_tables.specs.declared.adoption.Found.{Found}
 use Rattle.streetmap_tables.specs.declared.adoption.Found.TheVariants.{Keys, Unread, Other}
-use Rattle.streetmap_tables.specs.declared.adoption.AdoptFault.{AdoptFault}
-use Rattle.streetmap_tables.specs.declared.adoption.AdoptFault.TheVariants.{NotOurs, OldFormat}
-use Rattle.streetmap_tables.specs.declared.adoption.AdoptFault.TheVariants.{NewFormat, Damaged}
-use Rattle.streetmap_tables.specs.declared.adoption.AdoptFault.TheVariants.{Device, Memory}
 use Rattle.streetmap_rows.proofs.SameDatabase.{IsBare, select_bare, was_unchanged, shown_there}
 use Rattle.streetmap_rows.proofs.SameDatabase.{fails_there, not_too_late}
 use Rattle.streetmap_tables.proofs.SelectOld.{selects_rows, select_rows_is}
@@ -122,12 +118,3 @@ pub unread_reason : (old new : Seen) (r : Result Found Error) (error : Error) �
     → HasReason old new error → IfErr r (HasReason old new)
 unread_reason old new (Ok found) error by come = tt
 unread_reason old new (Err e) error by come = subst (HasReason old new) (sym by.0) come
-
--- tables of another format
-pub refused_by : (old : Seen) (format : Option ℤ) (fault : AdoptFault) → IsRefusedFor format fault → ShowsFormat old format → AdoptsBy old (Err fault)
-refused_by old format NotOurs refused reported = inl (format, refused, reported)
-refused_by old format OldFormat refused reported = (format, refused, reported)
-refused_by old format NewFormat refused reported = (format, refused, reported)
-refused_by old format Damaged refused reported = absurd refused
-refused_by old format (Device e) refused reported = absurd refused
-refused_by old format Memory refused reported = absurd refused

@@ -1,6 +1,6 @@
 -- Opening existing tables.
 use Rattle.std.specs.Prelude.{◌≡◌, ℕ, List, [], ◌∷◌, pos, codes, length, None, Some, Ok, Err}
-use Rattle.std.specs.Prelude.{Result, Vec, MatchResult, IsTrue}
+use Rattle.std.specs.Prelude.{Option, Result, Vec, MatchResult, IsTrue}
 use Rattle.std.specs.FinMap.{len}
 use Rattle.std.specs.declared.alloc.Global.{Global}
 use Rattle.sqlite.specs.Order.{Row}
@@ -15,10 +15,10 @@ use Rattle.streetmap_rows.specs.KeptStates.{Keeps, Rests, MayLeave}
 use Rattle.streetmap_tables.specs.Creation.{HasSame}
 use Rattle.streetmap_tables.specs.declared.adoption.Found.{Found}
 use Rattle.streetmap_tables.specs.declared.adoption.Found.TheVariants.{Keys}
-use Rattle.streetmap_tables.specs.declared.adoption.AdoptFault.{AdoptFault}
-use Rattle.streetmap_tables.specs.declared.adoption.AdoptFault.TheVariants.{NotOurs, OldFormat}
-use Rattle.streetmap_tables.specs.declared.adoption.AdoptFault.TheVariants.{NewFormat, Damaged}
-use Rattle.streetmap_tables.specs.declared.adoption.AdoptFault.TheVariants.{Device, Memory}
+use Rattle.streetmap_tables.specs.declared.openings.OpenFault.{OpenFault}
+use Rattle.streetmap_tables.specs.declared.openings.OpenFault.TheVariants.{NotOurs, NewFormat}
+use Rattle.streetmap_tables.specs.declared.openings.OpenFault.TheVariants.{Damaged, Device}
+use Rattle.streetmap_tables.specs.declared.openings.OpenFault.TheVariants.{Memory}
 
 -- the serials of all batches
 abbrev pub serials_text : List ℕ
@@ -45,9 +45,8 @@ abbrev pub IsAsItWas : Seen → Seen → Type 0
 IsAsItWas old new = old.now ≡ old.committed → IsTrue new.is_open → HasSame old new
 
 -- it is open after the number of batches or format 1 is returned, and after memory ran out
-abbrev pub StaysOpen : Seen → Result ℕ AdoptFault → Type 0
-StaysOpen new (Ok count) = IsTrue new.is_open
-StaysOpen new (Err OldFormat) = IsTrue new.is_open
+abbrev pub StaysOpen : Seen → Result (Option ℕ) OpenFault → Type 0
+StaysOpen new (Ok found) = IsTrue new.is_open
 StaysOpen new (Err Memory) = IsTrue new.is_open
 StaysOpen new (Err NotOurs) = Unit {0}
 StaysOpen new (Err NewFormat) = Unit {0}
@@ -63,14 +62,19 @@ abbrev pub LeavesTheSame : Seen → Seen → Type 0
 LeavesTheSame old new = ((trees : Trees) → new.may_leave trees → old.may_leave trees)
     × ((trees : Trees) → old.may_leave trees → new.may_leave trees)
 
--- Tables of a state are opened as that state, with the number of its keys; a crash can leave it,
--- and no other. But the store may fail, or memory may run out, which changes nothing.
-abbrev pub Adopts : State → Seen → Seen → Result ℕ AdoptFault → Type 0
-Adopts s old new (Ok count) = (count ≡ len s.keys) × Rests new s × MayLeave new (Some s)
+-- Tables of a state in format 2 are opened as that state, with the number of its keys; a crash can
+-- leave it, and no other. But the store may fail, or memory may run out, which changes nothing.
+abbrev pub Opens : State → Seen → Seen → Result ℕ OpenFault → Type 0
+Opens s old new (Ok count) = (count ≡ len s.keys) × Rests new s × MayLeave new (Some s)
     × LeavesOnly (MayLeave new) (Some s)
-Adopts s old new (Err Memory) = Rests new s × LeavesTheSame old new
-Adopts s old new (Err (Device e)) = IsTrue new.is_open → Rests new s
-Adopts s old new (Err NotOurs) = ⊥
-Adopts s old new (Err OldFormat) = ⊥
-Adopts s old new (Err NewFormat) = ⊥
-Adopts s old new (Err Damaged) = ⊥
+Opens s old new (Err Memory) = Rests new s × LeavesTheSame old new
+Opens s old new (Err (Device e)) = IsTrue new.is_open → Rests new s
+Opens s old new (Err Damaged) = ⊥
+Opens s old new (Err NotOurs) = ⊥
+Opens s old new (Err NewFormat) = ⊥
+
+-- and are not found to be of format 1
+abbrev pub Adopts : State → Seen → Seen → Result (Option ℕ) OpenFault → Type 0
+Adopts s old new (Ok (Some count)) = Opens s old new (Ok count)
+Adopts s old new (Ok None) = ⊥
+Adopts s old new (Err fault) = Opens s old new (Err fault)

@@ -21,7 +21,6 @@ use Rattle.streetmap_tables.specs.CreationRefusals.{IsFullFor}
 use Rattle.streetmap_tables.specs.Adoption.{LeavesNoMore, LeavesTheSame, IsAsItWas}
 use Rattle.streetmap_tables.specs.QueryResults.{ShowsFormat, ShowsKeys, LosesKeys, ShowsFault}
 use Rattle.streetmap_tables.specs.QueryResults.{ShowsNothing}
-use Rattle.streetmap_tables.specs.declared.adoption.AdoptFault.TheVariants as adopting
 use Rattle.streetmap_tables.specs.Old.{WereOurs, KeepsOld, RestsOld}
 use Rattle.streetmap_tables.specs.Part.{emptied}
 use Rattle.streetmap_tables.specs.declared.openings.OpenFault.{OpenFault}
@@ -123,23 +122,12 @@ IsOld seen = ShowsFormat seen (Some (pos 1))
 abbrev pub UntouchedUnlessFormat1 : Seen → Seen → Type 0
 UntouchedUnlessFormat1 old new = ¬ (IsOld old) → IsAsItWas old new × Survives old new (λ _. ⊥)
 
--- Tables of a state in format 2 are opened as that state, with the number of its keys; a crash can
--- leave it, and no other. But the store may fail, or memory may run out, which changes nothing.
-abbrev pub Opens : State → Seen → Seen → Result ℕ OpenFault → Type 0
-Opens s old new (Ok count) = (count ≡ len s.keys) × Rests new s × MayLeave new (Some s)
-    × LeavesOnly (MayLeave new) (Some s)
-Opens s old new (Err Memory) = Rests new s × LeavesTheSame old new
-Opens s old new (Err (Device e)) = IsTrue new.is_open → Rests new s
-Opens s old new (Err Damaged) = ⊥
-Opens s old new (Err NotOurs) = ⊥
-Opens s old new (Err NewFormat) = ⊥
-
 -- The result is what the queries show, whatever the tables are; those of format 1 may be migrated,
 -- or be damaged, or a statement of their migration may be refused.
 abbrev pub OpensBy : Seen → Result ℕ OpenFault → Type 0
 OpensBy seen (Ok count) = ShowsKeys seen count ⊎ IsOld seen
-OpensBy seen (Err NotOurs) = ShowsFault seen adopting.NotOurs ⊎ ShowsNothing seen
-OpensBy seen (Err NewFormat) = ShowsFault seen adopting.NewFormat
+OpensBy seen (Err NotOurs) = ShowsFault seen NotOurs ⊎ ShowsNothing seen
+OpensBy seen (Err NewFormat) = ShowsFault seen NewFormat
 OpensBy seen (Err Damaged) = IsOld seen ⊎ LosesKeys seen
 OpensBy seen (Err (Device e)) = IsOfStore e ⊎ IsOld seen
 OpensBy seen (Err Memory) = Unit {0}

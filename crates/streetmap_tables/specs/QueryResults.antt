@@ -12,10 +12,10 @@ use Rattle.streetmap_rows.specs.Statements.{select_format}
 use Rattle.streetmap_tables.specs.Adoption.{serials_text, FindsFormat, FindsSerials, FindsKeys}
 use Rattle.streetmap_tables.specs.declared.adoption.Found.{Found}
 use Rattle.streetmap_tables.specs.declared.adoption.Found.TheVariants.{Keys, Unread, Other}
-use Rattle.streetmap_tables.specs.declared.adoption.AdoptFault.{AdoptFault}
-use Rattle.streetmap_tables.specs.declared.adoption.AdoptFault.TheVariants.{NotOurs, OldFormat}
-use Rattle.streetmap_tables.specs.declared.adoption.AdoptFault.TheVariants.{NewFormat, Damaged}
-use Rattle.streetmap_tables.specs.declared.adoption.AdoptFault.TheVariants.{Device, Memory}
+use Rattle.streetmap_tables.specs.declared.openings.OpenFault.{OpenFault}
+use Rattle.streetmap_tables.specs.declared.openings.OpenFault.TheVariants.{NotOurs, NewFormat}
+use Rattle.streetmap_tables.specs.declared.openings.OpenFault.TheVariants.{Damaged, Device}
+use Rattle.streetmap_tables.specs.declared.openings.OpenFault.TheVariants.{Memory}
 
 -- the number in a cell, if it is one
 abbrev pub number : Value → Option ℤ
@@ -64,10 +64,8 @@ IsFoundIn seen (Ok Unread) = LosesKeys seen
 IsFoundIn seen (Ok (Other format)) = ShowsFormat seen format × (format ≢ Some (pos 2))
 IsFoundIn seen (Err e) = (¬ (IsOfStore e)) → ShowsNothing seen
 
--- why tables of a format are not opened: format 1 is old, one above 2 is new, and none or one below
--- 1 is not ours
-abbrev pub IsRefusedFor : Option ℤ → AdoptFault → Type 0
-IsRefusedFor format OldFormat = format ≡ Some (pos 1)
+-- why tables of a format are refused: one above 2 is new, and none or one below 1 is not ours
+abbrev pub IsRefusedFor : Option ℤ → OpenFault → Type 0
 IsRefusedFor format NewFormat = (n : ℤ) × (format ≡ Some n) × (pos 2 <ℤ n)
 IsRefusedFor format NotOurs = (n : ℤ) → format ≡ Some n → n <ℤ pos 1
 IsRefusedFor format Damaged = ⊥
@@ -75,15 +73,15 @@ IsRefusedFor format (Device e) = ⊥
 IsRefusedFor format Memory = ⊥
 
 -- tables are refused for a format that the query shows
-abbrev pub ShowsFault : Seen → AdoptFault → Type 0
+abbrev pub ShowsFault : Seen → OpenFault → Type 0
 ShowsFault seen fault = (format : Option ℤ) × IsRefusedFor format fault × ShowsFormat seen format
 
 -- The result is what the queries show, whatever the tables are; but the store may fail, or memory
 -- may run out.
-abbrev pub AdoptsBy : Seen → Result ℕ AdoptFault → Type 0
-AdoptsBy seen (Ok count) = ShowsKeys seen count
+abbrev pub AdoptsBy : Seen → Result (Option ℕ) OpenFault → Type 0
+AdoptsBy seen (Ok (Some count)) = ShowsKeys seen count
+AdoptsBy seen (Ok None) = ShowsFormat seen (Some (pos 1))
 AdoptsBy seen (Err NotOurs) = ShowsFault seen NotOurs ⊎ ShowsNothing seen
-AdoptsBy seen (Err OldFormat) = ShowsFault seen OldFormat
 AdoptsBy seen (Err NewFormat) = ShowsFault seen NewFormat
 AdoptsBy seen (Err Damaged) = LosesKeys seen
 AdoptsBy seen (Err (Device e)) = IsOfStore e

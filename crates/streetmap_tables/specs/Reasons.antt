@@ -4,8 +4,6 @@ use Rattle.sqlite.specs.State.{State as Seen}
 use Rattle.streetmap_rows.specs.Failures.{HasReason}
 use Rattle.streetmap_rows.specs.declared.fault.ReadFault.{ReadFault}
 use Rattle.streetmap_rows.specs.declared.fault.ReadFault.TheVariants as read
-use Rattle.streetmap_tables.specs.declared.adoption.AdoptFault.{AdoptFault}
-use Rattle.streetmap_tables.specs.declared.adoption.AdoptFault.TheVariants as adopting
 use Rattle.streetmap_tables.specs.declared.openings.OpenFault.{OpenFault}
 use Rattle.streetmap_tables.specs.declared.openings.OpenFault.TheVariants as opening
 
@@ -30,14 +28,6 @@ IsReturnedFor old new fault (opening.Device e) = (fault ≡ read.Store e) ⊎ Ha
 IsReturnedFor old new fault opening.Memory = Unit {0}
 
 -- the error of the store that is returned arose between these two for a reason
-abbrev pub AdoptsFor : Seen → Seen → AdoptFault → Type 0
-AdoptsFor old new adopting.NotOurs = Unit {0}
-AdoptsFor old new adopting.OldFormat = Unit {0}
-AdoptsFor old new adopting.NewFormat = Unit {0}
-AdoptsFor old new adopting.Damaged = Unit {0}
-AdoptsFor old new (adopting.Device e) = HasReason old new e
-AdoptsFor old new adopting.Memory = Unit {0}
-
 abbrev pub OpensFor : Seen → Seen → OpenFault → Type 0
 OpensFor old new opening.NotOurs = Unit {0}
 OpensFor old new opening.NewFormat = Unit {0}

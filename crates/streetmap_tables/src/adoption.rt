@@ -1,36 +1,21 @@
 //! Opening existing tables: the format row is read, and one row for each accepted batch.
-ghost use Rattle.std.specs.Prelude.{◌≡◌, ◌≢◌, IfErr, MatchResult, Some, pos, false, IsTrue};
+ghost use Rattle.std.specs.Prelude.{◌≡◌, ◌≢◌, IfErr, IfSome, MatchResult, None, Some, pos, false};
+ghost use Rattle.std.specs.Prelude.{IsTrue};
 ghost use Rattle.sqlite.specs.Held.{state};
 ghost use Rattle.sqlite.specs.State.{HasCleanDisk, KeepsCommit, Survives};
 ghost use Rattle.streetmap_ledger.specs.State.{State};
 ghost use Rattle.streetmap_rows.specs.Failures.{HasReason, IsOfStore};
-ghost use Rattle.streetmap_tables.specs.Reasons.{AdoptsFor};
+ghost use Rattle.streetmap_tables.specs.Reasons.{OpensFor};
 ghost use Rattle.streetmap_rows.specs.KeptStates.{Rests};
 ghost use Rattle.streetmap_tables.specs.Adoption.{FindsKeys, IsAsItWas, StaysOpen, Adopts};
 ghost use Rattle.streetmap_tables.specs.QueryResults.{format_in, IsFoundIn, IsRefusedFor, AdoptsBy};
 ghost use Rattle.streetmap_tables.specs.QueryResults.{ReadsFormat, ReadsSerials, FindsBatches};
 ghost use Rattle.streetmap_rows.specs.TransactionCalls.{RunsInside, StaysInside};
 
+use crate::openings::OpenFault;
 use sqlite::types::ValueRef;
 use sqlite::{Alter, Connection, Error, Row, Transaction};
 use streetmap_rows::{Shut, Stop, is_of_store, probe, settle};
-
-/// Why tables were not opened.
-#[derive(Drop)]
-pub enum AdoptFault {
-    /// `not_ours`: no format row is one of this product.
-    NotOurs,
-    /// `old_format`: the format is 1.
-    OldFormat,
-    /// `new_format`: the format is above 2.
-    NewFormat,
-    /// `damaged`: the format is 2, and the query for the batches is refused.
-    Damaged,
-    /// `device`: the store failed, or has no room; the error that reported it.
-    Device(Error),
-    /// `memory`: out of memory.
-    Memory,
-}
 
 /// What was found in a connection.
 #[derive(Drop)]
@@ -125,34 +110,36 @@ fn find_alone<S: Alter>(conn: &mut Connection<S>) -> Result<Found, Error>
     found
 }
 
-/// Why tables of another format are not opened.
-fn refusal_of(format: Option<i64>) -> AdoptFault
-    ensures { format ≢ Some (pos 2) → IsRefusedFor format result }
+/// Why tables of another format are refused; none if it is 1.
+fn refusal_of(format: Option<i64>) -> Option<OpenFault>
+    ensures old { result ≡ None → format ≡ Some (pos 1) }
+    ensures refused { format ≢ Some (pos 2) → IfSome result (IsRefusedFor format) }
 {
     match format {
-        Some(1) => AdoptFault::OldFormat,
-        Some(format) if format > 2 => AdoptFault::NewFormat,
-        _ => AdoptFault::NotOurs,
+        Some(1) => None,
+        Some(format) if format > 2 => Some(OpenFault::NewFormat),
+        _ => Some(OpenFault::NotOurs),
     }
 }
 
-/// Opens the tables that a connection has, and returns how many batches they have accepted.
+/// Opens the tables that a connection has, and returns how many batches they have accepted; none if
+/// their format is 1.
 ///
 /// It writes nothing: in every case the connection holds what it held, and a crash can leave no
 /// more than before. The connection must have no step limit.
 ///
 /// # Errors
 ///
-/// `OldFormat` for format 1 and `NewFormat` for a format above 2; `NotOurs` for any other format,
-/// if they have no format row, and if the query for it is refused; `Damaged` if the format is 2 and
-/// the query for the batches is refused; `Memory` if memory runs out and the connection is open;
-/// `Device` if the store fails, with its error. `probe` checks that the connection is open before
-/// the number of batches or `OldFormat` is returned, and after memory ran out. If `probe` runs out
-/// of memory too, the result is `Device` with that error.
-pub fn adopt_tables<S: Alter>(conn: &mut Connection<S>) -> Result<u64, AdoptFault>
+/// `NewFormat` for a format above 2; `NotOurs` for any other than 1 and 2, if they have no format
+/// row, and if the query for it is refused; `Damaged` if the format is 2 and the query for the
+/// batches is refused; `Memory` if memory runs out and the connection is open; `Device` if the
+/// store fails, with its error. `probe` checks that the connection is open before the number of
+/// batches or none is returned, and after memory ran out. If `probe` runs out of memory too, the
+/// result is `Device` with that error.
+pub fn adopt_tables<S: Alter>(conn: &mut Connection<S>) -> Result<Option<u64>, OpenFault>
     requires { conn.old.in_transaction ≡ false }
     ensures reason { HasCleanDisk (state S.Store conn.new) →
-        IfErr result (AdoptsFor (state S.Store conn.old) (state S.Store conn.new)) }
+        IfErr result (OpensFor (state S.Store conn.old) (state S.Store conn.new)) }
     ensures idle { conn.new.in_transaction ≡ false }
     ensures survives { Survives (state S.Store conn.old) (state S.Store conn.new) (λ _. ⊥) }
     ensures same { HasCleanDisk (state S.Store conn.new)
@@ -167,19 +154,21 @@ pub fn adopt_tables<S: Alter>(conn: &mut Connection<S>) -> Result<u64, AdoptFaul
 {
     match find_alone(conn) {
         Ok(Found::Keys(count)) => match probe(conn) {
-            Ok(()) => Ok(count),
-            Err(error) => Err(AdoptFault::Device(error)),
+            Ok(()) => Ok(Some(count)),
+            Err(error) => Err(OpenFault::Device(error)),
         },
-        Ok(Found::Unread) => Err(AdoptFault::Damaged),
-        Ok(Found::Other(Some(1))) => match probe(conn) {
-            Ok(()) => Err(AdoptFault::OldFormat),
-            Err(error) => Err(AdoptFault::Device(error)),
+        Ok(Found::Unread) => Err(OpenFault::Damaged),
+        Ok(Found::Other(format)) => match refusal_of(format) {
+            Some(fault) => Err(fault),
+            None => match probe(conn) {
+                Ok(()) => Ok(None),
+                Err(error) => Err(OpenFault::Device(error)),
+            },
         },
-        Ok(Found::Other(format)) => Err(refusal_of(format)),
         Err(error) => match settle(conn, error) {
-            Stop::Memory => Err(AdoptFault::Memory),
-            Stop::Closed(Shut::Device(error)) => Err(AdoptFault::Device(error)),
-            Stop::Closed(Shut::Damaged) => Err(AdoptFault::NotOurs),
+            Stop::Memory => Err(OpenFault::Memory),
+            Stop::Closed(Shut::Device(error)) => Err(OpenFault::Device(error)),
+            Stop::Closed(Shut::Damaged) => Err(OpenFault::NotOurs),
         },
     }
 }

@@ -35,7 +35,7 @@ mod recreation;
 mod stored_features;
 mod times;
 
-pub use adoption::{AdoptFault, adopt_tables};
+pub use adoption::adopt_tables;
 pub use batch::apply_batch;
 pub use creation::{CreateFault, make_tables};
 pub use migration::carry_tables;

@@ -5,16 +5,16 @@ ghost use Rattle.sqlite.specs.State.{HasCleanDisk};
 ghost use Rattle.sqlite.specs.View.{doubt};
 ghost use Rattle.streetmap_ledger.specs.State.{State};
 ghost use Rattle.streetmap_rows.specs.KeptStates.{Rests};
-ghost use Rattle.streetmap_tables.specs.Adoption.{IsAsItWas};
+ghost use Rattle.streetmap_tables.specs.Adoption.{IsAsItWas, Opens};
 ghost use Rattle.streetmap_tables.specs.Creation.{KeepsOtherTables};
 ghost use Rattle.streetmap_tables.specs.Old.{RestsOld};
 ghost use Rattle.streetmap_tables.specs.Reasons.{OpensFor};
 ghost use Rattle.streetmap_tables.specs.QueryResults.{ShowsKeys};
 ghost use Rattle.streetmap_tables.specs.Part.{HasCarried};
 ghost use Rattle.streetmap_tables.specs.Migration.{UntouchedUnlessFormat1, KeepsNoMore, MayCarry};
-ghost use Rattle.streetmap_tables.specs.Migration.{Carries, Opens, OpensBy};
+ghost use Rattle.streetmap_tables.specs.Migration.{Carries, OpensBy};
 
-use crate::adoption::{AdoptFault, adopt_tables};
+use crate::adoption::adopt_tables;
 use crate::migration::carry_tables;
 use sqlite::{Alter, Connection, Error};
 use std::alloc::Global;
@@ -89,12 +89,8 @@ pub fn open_tables<S: Alter>(alloc: Global, conn: &mut Connection<S>) -> Result<
     // Between two transactions the connection holds what was committed.
     let _idle = conn.is_autocommit();
     match adopt_tables(conn) {
-        Ok(count) => Ok(count),
-        Err(AdoptFault::OldFormat) => carry_tables(alloc, conn),
-        Err(AdoptFault::NotOurs) => Err(OpenFault::NotOurs),
-        Err(AdoptFault::NewFormat) => Err(OpenFault::NewFormat),
-        Err(AdoptFault::Damaged) => Err(OpenFault::Damaged),
-        Err(AdoptFault::Device(error)) => Err(OpenFault::Device(error)),
-        Err(AdoptFault::Memory) => Err(OpenFault::Memory),
+        Ok(Some(count)) => Ok(count),
+        Ok(None) => carry_tables(alloc, conn),
+        Err(fault) => Err(fault),
     }
 }
