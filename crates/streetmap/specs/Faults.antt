@@ -15,8 +15,9 @@ use Rattle.streetmap_tables.specs.declared.creation.CreateFault.{CreateFault}
 use Rattle.streetmap_tables.specs.declared.creation.CreateFault.TheVariants as creation
 use Rattle.streetmap_tables.specs.declared.openings.OpenFault.{OpenFault}
 use Rattle.streetmap_tables.specs.declared.openings.OpenFault.TheVariants as opening
-use Rattle.streetmap_checking.specs.declared.check.CheckFault.{CheckFault}
-use Rattle.streetmap_checking.specs.declared.check.CheckFault.TheVariants as checking
+use Rattle.streetmap_rows.specs.declared.failures.Stop.{Stop}
+use Rattle.streetmap_rows.specs.declared.failures.Stop.TheVariants as stops
+use Rattle.streetmap_rows.specs.declared.failures.Shut.TheVariants as shuts
 use Rattle.streetmap_web.specs.declared.turns.End.{End}
 use Rattle.streetmap_web.specs.declared.turns.End.TheVariants as stream
 use Rattle.streetmap_replay.specs.declared.fault.ReplayFault.{ReplayFault}
@@ -107,10 +108,10 @@ fault_of_replay (replay.Batch serial) = NotReplayed (Some serial)
 fault_of_replay (replay.Collection name) = NotReplayed None
 
 -- if the rows of a file are not a state's
-abbrev pub fault_of_check : CheckFault → ProgramFault
-fault_of_check checking.Damaged = Damaged
-fault_of_check (checking.Device error) = Device
-fault_of_check checking.Memory = Memory
+abbrev pub fault_of_check : Stop → ProgramFault
+fault_of_check (stops.Closed shuts.Damaged) = Damaged
+fault_of_check (stops.Closed (shuts.Device error)) = Device
+fault_of_check stops.Memory = Memory
 
 -- after a stream of requests
 abbrev pub end_of_stream : End → Result (Unit {0}) ProgramFault

@@ -18,8 +18,8 @@ pub(crate) fn check<S: Alter + Drop>(
     rt: &HostRuntime,
     keeper: TableKeeper<S>,
 ) -> Result<(), ProgramFault> {
-    let totals = check_tables(rt.alloc(), &mut keeper.release()).map_err(|refused| fault::of_check(
-        &refused,
+    let totals = check_tables(rt.alloc(), &mut keeper.release()).map_err(|stop| fault::of_check(
+        stop,
     ))?;
     println!(rt;
         "ok {} {} {}",

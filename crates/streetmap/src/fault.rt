@@ -9,7 +9,7 @@ ghost use Rattle.streetmap.specs.Faults.{fault_of_store, fault_of_file, fault_of
 
 use sqlite::{Error as StoreError, ErrorCode};
 use std::io::{Error, ErrorKind};
-use streetmap_checking::CheckFault;
+use streetmap_checking::{Shut, Stop};
 use streetmap_faults::ProgramFault;
 use streetmap_journal::StartFault;
 use streetmap_ledger::Fault;
@@ -148,13 +148,13 @@ pub(crate) fn of_keeper(fault: Fault) -> ProgramFault
 }
 
 /// The fault of rows that are not a state's.
-pub(crate) fn of_check(fault: &CheckFault) -> ProgramFault
-    ensures { result ≡ fault_of_check fault.now }
+pub(crate) fn of_check(stop: Stop) -> ProgramFault
+    ensures { result ≡ fault_of_check stop }
 {
-    match fault {
-        CheckFault::Damaged => ProgramFault::Damaged,
-        CheckFault::Device(_) => ProgramFault::Device,
-        CheckFault::Memory => ProgramFault::Memory,
+    match stop {
+        Stop::Closed(Shut::Damaged) => ProgramFault::Damaged,
+        Stop::Closed(Shut::Device(_)) => ProgramFault::Device,
+        Stop::Memory => ProgramFault::Memory,
     }
 }
 

@@ -1,5 +1,5 @@
 -- The tables of a state show good rows, as many as it has.
-use Rattle.std.proofs.Common.{◌≡◌, ◌≢◌, ◌≤◌, ◌&&◌, Bool, true, false, T, inl, inr, ℕ, List, [], ◌∷◌, map, length, Some, refl, sym, ap, subst, ◌∙◌, arith}
+use Rattle.std.proofs.Common.{◌≡◌, ◌≢◌, ◌≤◌, ◌&&◌, Bool, true, false, T, IsTrue, inl, inr, ℕ, List, [], ◌∷◌, map, length, Err, Some, refl, sym, ap, subst, ◌∙◌, arith}
 use Rattle.std.specs.List.{AllByRecursion}
 use Rattle.std.specs.Ordering.{is_lt}
 use Rattle.std.specs.FinMap.{get, len, entries, entries_sorted, get-entries, len-entries, is_sorted}
@@ -20,16 +20,21 @@ use Rattle.streetmap_ledger.specs.WellFormed.{IsState}
 use Rattle.streetmap_reading.proofs.ShownOutlines.{collections_at, found_each}
 use Rattle.sqlite.specs.declared.error.Error.{Error}
 use Rattle.streetmap_rows.specs.Failures.{IsOfStore, HasReason}
+use Rattle.streetmap_rows.specs.CallEnds.{Settles}
+use Rattle.streetmap_rows.specs.declared.failures.Stop.{Stop}
+use Rattle.streetmap_rows.specs.declared.failures.Stop.TheVariants.{Memory, Closed}
+use Rattle.streetmap_rows.specs.declared.failures.Shut.TheVariants.{Device, Damaged}
 use Rattle.streetmap_rows.specs.declared.fault.ReadFault.{ReadFault}
 use Rattle.streetmap_rows.specs.declared.fault.ReadFault.TheVariants.{Store, Unread}
 use Rattle.streetmap_rows.specs.KeptStates.{Rests}
+use Rattle.streetmap_tables.specs.Adoption.{IsAsItWas}
 use Rattle.streetmap_rows.specs.Rows.{collection_cells, batch_cells}
 use Rattle.streetmap_rows.specs.Statements.{select_collections}
 use Rattle.streetmap_rows.proofs.OrderedRows.{find_has, mapped_has}
 use Rattle.streetmap_checking.specs.Statements.{select_formats, select_features, select_owners, select_batches}
 use Rattle.streetmap_checking.specs.Good.{CollectionHead, head_cells, IsCollectionHead, feature_view, AreFormatRows, AreCollectionRows, AreFeatureRows, AreOwnerRows, AreBatchRows, serials_of}
 use Rattle.streetmap_checking.specs.QueryResults.{Known, IsNotShown, ShowsWhy, SeesCollections, SeesAllFeatures}
-use Rattle.streetmap_checking.specs.CheckResults.{ShowsTotals, IsDamaged, by_format, by_collections, by_features, by_owners, by_batches, AreTotals, feature_count}
+use Rattle.streetmap_checking.specs.CheckResults.{ShowsTotals, IsDamaged, by_format, by_collections, by_features, by_owners, by_batches, AreTotals, feature_count, ChecksBy, ChecksState}
 use Rattle.streetmap_checking.specs.declared.check.Totals.{Totals}
 use Rattle.streetmap_checking.proofs.Only.{only_of, only_so, sees_good, not_none}
 use Rattle.streetmap_checking.proofs.RowCells.{name_of_cells, time_of_cells}
@@ -198,7 +203,26 @@ damaged_reported old new fault is h = (subst (ShowsWhy (IsDamaged old) old new) 
 pub refused_reported : (old new : Seen) (fault : ReadFault) (e : Error) → fault ≡ Store e → ShowsWhy (IsDamaged old) old new fault → (IsOfStore e → ⊥) → IsDamaged old
 refused_reported old new fault e is h other = (subst (ShowsWhy (IsDamaged old) old new) is h).0 other
 
+-- an open connection that held what was committed still holds it
+pub same_so_far : (old new : Seen) (fault : ReadFault) (e : Error) → fault ≡ Store e
+    → ShowsWhy (IsDamaged old) old new fault → IsAsItWas old new
+same_so_far old new fault e is h = (subst (ShowsWhy (IsDamaged old) old new) is h).1
+
 -- the reason of an error that a read reported
 pub refused_for : (old new : Seen) (fault : ReadFault) (e : Error) → fault ≡ Store e
     → ShowsWhy (IsDamaged old) old new fault → HasReason old new e
 refused_for old new fault e is h = (subst (ShowsWhy (IsDamaged old) old new) is h).2
+
+-- ---- why a check gave up
+
+-- by the end of the call that settled it
+pub settled_by : (old mid new : Seen) (e : Error) (it : Stop) → ((IsOfStore e → ⊥) → IsDamaged old) → Settles e mid new it → ChecksBy old (Err it)
+settled_by old mid new e Memory refused ends = tt
+settled_by old mid new e (Closed (Device x)) refused ends = ends.0
+settled_by old mid new e (Closed Damaged) refused ends = refused ends
+
+-- on the tables of a state, which are not damaged
+pub stopped_on : (s : State) (old new : Seen) (it : Stop) → ChecksBy old (Err it) → (IsDamaged old → ⊥) → (IsTrue new.is_open → Rests new s) → (it ≡ Memory → IsTrue new.is_open) → ChecksState s old new (Err it)
+stopped_on s old new Memory by never rests live = rests (live refl)
+stopped_on s old new (Closed (Device x)) by never rests live = rests
+stopped_on s old new (Closed Damaged) by never rests live = never by

@@ -15,16 +15,16 @@ use Rattle.std.specs.FinMap.{len, entries}
 use Rattle.sqlite.specs.State.{State as Seen}
 use Rattle.streetmap_batch.specs.Text.{Text}
 use Rattle.streetmap_ledger.specs.State.{State, Collection}
-use Rattle.streetmap_rows.specs.Failures.{IsOfStore, HasReason}
+use Rattle.streetmap_rows.specs.Failures.{IsOfStore}
+use Rattle.streetmap_rows.specs.declared.failures.Stop.{Stop}
+use Rattle.streetmap_rows.specs.declared.failures.Stop.TheVariants.{Memory, Closed}
+use Rattle.streetmap_rows.specs.declared.failures.Shut.TheVariants.{Device, Damaged}
 use Rattle.streetmap_rows.specs.KeptStates.{Rests}
 use Rattle.streetmap_checking.specs.QueryResults.{Known, SeesFormat, SeesCollections}
 use Rattle.streetmap_checking.specs.QueryResults.{SeesAllFeatures}
 use Rattle.streetmap_checking.specs.QueryResults.{SeesOwners, SeesBatches, NoFormat, NoCollections}
 use Rattle.streetmap_checking.specs.QueryResults.{NoFeaturesOfAll, NoOwners, NoBatches}
 use Rattle.streetmap_checking.specs.declared.check.Totals.{Totals}
-use Rattle.streetmap_checking.specs.declared.check.CheckFault.{CheckFault}
-use Rattle.streetmap_checking.specs.declared.check.CheckFault.TheVariants.{Damaged, Device}
-use Rattle.streetmap_checking.specs.declared.check.CheckFault.TheVariants.{Memory}
 
 -- the rows that are shown are good, and their numbers are these totals
 pub record ShowsTotals (totals : Totals) (seen : Seen) : Type 0 where
@@ -81,22 +81,16 @@ pub record IsOfState (totals : Totals) (seen : Seen) : Type 0 where
 
 -- The result is what the queries show, whatever the tables are; but the store may fail, or memory
 -- may run out.
-abbrev pub ChecksBy : Seen → Result Totals CheckFault → Type 0
+abbrev pub ChecksBy : Seen → Result Totals Stop → Type 0
 ChecksBy seen (Ok totals) = IsOfState totals seen
-ChecksBy seen (Err Damaged) = IsDamaged seen
-ChecksBy seen (Err (Device e)) = IsOfStore e
+ChecksBy seen (Err (Closed Damaged)) = IsDamaged seen
+ChecksBy seen (Err (Closed (Device e))) = IsOfStore e
 ChecksBy seen (Err Memory) = Unit {0}
-
--- an error of the store that is returned arose between these two for a reason
-abbrev pub ChecksFor : Seen → Seen → CheckFault → Type 0
-ChecksFor old new Damaged = Unit {0}
-ChecksFor old new (Device e) = HasReason old new e
-ChecksFor old new Memory = Unit {0}
 
 -- The tables of a state are never damaged: the numbers are its own, and the connection rests at it.
 -- But the store may fail, or memory may run out, which changes nothing.
-abbrev pub ChecksState : State → Seen → Seen → Result Totals CheckFault → Type 0
+abbrev pub ChecksState : State → Seen → Seen → Result Totals Stop → Type 0
 ChecksState s old new (Ok totals) = AreTotals s totals × Rests new s
 ChecksState s old new (Err Memory) = Rests new s
-ChecksState s old new (Err (Device e)) = IsTrue new.is_open → Rests new s
-ChecksState s old new (Err Damaged) = ⊥
+ChecksState s old new (Err (Closed (Device e))) = IsTrue new.is_open → Rests new s
+ChecksState s old new (Err (Closed Damaged)) = ⊥

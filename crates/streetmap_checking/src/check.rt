@@ -8,13 +8,14 @@ ghost use Rattle.streetmap_rows.specs.KeptStates.{Rests};
 ghost use Rattle.streetmap_tables.specs.Adoption.{IsAsItWas};
 ghost use Rattle.streetmap_checking.specs.QueryResults.{ShowsOrWhyNot};
 ghost use Rattle.streetmap_checking.specs.CheckResults.{ShowsState, ShowsTotals, IsDamaged};
-ghost use Rattle.streetmap_checking.specs.CheckResults.{ChecksBy, ChecksFor, ChecksState};
+ghost use Rattle.streetmap_checking.specs.CheckResults.{ChecksBy, ChecksState};
+ghost use Rattle.streetmap_rows.specs.CallEnds.{StopsFor};
 ghost use Rattle.streetmap_rows.specs.TableReads.{Queries};
 
 use crate::queries::{
     check_all_features, check_batches, check_collections, check_format, check_owners,
 };
-use sqlite::{Alter, Connection, Error};
+use sqlite::{Alter, Connection};
 use std::alloc::Global;
 use streetmap_rows::{ReadFault, Shut, Stop, settle};
 
@@ -25,17 +26,6 @@ pub struct Totals {
     /// The features of all collections.
     pub features: u64,
     pub batches: u64,
-}
-
-/// Why a check returned no totals.
-#[derive(Drop)]
-pub enum CheckFault {
-    /// `damaged`: the rows are not those of a ledger.
-    Damaged,
-    /// `device`: the store failed, or has no room; the error that reported it.
-    Device(Error),
-    /// `memory`: memory ran out, or a count had no number left.
-    Memory,
 }
 
 /// The totals, or the fault that a read met.
@@ -65,17 +55,18 @@ fn read_all_tables<S: Alter>(alloc: Global, conn: &mut Connection<S>) -> Result<
 ///
 /// # Errors
 ///
-/// `Damaged` if a statement is refused or shows rows that are not those of a ledger; `Memory` if
-/// memory runs out, or a count has no number left, and the connection is open; `Device` if the
-/// store fails, with its error, or if memory runs out again while the connection is checked.
-pub fn check_tables<S: Alter>(alloc: Global, conn: &mut Connection<S>) -> Result<Totals, CheckFault>
+/// `Closed(Damaged)` if a statement is refused or shows rows that are not those of a ledger;
+/// `Memory` if memory runs out, or a count has no number left, and the connection is open;
+/// `Closed(Device)` if the store fails, with its error, or if memory runs out again while the
+/// connection is checked.
+pub fn check_tables<S: Alter>(alloc: Global, conn: &mut Connection<S>) -> Result<Totals, Stop>
     requires { conn.old.in_transaction ≡ false }
     ensures idle { conn.new.in_transaction ≡ false }
     ensures survives { Survives (state S.Store conn.old) (state S.Store conn.new) (λ _. ⊥) }
     ensures same { HasCleanDisk (state S.Store conn.new)
         → IsAsItWas (state S.Store conn.old) (state S.Store conn.new) }
     ensures reason { HasCleanDisk (state S.Store conn.new) →
-        IfErr result (ChecksFor (state S.Store conn.old) (state S.Store conn.new)) }
+        IfErr result (StopsFor (state S.Store conn.old) (state S.Store conn.new)) }
     ensures reports { HasCleanDisk (state S.Store conn.new)
         → ChecksBy (state S.Store conn.old) result }
     ensures checks { HasCleanDisk (state S.Store conn.new) → (s : State)
@@ -84,13 +75,9 @@ pub fn check_tables<S: Alter>(alloc: Global, conn: &mut Connection<S>) -> Result
 {
     match read_all_tables(alloc, conn) {
         Ok(totals) => Ok(totals),
-        Err(ReadFault::Memory) => Err(CheckFault::Memory),
-        Err(ReadFault::Unread) => Err(CheckFault::Damaged),
-        Err(ReadFault::Store(error)) => match settle(conn, error) {
-            Stop::Memory => Err(CheckFault::Memory),
-            Stop::Closed(Shut::Device(error)) => Err(CheckFault::Device(error)),
-            Stop::Closed(Shut::Damaged) => Err(CheckFault::Damaged),
-        },
+        Err(ReadFault::Memory) => Err(Stop::Memory),
+        Err(ReadFault::Unread) => Err(Stop::Closed(Shut::Damaged)),
+        Err(ReadFault::Store(error)) => Err(settle(conn, error)),
     }
 }
 

@@ -19,4 +19,5 @@ mod formats;
 mod owners;
 mod queries;
 
-pub use check::{CheckFault, Totals, check_tables, shown_state_is_kept};
+pub use check::{Totals, check_tables, shown_state_is_kept};
+pub use streetmap_rows::{Shut, Stop};
