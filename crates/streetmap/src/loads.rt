@@ -71,8 +71,8 @@ impl<W: Write> Listener for LoadLines<'_, W> {
 fn scale_of(requested: LoadArguments<'_>) -> Result<Option<Scale>, ProgramFault> {
     match requested.scale {
         Some(text) => match Scale::read(text.as_bytes()) {
-            Ok(scale) => Ok(Some(scale)),
-            Err(_) => Err(ProgramFault::Usage),
+            Some(scale) => Ok(Some(scale)),
+            None => Err(ProgramFault::Usage),
         },
         None => Ok(None),
     }
@@ -82,8 +82,8 @@ fn scale_of(requested: LoadArguments<'_>) -> Result<Option<Scale>, ProgramFault>
 fn shift_of(requested: LoadArguments<'_>) -> Result<Option<Shift>, ProgramFault> {
     match requested.shift {
         Some(text) => match Shift::read(text.as_bytes()) {
-            Ok(shift) => Ok(Some(shift)),
-            Err(_) => Err(ProgramFault::Usage),
+            Some(shift) => Ok(Some(shift)),
+            None => Err(ProgramFault::Usage),
         },
         None => Ok(None),
     }

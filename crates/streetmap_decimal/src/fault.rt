@@ -13,14 +13,3 @@ pub enum DecimalFault {
     /// The number does not give a whole number, and is not to be rounded.
     Fraction,
 }
-
-/// Why the text of an option is refused.
-#[derive(Clone, Copy, PartialEq, Eq, Drop)]
-pub enum OptionFault {
-    /// The text of a scale is not a number above 0 that is a whole multiple of 10^-9 below 10^27,
-    /// or has more than 38 characters.
-    BadScale,
-    /// The text of a shift is not two numbers with a comma between them, each a whole multiple of
-    /// 10^-18 below 10^18 of at most 38 characters.
-    BadShift,
-}

@@ -31,7 +31,7 @@ mod scale;
 mod shift;
 
 pub use axis::Axis;
-pub use fault::{DecimalFault, OptionFault};
+pub use fault::DecimalFault;
 pub use placement::Placement;
 pub use rounding::Rounding;
 pub use scale::Scale;

@@ -2,7 +2,6 @@
 ghost use Rattle.std.specs.Prelude.{◌<◌, ◌≤◌, ◌^◌, pos, ◌<ℤ◌, unsigned_abs};
 
 use crate::decimal::Decimal;
-use crate::fault::OptionFault;
 
 /// The decimal places that are kept of the scale.
 const SCALE_PLACES: u8 = 9;
@@ -35,16 +34,14 @@ impl Scale {
 
     /// The scale of a text, such as `1000` for a map in metres and `304.8` for one in feet.
     ///
-    /// # Errors
-    ///
-    /// `BadScale` if the text is not a number (RFC 8259, section 6), has more than 38 characters,
-    /// or the number is 0 or less, not a whole multiple of 10^-9, or 10^27 or more.
-    pub fn read(text: &[u8]) -> Result<Scale, OptionFault>
+    /// None if the text is not a number (RFC 8259, section 6), has more than 38 characters, or the
+    /// number is 0 or less, not a whole multiple of 10^-9, or 10^27 or more.
+    pub fn read(text: &[u8]) -> Option<Scale>
         ensures { ReadsScale text.now result }
     {
         match Decimal::count_of_option(text, SCALE_PLACES) {
-            Some(count) if count >= LEAST => Ok(Scale { count }),
-            _ => Err(OptionFault::BadScale),
+            Some(count) if count >= LEAST => Some(Scale { count }),
+            _ => None,
         }
     }
 }

@@ -4,7 +4,6 @@ ghost use Rattle.std.specs.List.{position_or_len};
 ghost use Rattle.streetmap_decimal.specs.Options.{is_comma};
 
 use crate::decimal::{COORDINATE_PLACES, Decimal};
-use crate::fault::OptionFault;
 
 /// Which position of a map is the grid's 0,0, counted in 10^-18 of the map's unit.
 #[derive(Clone, Copy, PartialEq, Eq)]
@@ -35,23 +34,21 @@ impl Shift {
     /// The shift of a text: an easting and a northing with a comma between them, such as
     /// `412000,5811000.5`.
     ///
-    /// # Errors
-    ///
-    /// `BadShift` if the text has no comma, the part before its first comma or after it is not a
-    /// number (RFC 8259, section 6) or has more than 38 characters, or a number is not a whole
-    /// multiple of 10^-18, or is 10^18 or more.
-    pub fn read(text: &[u8]) -> Result<Shift, OptionFault>
+    /// None if the text has no comma, the part before its first comma or after it is not a number
+    /// (RFC 8259, section 6) or has more than 38 characters, or a number is not a whole multiple of
+    /// 10^-18, or is 10^18 or more.
+    pub fn read(text: &[u8]) -> Option<Shift>
         ensures { ReadsShift text.now result }
     {
         let comma = comma_or_len(text);
         if comma == text.len() {
-            return Err(OptionFault::BadShift);
+            return None;
         }
         let easting = Decimal::count_of_option(&text[..comma], COORDINATE_PLACES);
         let northing = Decimal::count_of_option(&text[comma + 1..], COORDINATE_PLACES);
         match (easting, northing) {
-            (Some(easting), Some(northing)) => Ok(Shift { easting, northing }),
-            _ => Err(OptionFault::BadShift),
+            (Some(easting), Some(northing)) => Some(Shift { easting, northing }),
+            _ => None,
         }
     }
 }
