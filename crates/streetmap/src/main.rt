@@ -56,7 +56,7 @@ fn perform(rt: &HostRuntime, command: Command<'_>) -> Result<(), ProgramFault> {
         Command::Lines => Ok(lines::run(rt)?),
         Command::Create { file } => files::create(rt, file),
         Command::Pipe { file, base } => {
-            let base = Base::new(rt.alloc(), base.as_str())?;
+            let base = Base::new(rt.alloc(), base.as_str())?.ok_or(ProgramFault::BadBase)?;
             files::pipe(rt, file, base)
         }
         Command::Serve {
@@ -65,7 +65,7 @@ fn perform(rt: &HostRuntime, command: Command<'_>) -> Result<(), ProgramFault> {
             base,
             journal,
         } => {
-            let base = Base::new(rt.alloc(), base.as_str())?;
+            let base = Base::new(rt.alloc(), base.as_str())?.ok_or(ProgramFault::BadBase)?;
             files::serve(rt, file, connections, base, journal)
         }
         Command::Import { file, import } => files::import(rt, file, import),

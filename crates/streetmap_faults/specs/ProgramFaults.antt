@@ -3,8 +3,6 @@ use Rattle.std.specs.Prelude.{ℕ, [], ◌++◌, codes, decimal, Option, None, S
 use Rattle.streetmap_batch.specs.Text.{Text}
 use Rattle.streetmap_lines.specs.declared.fault.LinesFault.{LinesFault}
 use Rattle.streetmap_lines.specs.declared.fault.LinesFault.TheVariants as lines
-use Rattle.streetmap_routes.specs.declared.base.BaseFault.{BaseFault}
-use Rattle.streetmap_routes.specs.declared.base.BaseFault.TheVariants as base
 use Rattle.streetmap_connections.specs.declared.serve.ServeFault.{ServeFault}
 use Rattle.streetmap_connections.specs.declared.serve.ServeFault.TheVariants as serve
 use Rattle.streetmap_command.specs.declared.command.CommandFault.{CommandFault}
@@ -89,11 +87,6 @@ sentence_of fault = sentence_said (report_of fault)
 abbrev pub fault_of_command : CommandFault → ProgramFault
 fault_of_command command.Usage = program.Usage
 fault_of_command command.Memory = program.Memory
-
--- if no base can be made
-abbrev pub fault_of_base : BaseFault → ProgramFault
-fault_of_base base.BadBase = program.BadBase
-fault_of_base base.Memory = program.Memory
 
 -- if lines are not answered to their end
 abbrev pub fault_of_lines : LinesFault → ProgramFault

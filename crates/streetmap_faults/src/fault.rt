@@ -1,6 +1,6 @@
 //! What the program ends with when it is not done.
 ghost use Rattle.std.specs.Prelude.{◌≡◌};
-ghost use Rattle.streetmap_faults.specs.ProgramFaults.{fault_of_command, fault_of_base};
+ghost use Rattle.streetmap_faults.specs.ProgramFaults.{fault_of_command};
 ghost use Rattle.streetmap_faults.specs.ProgramFaults.{fault_of_lines, fault_of_serve};
 
 use std::alloc::AllocError;
@@ -10,7 +10,6 @@ use streetmap_exchange::{ExportFault, ImportFault};
 use streetmap_lines::LinesFault;
 use streetmap_loading::LoadFault;
 use streetmap_replay::FollowFault;
-use streetmap_routes::BaseFault;
 
 /// Why the program ends before it is done.
 #[derive(Clone, Copy)]
@@ -119,17 +118,6 @@ impl From<LinesFault> for ProgramFault {
             LinesFault::ReadFailed => ProgramFault::ReadFailed,
             LinesFault::WriteFailed | LinesFault::FlushFailed => ProgramFault::WriteFailed,
             LinesFault::Memory => ProgramFault::Memory,
-        }
-    }
-}
-
-impl From<BaseFault> for ProgramFault {
-    ghost from_gives = { λ given fault. fault ≡ fault_of_base given };
-
-    fn from(fault: BaseFault) -> ProgramFault {
-        match fault {
-            BaseFault::BadBase => ProgramFault::BadBase,
-            BaseFault::Memory => ProgramFault::Memory,
         }
     }
 }

@@ -80,7 +80,7 @@ fn answered(text: &[u8]) -> Option<u64> {
 
 #[test]
 fn refused_memory_is_answered_or_not_seen(rt: HostRuntime) -> Result<(), Fail> {
-    let Ok(base) = Base::new(rt.alloc(), "http://localhost/") else {
+    let Ok(Some(base)) = Base::new(rt.alloc(), "http://localhost/") else {
         return Ok(());
     };
     let mut keeper = PlainKeeper::new(rt.alloc());

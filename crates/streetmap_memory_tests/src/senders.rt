@@ -44,7 +44,7 @@ const STREAM: &[u8] =
 
 #[test]
 fn a_failed_flush_ends_a_stream(rt: HostRuntime) -> Result<(), Fail> {
-    let Ok(base) = Base::new(rt.alloc(), "http://localhost/") else {
+    let Ok(Some(base)) = Base::new(rt.alloc(), "http://localhost/") else {
         return Ok(());
     };
     let sink = Sink {

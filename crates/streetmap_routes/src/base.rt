@@ -10,16 +10,6 @@ use matchit::Router;
 use std::alloc::{AllocError, Global};
 use url::{ParseError, Position, Url};
 
-/// Why a text is not a base.
-#[derive(Clone, Copy, PartialEq, Eq)]
-pub enum BaseFault {
-    /// `bad_base`: the text is not an `http` or `https` URL with the path `/` and no user name,
-    /// password, query or fragment.
-    BadBase,
-    /// `memory`: memory ran out, or the URL reached 4 GB.
-    Memory,
-}
-
 /// Whether the scheme is that of the web.
 fn is_web(url: &Url) -> bool
     ensures { result ≡ is_web_of url.now.scheme }
@@ -75,34 +65,35 @@ pub struct Base {
 }
 
 impl Base {
-    ghost use Rattle.std.specs.Prelude.{IfOk, IsErrOf};
+    ghost use Rattle.std.specs.Prelude.{IfOk, IfSome, Ok};
     ghost use Rattle.url.specs.Parts.{Parts};
     ghost use Rattle.streetmap_routes.specs.Operations.{operation_of};
     ghost use Rattle.streetmap_routes.specs.OperationView.{operation_value};
     ghost use Rattle.streetmap_routes.specs.BaseUrl.{ReadsBase};
     ghost use Rattle.streetmap_routes.specs.BaseView.{url_of, root_of};
 
-    /// The base that a text is, as `url` parses it.
+    /// The base that a text is, as `url` parses it; none exactly if the text is not an `http` or
+    /// `https` URL with the path `/` and no user name, password, query or fragment.
     ///
     /// # Errors
     ///
-    /// `BadBase` exactly if the text is not a base, unless memory runs out.
-    pub fn new(alloc: Global, text: &str) -> Result<Base, BaseFault>
-        ensures ok { IfOk result (λ base. ReadsBase text.now (url_of base)) }
-        ensures bad { IsErrOf result BaseFault.BadBase → (url : Parts) →
-            ReadsBase text.now url → ⊥ }
+    /// Only that memory runs out, or that the URL reaches 4 GB.
+    pub fn new(alloc: Global, text: &str) -> Result<Option<Base>, AllocError>
+        ensures ok { IfOk result (λ found. IfSome found (λ base.
+            ReadsBase text.now (url_of base))) }
+        ensures bad { result ≡ Ok None → (url : Parts) → ReadsBase text.now url → ⊥ }
     {
         let url = match Url::parse(alloc, text) {
             Ok(url) => url,
-            Err(ParseError::OutOfMemory | ParseError::Overflow) => return Err(BaseFault::Memory),
-            Err(_) => return Err(BaseFault::BadBase),
+            Err(ParseError::OutOfMemory | ParseError::Overflow) => return Err(AllocError),
+            Err(_) => return Ok(None),
         };
         if !is_base(&url) {
-            return Err(BaseFault::BadBase);
+            return Ok(None);
         }
         match make_router(alloc) {
-            Ok(router) => Ok(Base { url, router }),
-            Err(_) => Err(BaseFault::Memory),
+            Ok(router) => Ok(Some(Base { url, router })),
+            Err(_) => Err(AllocError),
         }
     }
 

@@ -16,6 +16,6 @@ mod laws;
 mod operations;
 mod routes;
 
-pub use base::{Base, BaseFault};
+pub use base::Base;
 pub use laws::each_path_finds_its_route;
 pub use operations::Operation;

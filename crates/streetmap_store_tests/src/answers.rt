@@ -7,7 +7,7 @@ use streetmap_web::serve;
 
 /// A keeper's answers to requests; none if memory runs out.
 pub(crate) fn answers<K: Keeper>(alloc: Global, keeper: &mut K, requests: &str) -> Option<Vec<u8>> {
-    let base = Base::new(alloc, "http://localhost/").ok()?;
+    let base = Base::new(alloc, "http://localhost/").ok()??;
     let mut reader = requests.as_bytes();
     let mut writer = BufWriter::new(alloc, Vec::new(alloc)).ok()?;
     let _served = serve(alloc, keeper, &base, &mut reader, &mut writer);

@@ -10,7 +10,7 @@ use std::net::{Ipv4Addr, TcpListener};
 use std::process::ExitCode;
 use streetmap_connections::{Clients, Limits, ServeFault};
 use streetmap_memory::PlainKeeper;
-use streetmap_routes::{Base, BaseFault};
+use streetmap_routes::Base;
 use streetmap_web::{KeeperService, Watch, serve_clients};
 
 /// How many clients are served at once.
@@ -32,15 +32,6 @@ enum TryFault {
 impl From<AllocError> for TryFault {
     fn from(_: AllocError) -> TryFault {
         TryFault::Memory
-    }
-}
-
-impl From<BaseFault> for TryFault {
-    fn from(fault: BaseFault) -> TryFault {
-        match fault {
-            BaseFault::BadBase => TryFault::Usage,
-            BaseFault::Memory => TryFault::Memory,
-        }
     }
 }
 
@@ -87,7 +78,7 @@ fn read_port(rt: &HostRuntime) -> Result<u16, TryFault> {
 fn run(rt: &HostRuntime) -> Result<(), TryFault> {
     let port = read_port(rt)?;
     let root = format!(in rt.alloc(); "http://localhost:{port}/")?;
-    let base = Base::new(rt.alloc(), root.as_str())?;
+    let base = Base::new(rt.alloc(), root.as_str())?.ok_or(TryFault::Usage)?;
     let mut clients = Clients::new(rt.alloc(), Limits::of(MOST_CLIENTS))?;
     let listener = TcpListener::bind(rt, (Ipv4Addr::LOCALHOST, port)).map_err(|_| TryFault::Net)?;
     println!(rt; "listening 127.0.0.1:{port}").map_err(|_| TryFault::WriteFailed)?;
