@@ -1,5 +1,5 @@
 -- How a migration ends, and what tables of format 1 show.
-use Rattle.std.proofs.Common.{◌≡◌, inl, inr, ℕ, ℤ, pos, Option, Some, Result, Ok, Err, IfErr}
+use Rattle.std.proofs.Common.{◌≡◌, inl, inr, ℕ, ℤ, pos, Option, Some, Result, Ok, Err}
 use Rattle.std.proofs.Common.{IsTrue}
 use Rattle.std.proofs.Common.{refl, sym, ap, subst, ◌∙◌, arith}
 use Rattle.std.proofs.lemmas.Int.{ints}
@@ -8,12 +8,11 @@ use Rattle.streetmap_ledger.specs.State.{State}
 use Rattle.streetmap_rows.proofs.NamedTables.{IsFound, is_found}
 use Rattle.streetmap_rows.specs.Tables.{meta, meta_name}
 use Rattle.streetmap_tables.specs.Creation.{HasSame}
-use Rattle.streetmap_tables.specs.Adoption.{LeavesNoMore, LeavesTheSame}
+use Rattle.streetmap_tables.specs.Adoption.{LeavesTheSame}
 use Rattle.streetmap_tables.specs.QueryResults.{ShowsFormat, ShowsNothing, AdoptsBy, format_in}
 use Rattle.streetmap_tables.proofs.FormatAndSerials.{format_seen, format_unrefused}
 use Rattle.streetmap_tables.specs.Old.{KeepsOld, RestsOld}
 use Rattle.streetmap_tables.specs.Migration.{IsMigrationError, CarryingRefusedFor, IsRefusedOld, Carries}
-use Rattle.streetmap_tables.specs.Migration.{IsNamedFault, KeepsNoMore}
 use Rattle.streetmap_tables.specs.Part.{IsMemoryOrStore}
 use Rattle.streetmap_rows.specs.declared.fault.ReadFault.{ReadFault}
 use Rattle.streetmap_rows.specs.declared.fault.ReadFault.TheVariants as read
@@ -60,17 +59,6 @@ carries_on s old mid new (Err NewFormat) now same h = h
 carries_on s old mid new (Err Damaged) now same h = h
 carries_on s old mid new (Err (Device e)) now same h = (subst (λ (d : Database). IsMigrationError d.schema e) now h.0, h.1)
 carries_on s old mid new (Err Memory) now same h = (h.0, (λ trees may. same.0 trees (h.1.0 trees may), λ trees may. h.1.1 trees (same.1 trees may)))
-
--- a refusal after a read, if a crash can leave no more than before
-pub fewer_on : (old mid new : Seen) (r : Result ℕ OpenFault) → IfErr r IsNamedFault
-    → IfErr r (λ fault. fault ≡ Damaged → LeavesNoMore mid new) → LeavesNoMore old mid
-    → IfErr r (λ fault. KeepsNoMore fault old new)
-fewer_on old mid new (Ok count) named fewer before = tt
-fewer_on old mid new (Err NotOurs) named fewer before = absurd named
-fewer_on old mid new (Err NewFormat) named fewer before = absurd named
-fewer_on old mid new (Err Damaged) named fewer before = λ trees may. before trees (fewer refl trees may)
-fewer_on old mid new (Err (Device e)) named fewer before = tt
-fewer_on old mid new (Err Memory) named fewer before = tt
 
 -- ---- what the reads show of tables of format 1
 
