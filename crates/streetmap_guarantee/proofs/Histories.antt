@@ -18,14 +18,14 @@ use Rattle.streetmap_ledger.proofs.Acceptance.{refused_changes_nothing}
 use Rattle.streetmap_routes.specs.Operations.{OperationValue, faulty, landing_page, api_text, conformance_classes, all_collections, one_collection, page, feature, batch}
 use Rattle.streetmap_bodies.specs.declared.request_fault.RequestFault.TheVariants.{Keeper}
 use Rattle.streetmap_connections.specs.History.{Exchange}
-use Rattle.streetmap_web.specs.Response.{ResponseValue, response_in, response_shut, fault_response, state_in, replied, found_page, not_found}
+use Rattle.streetmap_web.specs.Response.{ResponseValue, response_in, response_shut, fault_response, state_in, replied, found_page, not_found, response_text}
 use Rattle.streetmap_web.specs.Conditions.{Condition, RequestOutcome, of_state, shut, as_requested, no_memory, device_failed, of_keeper, CanBe, answer_by, after}
 use Rattle.streetmap_web.specs.Exchanges as web
 use Rattle.streetmap_web.specs.ServedClients.{IsAnswerTo, AnsweredInTurn}
 use Rattle.streetmap_web.proofs.Outcomes.{no_memory_response}
 use Rattle.streetmap_guarantee.specs.Server.{Server, serving, failed, state_of}
 use Rattle.streetmap_guarantee.specs.Histories as seq
-use Rattle.streetmap_guarantee.specs.Histories.{Step, Event, HasRequest, IsSequential, with_acknowledged, acknowledged}
+use Rattle.streetmap_guarantee.specs.Histories.{Step, Event, HasRequest, IsHttp, IsSequential, with_acknowledged, acknowledged}
 use Rattle.streetmap_guarantee.specs.Guarantee.{ShowsPage}
 
 -- ---- the server after a request
@@ -97,6 +97,13 @@ module _ (root : Text) (y : Server) (e : Exchange) (w : web.HttpExchange) (is : 
   requested (web.no_room h head frames says outcome) =
       seq.no_room h (subst IsHead is.request head) (subst (λ (t : Text). Frames t (sized h)) is.request frames) says
       (ap (answer_by root (condition_of y) w.request.operation) outcome ∙ no_memory_response root (condition_of y) w.request.operation)
+
+  pub is_http : IsHttp it
+  is_http = record {
+    has_request = requested is.is.has_request;
+    closes = is.closes;
+    answers = is.text ∙ ap (λ (b : Bool). response_text b w.request.bare (web.response root (condition_of y) w)) (sym is.closes);
+  }
 
 pub is_sequential : (root : Text) (y : Server) (es : List Exchange) (ws : List web.HttpExchange) → AnsweredInTurn root (condition_of y) es ws
     → IsSequential root y (history_of root y es ws) (last_server y ws)

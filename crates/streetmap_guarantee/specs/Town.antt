@@ -3,8 +3,9 @@ use Rattle.std.specs.Prelude.{◌≡◌, List, [], ◌++◌, map}
 use Rattle.streetmap_batch.specs.Text.{Text}
 use Rattle.streetmap_ledger.specs.State.{State}
 use Rattle.streetmap_connections.specs.History.{Exchange, History}
+use Rattle.streetmap_connections.specs.Interleaving.{IsInterleaving}
 use Rattle.streetmap_connections.specs.Timeline.{Timeline}
-use Rattle.streetmap_guarantee.specs.Guarantee.{Guarantee}
+use Rattle.streetmap_guarantee.specs.Guarantee.{Guarantee, exchanges_of}
 
 -- Clients were served by one thread: the requests of the history were answered in its order, along
 -- one timeline of all that was read, answered and written.
@@ -23,3 +24,9 @@ pub record Moment (answered : List Exchange) (connections : List History) : Type
   pub is : answered ≡ before ++ later
   pub past : Timeline [] before then
   pub future : Timeline then later connections
+
+-- What the connections had been answered by then is the first part of the history. So a request of
+-- which no byte had come by then is answered after each whose answer had been sent by then.
+abbrev pub IsInRealTime : List Exchange → List History → Type 0
+IsInRealTime answered connections = (m : Moment answered connections)
+    → IsInterleaving (map exchanges_of m.then) m.before
