@@ -18,9 +18,7 @@ pub(crate) fn check<S: Alter + Drop>(
     rt: &HostRuntime,
     keeper: TableKeeper<S>,
 ) -> Result<(), ProgramFault> {
-    let totals = check_tables(rt.alloc(), &mut keeper.release()).map_err(|stop| fault::of_check(
-        stop,
-    ))?;
+    let totals = check_tables(rt.alloc(), &mut keeper.release()).map_err(fault::of_check)?;
     println!(rt;
         "ok {} {} {}",
         totals.collections, totals.features, totals.batches
