@@ -25,8 +25,8 @@ pub enum CreateFault {
     NotOurs,
     /// `taken`: a table, an index or a view has one of the four names.
     Taken,
-    /// `device`: the store failed, or has no room for the tables, or the file cannot be opened or is
-    /// in use; the error that reported it.
+    /// `device`: the store failed, or has no room for the tables, or the file cannot be opened or
+    /// is in use; the error that reported it.
     Device(Error),
     /// `memory`: out of memory.
     Memory,
@@ -127,10 +127,10 @@ fn make_alone<S: Alter>(conn: &mut Connection<S>) -> Result<(), Error>
 /// Makes the four tables with the opening state, in one transaction.
 ///
 /// `Taken` is returned exactly if a table, an index or a view of the connection has one of the four
-/// names, and `NotOurs` never. The other results hold for an open connection with no step limit whose tables leave room:
-/// each has a tree of its own, none refers to the features, and if one counts its rowids the table
-/// of those counts exists. After `Device` the connection may be closed; if it is open its tables
-/// are as they were.
+/// names, and `NotOurs` never. The other results hold for an open connection with no step limit
+/// whose tables leave room: each has a tree of its own, none refers to the features, and if one
+/// counts its rowids the table of those counts exists. After `Device` the connection may be closed;
+/// if it is open its tables are as they were.
 ///
 /// # Errors
 ///
