@@ -16,10 +16,10 @@ there.
 
 It asks where the follower is before it sends. At first on each connection it sends again the last
 line that it holds for acknowledged, if the follower has its key: the answer has to have that
-serial, and each further one the next. With F it compares before each line what F has there, so
-that nothing is sent to a follower that somebody else gave a batch. Without F, and of a batch that
-comes between the comparison and the line, that is seen once one line was sent, and then no further
-one. Who is away is tried again, with pauses that grow to ten seconds; standard error says so. It
+serial, and each further one the next. With F it compares the digest of F's lines with that of
+SOURCE at its start, and before each line what F has there: so nothing is sent to a follower that
+somebody else gave a batch. Without F, and of a batch that comes between the comparison and the
+line, that is seen once one line was sent, and then no further one. Who is away is tried again, with pauses that grow to ten seconds; standard error says so. It
 ends with status 1 at what a person has to examine, and sends nothing after it:
 
     forked SERIAL ANSWERED    the follower has another batch there, or has it elsewhere
@@ -225,8 +225,9 @@ class Following:
     follower: Follower
     place: Place
     position: PositionFile | None = None
-    # The follower's own journal.
+    # The follower's own journal, and whether all of it was compared.
     own: JournalFiles | None = None
+    is_own_compared: bool = False
     agreed: bool = False
     waits: bool = False
 
@@ -276,8 +277,22 @@ class Following:
             if line.key != self.place.key:
                 raise Fault("forked", line.serial, f"{self.place.key} is {line.key} in the source")
             self.compare_own(line)
+            self.compare_history()
             self.place = Place.of(line)
         return True
+
+    def compare_history(self) -> None:
+        """Compares all lines of the own journal up to the place with those of the source, once, if
+        both have them from the first on."""
+        if self.own is None or self.is_own_compared:
+            return
+        own, serial = JournalFiles(self.own.path), self.place.serial
+        digests = own.digest_at(serial), self.source.digest_at(serial)
+        if None not in digests and digests[0] != digests[1]:
+            for there, line in zip(own.behind(0), self.source.behind(0), strict=False):
+                if there != line:
+                    raise forked(there, line)
+        self.is_own_compared = True
 
     def compare_own(self, line: Line) -> None:
         """Compares a line with what the follower's own journal has from there on, if that is given.
@@ -286,7 +301,7 @@ class Following:
             return
         there = next(self.own.behind(line.serial - 1), None)
         if there is not None and there != line:
-            raise Fault("forked", line.serial, f"{there.key} is {line.key} in the source")
+            raise forked(there, line)
 
     def found_place(self) -> Place:
         """The place of a follower of which nothing is known: the last of the lines that it has, by
@@ -350,6 +365,13 @@ class Following:
                 f"  {self.source.words(line.serial)} | streetmap apply FILE",
             ),
         )
+
+
+def forked(there: Line, line: Line) -> Fault:
+    """That a follower has another line than the source."""
+    same = (there.serial, there.key) == (line.serial, line.key)
+    other = "has another text" if same else f"is {line.key} in the source"
+    return Fault("forked", line.serial, f"{there.key} {other}")
 
 
 def run(following: Following, once: bool) -> None:

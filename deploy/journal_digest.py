@@ -42,7 +42,7 @@ import time
 from collections.abc import Iterator
 from pathlib import Path
 
-from journal_files import JournalFiles, last_line
+from journal_files import JournalFiles, last_serial
 from journal_lines import NO_LINES, Away, Fault, Line, end, not_empty, town_of
 from journal_table import JournalTable, Row
 
@@ -102,18 +102,6 @@ class Beside:
         """Ends as `lines_missing` if the line of a serial was not compared."""
         if self.last < serial:
             raise Fault("lines_missing", self.last + 1 if self.last else serial, serial)
-
-
-def last_serial(path: Path) -> int:
-    """The last serial of a journal; 0 if it has none."""
-    try:
-        line = last_line(path)
-    except Fault:
-        # Its first line at fault is named, in place of its file.
-        for _ in JournalFiles(path).behind(0):
-            pass
-        raise
-    return line.serial if line else 0
 
 
 def wait_for(path: Path, table: JournalTable, to: int | None, seconds: float) -> int:

@@ -20,7 +20,7 @@ from dataclasses import dataclass
 from pathlib import Path
 from typing import BinaryIO
 
-from journal_lines import MOST_OF_LINE, Fault, Line, SourceAway, whole_line
+from journal_lines import MOST_OF_LINE, NO_LINES, Fault, Line, SourceAway, whole_line
 
 NUMBERED = re.compile(r"(.+)\.([0-9]{12,})")
 # In seconds: between two reads of a file that may have grown.
@@ -126,6 +126,16 @@ class JournalFiles:
         self.identity = identity
         file.seek(self.offset)
 
+    def digest_at(self, serial: int) -> bytes | None:
+        last, digest = 0, NO_LINES
+        for line in JournalFiles(self.path).behind(0) if serial > 0 else ():
+            if line.serial != last + 1:
+                return None
+            last, digest = line.serial, line.digest(digest)
+            if last == serial:
+                break
+        return digest if last == serial else None
+
     def wait(self) -> None:
         time.sleep(POLL_SECONDS)
 
@@ -174,6 +184,18 @@ def last_line(path: Path) -> Line | None:
         if (line := ending_of(part.path).line) is not None:
             return line
     return None
+
+
+def last_serial(path: Path) -> int:
+    """The last serial of a journal; 0 if it has none. If a line at its end is none, the first such
+    line of all is named, in place of its file."""
+    try:
+        line = last_line(path)
+    except Fault:
+        for _ in JournalFiles(path).behind(0):
+            pass
+        raise
+    return line.serial if line else 0
 
 
 def replace_file(path: Path, text: str) -> None:

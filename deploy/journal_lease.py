@@ -21,6 +21,8 @@ from typing import Any
 from journal_files import replace_file
 from journal_lines import Fault
 
+# One script at a time makes a table: two that do at once fail, whatever `IF NOT EXISTS` says.
+ALONE = "SELECT pg_advisory_xact_lock(hashtext('streetmap_journal'))"
 TABLE = """
 CREATE TABLE IF NOT EXISTS streetmap_lease (
     is_only_row boolean PRIMARY KEY DEFAULT true CHECK (is_only_row),
@@ -87,6 +89,7 @@ def hold(cursor: Any, own: Lease, is_there: bool) -> None:
     if not is_there:
         if own.epoch == 0:
             return
+        cursor.execute(ALONE)
         cursor.execute(TABLE)
     found, since = held(cursor)
     if found.epoch < own.epoch:

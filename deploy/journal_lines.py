@@ -94,6 +94,9 @@ class Source(Protocol):
     def behind(self, serial: int) -> Iterator[Line]:
         """The lines after a serial that are present now, in order of serials."""
 
+    def digest_at(self, serial: int) -> bytes | None:
+        """The digest of the lines up to a serial; None if it does not have all of them."""
+
     def wait(self) -> None:
         """Returns once there may be more lines, or after a while."""
 

@@ -27,7 +27,7 @@ from dataclasses import dataclass
 from typing import Any
 
 import psycopg2
-from journal_lease import Lease, held, hold
+from journal_lease import ALONE, Lease, held, hold
 from journal_lines import NO_LINES, Fault, Line, SourceAway
 from psycopg2.extensions import make_dsn, parse_dsn
 
@@ -84,8 +84,6 @@ SELECT count(*) FROM streetmap_journal
 """
 # All reads of such a transaction are of one state.
 READ_ONLY = "SET TRANSACTION ISOLATION LEVEL REPEATABLE READ READ ONLY"
-# One script at a time makes the table: two that do at once fail, whatever `IF NOT EXISTS` says.
-ALONE = "SELECT pg_advisory_xact_lock(hashtext('streetmap_journal'))"
 IS_THERE = "SELECT to_regclass(%s) IS NOT NULL"
 # A town's schema is made if it is missing, and is searched before all others.
 HAS_SCHEMA, MAKE_SCHEMA = "SELECT to_regnamespace(%s) IS NOT NULL", "CREATE SCHEMA {}"
@@ -272,7 +270,7 @@ class JournalTable:
         """Whether the next line that is put in gets a digest."""
         with self.transaction() as cursor:
             cursor.execute(LAST)
-            return self.digest_at(cursor, int(cursor.fetchone()[0])) is not None
+            return self.kept_digest(cursor, int(cursor.fetchone()[0])) is not None
 
     def knows_columns(self, cursor: Any) -> bool:
         """Whether the table has the columns that those of earlier versions lack."""
@@ -281,7 +279,7 @@ class JournalTable:
             self.has_columns = bool(cursor.fetchone()[0])
         return self.has_columns
 
-    def digest_at(self, cursor: Any, serial: int) -> bytes | None:
+    def kept_digest(self, cursor: Any, serial: int) -> bytes | None:
         """The digest that the table has at a serial. Before its first line it is that of none; it
         is None if it was not filled in."""
         if not self.knows_columns(cursor):
@@ -315,7 +313,7 @@ class JournalTable:
         """The digests of lines, after those that the table has. What it has of them is compared,
         and so is what was put in last. None if the line before them has none."""
         serial = lines[0].serial - 1
-        before = self.digest_at(cursor, serial)
+        before = self.kept_digest(cursor, serial)
         if self.put_last is not None and self.put_last[0] == serial and self.put_last[1] != before:
             raise Fault("other_digest", serial)
         if before is None:
@@ -368,11 +366,6 @@ class JournalTable:
             cursor.execute(BY_ROWS)
             if (number := int(cursor.fetchone()[0])) != count:
                 raise Fault("rows_differ", count, number)
-
-    def kept_digest(self, serial: int) -> bytes | None:
-        """The digest that the table has at a serial, if it has one."""
-        with self.transaction() as cursor:
-            return self.digest_at(cursor, serial)
 
     def at_time(self, text: str) -> tuple[str, int, str | None]:
         """A time as the database reads it, the last serial before the first line that came after
@@ -489,6 +482,11 @@ class TableSource(JournalTable):
             cursor.execute(BEHIND, (serial, AT_ONCE))
             found: list[tuple[int, str]] = cursor.fetchall()
             return found
+
+    def digest_at(self, serial: int) -> bytes | None:
+        with self.transaction() as cursor:
+            cursor.execute(BETWEEN, (1, 1))
+            return self.kept_digest(cursor, serial) if cursor.fetchone() else None
 
     def wait(self) -> None:
         if not self.listens:

@@ -56,7 +56,7 @@ import sys
 from collections.abc import Iterable, Iterator
 from pathlib import Path
 
-from journal_files import JournalFiles, last_line
+from journal_files import JournalFiles, last_serial
 from journal_lease import Lease, LeaseFile
 from journal_lines import Away, Fault, Line, Pauses, end, not_empty, tell, town_of
 from journal_mirror import MirroredTable, OfficeSystem, shift_of, system_of
@@ -101,7 +101,7 @@ class Copying:
 
     def begin(self) -> int:
         """The serial before that of the last line that both have."""
-        last = self.last_serial()
+        last = last_serial(self.path)
         self.table.make_table()
         self.take_lease()
         if self.renews:
@@ -125,17 +125,6 @@ class Copying:
         with self.table.transaction() as cursor:
             self.table.hold(cursor)
         return self.table.lease
-
-    def last_serial(self) -> int:
-        """The last serial of the journal; 0 if it has none."""
-        try:
-            last = last_line(self.path)
-        except Fault:
-            # Its first line at fault is named, in place of its file.
-            for _ in JournalFiles(self.path).behind(0):
-                pass
-            raise
-        return last.serial if last else 0
 
     def renew(self, last: int) -> None:
         """Takes out of the table what the journal, up to its last serial, has not."""

@@ -43,7 +43,7 @@ from collections.abc import Iterator
 from dataclasses import dataclass
 from pathlib import Path
 
-from journal_files import NUMBERED, JournalFiles, ending_of, family_of, parts_of
+from journal_files import NUMBERED, JournalFiles, ending_of, family_of, last_serial, parts_of
 from journal_lines import NO_LINES, Away, Fault, Line, Source, end, not_empty, tell, town_of
 from program import Program, lines_up_to
 
@@ -64,7 +64,9 @@ def journal_in(source: Path) -> Path:
 
 
 def last_of_files(journal: Path) -> int:
-    """The last serial of a journal whose files have all lines from the first on."""
+    """The last serial of a journal whose files have all lines from the first on, by their names and
+    last lines."""
+    last_serial(journal)
     last = 0
     for part in parts_of(journal):
         if max(part.first, 1) > last + 1:
@@ -132,7 +134,7 @@ def compare_digest(source: Source, lines: Lines) -> None:
     from journal_table import TableSource
 
     if isinstance(source, TableSource):
-        kept = source.kept_digest(lines.serial)
+        kept = source.digest_at(lines.serial)
         if kept is not None and kept != lines.digest:
             raise Fault("other_digest", lines.serial)
 

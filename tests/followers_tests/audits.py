@@ -38,6 +38,7 @@ class Audits:
     context: Context
     database: Database
     journal: Path
+    lacking = "the table lacks digests: --upgrade fills them in"
 
     @classmethod
     def new(cls, context: Context, cluster: Database, name: str) -> "Audits":
@@ -153,11 +154,10 @@ def check_upgrade(audits: Audits) -> None:
     ask, context = audits.database.ask, audits.context
     ask(EARLIER)
     ask("DROP TABLE streetmap_journal_replaced")
-    lacking = "the table lacks digests: --upgrade fills them in"
     audits.journal.write_bytes(b"".join(ALL[:4]))
     for count in (4, 6):
         audits.journal.write_bytes(b"".join(ALL[:count]))
-        audits.copy(f"{count} lines of before", "--once", ends=(0, [lacking]))
+        audits.copy(f"{count} lines of before", "--once", ends=(0, [audits.lacking]))
     audits.row("an audit of it", "no_digest 1")
     filled = "digests are filled in up to serial 6"
     audits.copy("the upgrade", "--upgrade", ends=(0, [filled]))

@@ -104,6 +104,7 @@ def renew_as_documented(tables: Tables) -> int:
     for old, new in (
         ("sudo -u streetmap python3 /usr/share/streetmap/deploy", f"{PYTHON} -B {DEPLOY}"),
         ("/var/lib/streetmap/town.journal", str(tables.journal)),
+        ("/var/lib/streetmap/town.lease", str(tables.journal.with_suffix(".lease"))),
         ("postgresql:///streetmap", tables.database.dsn),
     ):
         command = command.replace(old, new)
