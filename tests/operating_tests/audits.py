@@ -41,7 +41,7 @@ class Units:
         ]
         if words[0].endswith("audit.sh"):
             words = [str(DEPLOY / "audit.sh"), *words[1:], str(self.machine.path("/run"))]
-        return self.machine.run(shlex.join([*given, *words]))
+        return self.machine.run_here(shlex.join([*given, *words]))
 
     def run(self, unit: str) -> tuple[int, str, str]:
         """Runs a unit of type oneshot: its lines up to the first that fails, and then what is to be

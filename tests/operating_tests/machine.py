@@ -83,6 +83,10 @@ class Machine:
         commands = commands.replace("python3 /usr/share/streetmap/deploy", f"{PYTHON} {DEPLOY}")
         for place in PLACES:
             commands = commands.replace(place, str(self.path(place)))
+        return self.run_here(commands)
+
+    def run_here(self, commands: str) -> subprocess.CompletedProcess[str]:
+        """Runs commands whose paths are those of the machine's folder."""
         path = f"{self.path('/bin')}:{os.environ['PATH']}"
         return subprocess.run(
             ["sh", "-ec", commands],
