@@ -59,11 +59,11 @@ class Program:
 
     def apply(self, lines: Iterator[Line]) -> None:
         """Applies lines to the file."""
-        with self.started("apply", stdin=subprocess.PIPE, stdout=subprocess.DEVNULL) as applying:
-            assert applying.stdin is not None
-            with contextlib.suppress(BrokenPipeError):
-                for line in lines:
-                    applying.stdin.write(line.whole)
-                applying.stdin.close()
+        applying = self.started("apply", stdin=subprocess.PIPE, stdout=subprocess.DEVNULL)
+        assert applying.stdin is not None
+        # It may end before it has read all of them, at a fault of its own.
+        with contextlib.suppress(BrokenPipeError), applying:
+            for line in lines:
+                applying.stdin.write(line.whole)
         if applying.returncode != 0:
             raise Fault("program_failed", "apply")

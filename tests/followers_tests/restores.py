@@ -31,6 +31,11 @@ def batch(number: int) -> bytes:
     return compact({"key": f"b{number}", "edits": edits}).encode()
 
 
+def many(first: int, last: int) -> list[bytes]:
+    """Lines of which a pipe cannot take all at once."""
+    return [b'%d\t{"edits":[],"key":"m%d"}\n' % (serial, serial) for serial in range(first, last)]
+
+
 @dataclass
 class Restores:
     """A journal of a server, and what the server answered after each batch."""
@@ -141,6 +146,9 @@ def check_gaps(restores: Restores) -> None:
     refused("a zero byte amid", "bad_line 7", folder)
     restores.write({1: [*lines[:4], lines[4].replace(b'"insert"', b'"delete"'), *lines[5:]]})
     refused("a line that is refused", "program_failed apply", folder, begun=4)
+    restores.write({1: lines[:1], 2: [lines[1].replace(b"L2", b"L1"), *many(3, 20_000)]})
+    refused("the same, and much after it", "program_failed apply", folder, begun=1)
+    restores.write({1: lines})
     restores.write({1: lines}, "harbour")
     refused("two journals", f"several_journals {folder}", folder)
     restores.write({}, "harbour")
@@ -184,8 +192,8 @@ def check_table(restores: Restores) -> None:
         "the serial of a time", "it had serial 9, which came at" in said[0], True
     )
     restores.row("up to a time that has passed", dsn, BATCHES, "--until", "tomorrow")
-    ((before,),) = ask("SELECT 'yesterday'::timestamptz::text")
-    refused("before all", f"too_early {before}", dsn, "--until", "yesterday")
+    ((before,),) = ask("SELECT 'yesterday 14:00'::timestamptz::text")
+    refused("before all", f"too_early {before}", dsn, "--until", "yesterday 14:00")
     refused("no time", "bad_time soon", dsn, "--until", "soon")
     refused("a serial after it", "lines_missing 13 13", dsn, "--until", "13")
     ask("UPDATE streetmap_journal SET arrived = NULL WHERE serial < 7")
