@@ -11,6 +11,7 @@ Only the last of them grows. A path with or without such a number names all of t
 """
 
 import contextlib
+import hashlib
 import os
 import re
 import shlex
@@ -127,13 +128,23 @@ class JournalFiles:
         file.seek(self.offset)
 
     def digest_at(self, serial: int) -> bytes | None:
+        # All lines are read, at the start of a script, so little is done with each.
         last, digest = 0, NO_LINES
-        for line in JournalFiles(self.path).behind(0) if serial > 0 else ():
-            if line.serial != last + 1:
-                return None
-            last, digest = line.serial, line.digest(digest)
-            if last == serial:
-                break
+        try:
+            for part in parts_of(self.path):
+                with part.path.open("rb") as file:
+                    for line in file:
+                        if last == serial:
+                            return digest
+                        number = int(line.partition(b"\t")[0] or b"0")
+                        if number > last + 1 or not line.endswith(b"\n"):
+                            return None
+                        if number > last:
+                            last, digest = number, hashlib.sha256(digest + line).digest()
+        except OSError as error:
+            raise SourceAway(str(error)) from error
+        except ValueError as error:
+            raise Fault("bad_line", last + 1) from error
         return digest if last == serial else None
 
     def wait(self) -> None:
