@@ -14,7 +14,8 @@ files were moved away it goes on after a line that was printed before they were.
 With `--table` it reads each line of the table of journal_to_postgres.py, and compares it with J and
 its digest with that of the lines before it. Both have to come to the last serial that one of them
 has at first, or to `--to`; it waits for that, 60 seconds at most if nothing else is given. It
-prints `the same up to SERIAL: DIGEST`. Nothing is written. A table that begins after J is compared
+prints `the same up to SERIAL: DIGEST`. Nothing is written. When a line arrived is no part of it. A
+table that begins after J is compared
 from there on, and so is a J whose first files were moved away, while the table's digests are
 compared from its first line.
 

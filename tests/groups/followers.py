@@ -14,7 +14,7 @@ import random
 import time
 
 from followers_tests import audits, figures, flips, forks, fronts, leases, parts, postgres
-from followers_tests import reading, restores, rows, tables
+from followers_tests import promotions, reading, restores, rows, tables
 from followers_tests.load import Load, delays, tell_delays
 from followers_tests.processes import running, wait_until
 from followers_tests.site import Site, site
@@ -107,6 +107,7 @@ def check_tables_alone(context: Context) -> None:
         wait_until("PostgreSQL answers", own.answers, context.seconds)
         audits.check_audits(context, own)
         leases.check_leases(context, own)
+        promotions.check_promotions(context, own)
         restores.check_restores(context, own)
         flips.check_flips(context, own)
 
