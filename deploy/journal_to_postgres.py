@@ -225,7 +225,8 @@ def serve(asked: argparse.Namespace) -> None:
         held = copying.take_lease(asked.promote)
         if asked.promote:
             return tell(NAME, f"the lease has epoch {held.epoch} now, for {held.holder}")
-        tell(NAME, f"digests are filled in up to serial {copying.table.upgrade()}")
+        last = copying.table.upgrade()
+        tell(NAME, f"digests are filled in up to serial {last}" if last else "no digest is missing")
     except Away as away:
         raise Fault("away", away, status=3) from away
 

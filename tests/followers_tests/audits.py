@@ -162,7 +162,7 @@ def check_upgrade(audits: Audits) -> None:
     filled = "digests are filled in up to serial 6"
     audits.copy("the upgrade", "--upgrade", ends=(0, [filled]))
     audits.same("upgraded", 6)
-    audits.copy("once more", "--upgrade", ends=(0, [filled.replace("6", "0")]))
+    audits.copy("once more", "--upgrade", ends=(0, ["no digest is missing"]))
     audits.journal.write_bytes(b"".join(ALL))
     audits.copy("further lines", "--once")
     audits.same("with further lines")
