@@ -12,6 +12,7 @@ from pathlib import Path
 from harness import Context
 from messages import open_collection
 from operating_tests import systemctl
+from operating_tests.document import commands_of
 from operating_tests.machine import DEPLOY, Machine, machine
 from units import unit_lines
 
@@ -123,7 +124,9 @@ def check_copies(units: Units) -> None:
     made, check = units.machine, units.machine.context.check
     folder, town = made.path("/srv/backup"), made.town.parent
     units.fails("no place", "backup", "is not set")
-    units.set("BACKUP", f"{folder}/")
+    (_, by_timer, *_) = commands_of("Backup")
+    made.done(by_timer)
+    check("the place", made.setting("BACKUP"), f"backup.example:{folder}/")
 
     def same() -> bool:
         names = made.journals()

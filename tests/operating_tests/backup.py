@@ -27,7 +27,7 @@ class Town:
 
     @classmethod
     def of(cls, made: Machine) -> "Town":
-        copy, compare, copy_files = commands_of("Backup")
+        copy, _, compare, copy_files = commands_of("Backup")
         (rotate,) = commands_of("Rotation")
         return cls(made, copy, compare, copy_files, rotate)
 
