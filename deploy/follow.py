@@ -10,17 +10,18 @@ is stopped, at any time and in any way, and then goes on where the follower is.
 
 It goes on after a serial: that of the last whole line of F, the follower's own journal (`serve
 --journal F`), if one is given; else that in FILE, which it keeps there. Without both, or if they
-have none, it finds out which of the lines the follower has by their keys: it begins with the first
-if the follower has neither that nor a collection. With `--once` it ends with the lines that are
-there.
+have none, it finds out by keys which of the lines the follower has. It begins with the first if the
+follower has neither that nor a collection. With `--once` it ends with the lines that are there.
 
-It asks where the follower is before it sends. At first on each connection it sends again the last
-line that it holds for acknowledged, if the follower has its key: the answer has to have that
-serial, and each further one the next. With F it compares the digest of F's lines with that of
-SOURCE at its start, and before each line what F has there: so nothing is sent to a follower that
-somebody else gave a batch. Without F, and of a batch that comes between the comparison and the
-line, that is seen once one line was sent, and then no further one. Who is away is tried again, with pauses that grow to ten seconds; standard error says so. It
-ends with status 1 at what a person has to examine, and sends nothing after it:
+It finds out where the follower is before it sends. At first on each connection it sends again the
+last line that it holds for acknowledged, if the follower has its key: the answer has to have that
+serial, and each further one the next. With F it compares all lines of F with those of SOURCE at its
+start, by their digests, and before each line what F has there: so nothing is sent to a follower
+that somebody else gave a batch. Without F, and of a batch that comes between the comparison and the
+line, that is seen once one line was sent, and no further one is.
+
+Who is away is tried again, with pauses that grow to ten seconds; standard error says so. It ends
+with status 1 at what a person has to examine, and sends nothing after it:
 
     forked SERIAL ANSWERED    the follower has another batch there, or has it elsewhere
     not_a_follower KEY        the follower has collections, and lacks the first batch
@@ -261,6 +262,7 @@ class Following:
         self.agreed = False
         if isinstance(away, SourceAway):
             self.place = Place(self.place.serial, self.place.key)
+            self.is_own_compared = False
 
     def has_line(self) -> bool:
         """Whether the line of the place is at hand. It is taken from the source, which may not have
@@ -292,6 +294,7 @@ class Following:
             for there, line in zip(own.behind(0), self.source.behind(0), strict=False):
                 if there != line:
                     raise forked(there, line)
+            tell(NAME, f"the source has the same lines up to {serial}, and another digest")
         self.is_own_compared = True
 
     def compare_own(self, line: Line) -> None:

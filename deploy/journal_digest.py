@@ -14,7 +14,7 @@ files were moved away it goes on after a line that was printed before they were.
 With `--table` it reads each line of the table of journal_to_postgres.py, and compares it with J and
 its digest with that of the lines before it. Both have to come to the last serial that one of them
 has at first, or to `--to`; it waits for that, 60 seconds at most if nothing else is given. It
-prints `the same up to SERIAL: DIGEST`. Nothing is written. When a line arrived is no part of it. A
+prints `the same up to SERIAL: DIGEST`. When a line arrived is no part of it. Nothing is written. A
 table that begins after J is compared
 from there on, and so is a J whose first files were moved away, while the table's digests are
 compared from its first line.
@@ -33,7 +33,8 @@ It ends with status 1, and one of these on standard error, at what a person has 
     bad_line SERIAL          J or the table has no line there; line_too_long SERIAL likewise
     bad_source CODE          the database refuses, or its table cannot be read
 
-A line after it has the last serial that was read and is right, if it reads a table. A database or a file that cannot be read now is `away`, with status 3; `usage` has status 2.
+Of a table a further line has the last serial that is right. A database or a file that cannot be
+read now is `away`, with status 3; `usage` has status 2.
 """
 
 import argparse

@@ -1,8 +1,8 @@
 """The lines of a journal, and how the scripts beside it end.
 
 A journal has a line for each accepted batch, in order of serials: the serial in decimal, a tab, the
-batch text, a line feed (docs/API.md, "Batches out and in again"). follow.py, journal_to_postgres.py,
-rotate_journal.py and others share what is here.
+batch text, a line feed (docs/API.md, "Batches out and in again"). The scripts of journals share
+what is here.
 
 The digests of a journal chain its lines: that of a line is the SHA-256 of the 32 bytes of the
 digest before it, and then of the line with its line feed. Before the first line they are zeros. So

@@ -48,7 +48,8 @@ It ends with status 1 at what a person has to examine, and puts nothing in after
     has_mirror               --renew needs --features, as the database has a mirror
     no_lines J               --renew, and J has no line
 
-`lease_not_written FILE` has status 3, and `usage` 2.
+`lease_not_written FILE` has status 3, and so has a database that is `away` from `--upgrade` and
+`--promote`; `usage` has status 2.
 """
 
 import argparse

@@ -1,4 +1,4 @@
-"""Rows for the lease of a table: one script at a time puts lines in, and a promotion passes it on."""
+"""Rows for the lease of a table: one machine's script puts lines in; a promotion passes it on."""
 
 import re
 import subprocess
