@@ -1,4 +1,3 @@
-#!/usr/bin/python3 -B
 """Audits a journal by the digests that chain its lines, with a table or with another journal.
 
     python3 deploy/journal_digest.py J [--to SERIAL] [--after SERIAL:DIGEST]
@@ -15,9 +14,8 @@ With `--table` it reads each line of the table of journal_to_postgres.py, and co
 its digest with that of the lines before it. Both have to come to the last serial that one of them
 has at first, or to `--to`; it waits for that, 60 seconds at most if nothing else is given. It
 prints `the same up to SERIAL: DIGEST`. When a line arrived is no part of it. Nothing is written. A
-table that begins after J is compared
-from there on, and so is a J whose first files were moved away, while the table's digests are
-compared from its first line.
+J whose first files were moved away is compared from there on, and the table's digests from its
+first line on.
 
 With `--other` it compares J with the journal K, from the first line that both have, up to the end
 of the shorter one or `--to`, and prints `the same up to SERIAL`.

@@ -1,4 +1,3 @@
-#!/usr/bin/python3 -B
 """Restores a town: makes a new FILE from the lines of its journal, up to a serial or a time.
 
     python3 deploy/restore.py SOURCE FILE [--until SERIAL | --until TIME] [--town NAME]
