@@ -71,7 +71,7 @@ CONNECT_SECONDS, ANSWER_SECONDS = 10, 300
 POSITION_SECONDS = 0.5
 IDLE_SECONDS = 20
 # Of so many lines one is asked for, as long as the follower has it.
-PROBED = 1000
+PROBED = 100
 # Answers of a follower, or of a proxy before it, that is away for now.
 PASSING = (408, 429, 500, 502, 503, 504)
 

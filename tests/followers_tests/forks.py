@@ -12,7 +12,7 @@ from messages import open_collection, post
 
 STRAY = text_of("stray", lamp(99))
 # Lines of a follower that was sent many, and of its source.
-MANY, ALL = 2300, 2450
+MANY, ALL = 230, 245
 
 
 @dataclass
