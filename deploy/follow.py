@@ -1,6 +1,6 @@
 """Posts the lines of a journal, in order, to another Streetmap: a follower, which answers pages.
 
-    python3 deploy/follow.py SOURCE URL [--town NAME] [--position FILE | --journal F] [--once]
+    python3 deploy/follow.py SOURCE URL [--town NAME] [--position FILE] [--journal F] [--once]
 
 SOURCE is the path of a journal, or a PostgreSQL with the table of journal_to_postgres.py, as
 `postgresql://..`, with the NAME of a town if that script has one. A path names all files of its
@@ -8,17 +8,23 @@ journal, with the number of one of them or without it (journal_files.py): once a
 next one is read. URL is that of the follower, which nobody else sends batches to. It runs until it
 is stopped, at any time and in any way, and then goes on where the follower is.
 
-It goes on after a serial: that in FILE, which it keeps there; or that of the last whole line of F,
-the follower's own journal (`serve --journal F`); else the first of all. Lines that are sent twice
-act once, so a FILE that is lost or older costs time alone. With `--once` it ends with the lines
-that are there.
+It goes on after a serial: that of the last whole line of F, the follower's own journal (`serve
+--journal F`), if one is given; else that in FILE, which it keeps there. Without both, or if they
+have none, it finds out by keys which of the lines the follower has. It begins with the first if the
+follower has neither that nor a collection. With `--once` it ends with the lines that are there.
 
-At first on each connection it sends again the last line that it holds for acknowledged. The answer
-has to have that serial, and each further one the next. Who is away is tried again, with pauses that
-grow to ten seconds; standard error says so. It ends with status 1 at what a person has to examine,
-and sends nothing after it:
+It finds out where the follower is before it sends. At first on each connection it sends again the
+last line that it holds for acknowledged, if the follower has its key: the answer has to have that
+serial, and each further one the next. With F it compares all lines of F with those of SOURCE at its
+start, by their digests, and before each line what F has there: so nothing is sent to a follower
+that somebody else gave a batch. Without F, and of a batch that comes between the comparison and the
+line, that is seen once one line was sent, and no further one is.
+
+Who is away is tried again, with pauses that grow to ten seconds; standard error says so. It ends
+with status 1 at what a person has to examine, and sends nothing after it:
 
     forked SERIAL ANSWERED    the follower has another batch there, or has it elsewhere
+    not_a_follower KEY        the follower has collections, and lacks the first batch
     refused SERIAL CODE ..    the follower refused the batch, with the place and the cause
     body_too_large SERIAL     the batch text is longer than a body; the options that help follow
     position_ahead SERIAL     the follower lacks the batch up to which it should go on
@@ -32,6 +38,7 @@ and sends nothing after it:
 """
 
 import argparse
+import bisect
 import http.client
 import json
 import sys
@@ -63,6 +70,8 @@ NAME = "follow"
 CONNECT_SECONDS, ANSWER_SECONDS = 10, 300
 POSITION_SECONDS = 0.5
 IDLE_SECONDS = 20
+# Of so many lines one is asked for, as long as the follower has it.
+PROBED = 100
 # Answers of a follower, or of a proxy before it, that is away for now.
 PASSING = (408, 429, 500, 502, 503, 504)
 
@@ -106,7 +115,7 @@ class Follower:
         over_tls, plain = http.client.HTTPSConnection, http.client.HTTPConnection
         self.kind = over_tls if parts.scheme == "https" else plain
         self.url, self.host, self.port = url, parts.hostname or "", parts.port
-        self.path = parts.path.rstrip("/") + "/batches"
+        self.path = parts.path.rstrip("/")
         self.connection: http.client.HTTPConnection | None = None
         self.used = 0.0
 
@@ -129,11 +138,11 @@ class Follower:
             self.connection.close()
         self.connection = None
 
-    def post(self, batch: bytes) -> Answer:
-        """What is answered to a batch. Ends as `Away` if no answer comes, or a passing one."""
+    def ask(self, method: str, path: str, body: bytes | None = None) -> Answer:
+        """What is answered to a request. Ends as `Away` if no answer comes, or a passing one."""
         try:
             connection = self.connected()
-            connection.request("POST", self.path, batch)
+            connection.request(method, self.path + path, body)
             response = connection.getresponse()
             answer = Answer(response.status, read_json(response.read()))
         except (OSError, http.client.HTTPException) as error:
@@ -146,6 +155,16 @@ class Follower:
             self.close()
             raise Away(f"{self.url}: {answer.code}")
         return answer
+
+    def post(self, batch: bytes) -> Answer:
+        return self.ask("POST", "/batches", batch)
+
+    def has_collections(self) -> bool:
+        """Whether it has a collection, as each has to which a batch was sent that changed it."""
+        answer = self.ask("GET", "/collections")
+        if answer.status != 200:
+            raise Fault("refused", "collections", *answer.words)
+        return answer.body.get("collections") != []
 
     def has(self, key: str) -> bool:
         """Whether a batch with this key was accepted, with any text. Nothing changes: what is sent
@@ -207,11 +226,16 @@ class Following:
     follower: Follower
     place: Place
     position: PositionFile | None = None
+    # The follower's own journal, and whether all of it was compared.
+    own: JournalFiles | None = None
+    is_own_compared: bool = False
     agreed: bool = False
     waits: bool = False
 
     def go_on(self) -> None:
         """Sends all lines that are there now."""
+        if self.place.serial == 0:
+            self.place = self.found_place()
         if not self.has_line():
             return
         if not self.agreed:
@@ -221,6 +245,7 @@ class Following:
                 self.check_next(line)
                 if not self.follower.is_connected:
                     self.agree()
+                self.compare_own(line)
                 self.send(line)
                 self.place = Place.of(line)
                 self.keep(now=False)
@@ -237,6 +262,7 @@ class Following:
         self.agreed = False
         if isinstance(away, SourceAway):
             self.place = Place(self.place.serial, self.place.key)
+            self.is_own_compared = False
 
     def has_line(self) -> bool:
         """Whether the line of the place is at hand. It is taken from the source, which may not have
@@ -252,8 +278,55 @@ class Following:
         if line.serial == self.place.serial:
             if line.key != self.place.key:
                 raise Fault("forked", line.serial, f"{self.place.key} is {line.key} in the source")
+            self.compare_own(line)
+            self.compare_history()
             self.place = Place.of(line)
         return True
+
+    def compare_history(self) -> None:
+        """Compares all lines of the own journal up to the place with those of the source, once, if
+        both have them from the first on."""
+        if self.own is None or self.is_own_compared:
+            return
+        own, serial = JournalFiles(self.own.path), self.place.serial
+        digests = own.digest_at(serial), self.source.digest_at(serial)
+        if None not in digests and digests[0] != digests[1]:
+            for there, line in zip(own.behind(0), self.source.behind(0), strict=False):
+                if there != line:
+                    raise forked(there, line)
+            tell(NAME, f"the source has the same lines up to {serial}, and another digest")
+        self.is_own_compared = True
+
+    def compare_own(self, line: Line) -> None:
+        """Compares a line with what the follower's own journal has from there on, if that is given.
+        The line is sent if that has nothing there, or the line itself."""
+        if self.own is None:
+            return
+        there = next(self.own.behind(line.serial - 1), None)
+        if there is not None and there != line:
+            raise forked(there, line)
+
+    def found_place(self) -> Place:
+        """The place of a follower of which nothing is known: the last of the lines that it has, by
+        their keys. Nothing changes. A follower without the first has to be empty."""
+        first = next(self.source.behind(0), None)
+        if first is None:
+            return Place()
+        self.check_next(first)
+        if not self.follower.has(first.key):
+            if self.follower.has_collections():
+                raise Fault("not_a_follower", first.key)
+            return Place()
+        group = [Place(first.serial, first.key)]
+        for line in self.source.behind(first.serial):
+            group.append(Place(line.serial, line.key))
+            if len(group) > PROBED:
+                if not self.follower.has(line.key):
+                    break
+                group = group[-1:]
+        # It has the first of the group.
+        count = bisect.bisect_left(group, True, key=lambda it: not self.follower.has(it.key))
+        return group[count - 1]
 
     def check_next(self, line: Line) -> None:
         wanted = self.place.serial + 1
@@ -295,6 +368,13 @@ class Following:
                 f"  {self.source.words(line.serial)} | streetmap apply FILE",
             ),
         )
+
+
+def forked(there: Line, line: Line) -> Fault:
+    """That a follower has another line than the source."""
+    same = (there.serial, there.key) == (line.serial, line.key)
+    other = "has another text" if same else f"is {line.key} in the source"
+    return Fault("forked", line.serial, f"{there.key} {other}")
 
 
 def run(following: Following, once: bool) -> None:
@@ -344,9 +424,8 @@ def arguments() -> argparse.Namespace:
     words.add_argument("source", type=not_empty, help="a journal's path, or postgresql://..")
     words.add_argument("url", type=url, help="the follower's URL")
     words.add_argument("--town", type=town_of, default="", metavar="NAME", help="of several towns")
-    kept = words.add_mutually_exclusive_group()
-    kept.add_argument("--position", type=Path, help="the file that keeps the serial")
-    kept.add_argument("--journal", type=Path, help="the follower's own journal")
+    words.add_argument("--position", type=Path, help="the file that keeps the serial")
+    words.add_argument("--journal", default="", help="the follower's own journal, if it has one")
     words.add_argument("--once", action="store_true", help="ends with the lines that are there")
     return words.parse_args()
 
@@ -355,11 +434,10 @@ def main() -> int:
     asked = arguments()
     try:
         position = PositionFile(asked.position) if asked.position else None
-        place = position.read() if position else Place()
-        if asked.journal:
-            place = own_place(asked.journal)
-        follower = Follower(asked.url)
-        run(Following(source_of(asked.source, asked.town), follower, place, position), asked.once)
+        own = JournalFiles(Path(asked.journal)) if asked.journal else None
+        place = own_place(own.path) if own else position.read() if position else Place()
+        source, follower = source_of(asked.source, asked.town), Follower(asked.url)
+        run(Following(source, follower, place, position, own), asked.once)
     except Fault as fault:
         return end(NAME, fault)
     return 0

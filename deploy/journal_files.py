@@ -11,6 +11,7 @@ Only the last of them grows. A path with or without such a number names all of t
 """
 
 import contextlib
+import hashlib
 import os
 import re
 import shlex
@@ -20,7 +21,7 @@ from dataclasses import dataclass
 from pathlib import Path
 from typing import BinaryIO
 
-from journal_lines import MOST_OF_LINE, Fault, Line, SourceAway, whole_line
+from journal_lines import MOST_OF_LINE, NO_LINES, Fault, Line, SourceAway, whole_line
 
 NUMBERED = re.compile(r"(.+)\.([0-9]{12,})")
 # In seconds: between two reads of a file that may have grown.
@@ -126,6 +127,26 @@ class JournalFiles:
         self.identity = identity
         file.seek(self.offset)
 
+    def digest_at(self, serial: int) -> bytes | None:
+        # All lines are read, at the start of a script, so little is done with each.
+        last, digest = 0, NO_LINES
+        try:
+            for part in parts_of(self.path):
+                with part.path.open("rb") as file:
+                    for line in file:
+                        if last == serial:
+                            return digest
+                        number = int(line.partition(b"\t")[0] or b"0")
+                        if number > last + 1 or not line.endswith(b"\n"):
+                            return None
+                        if number > last:
+                            last, digest = number, hashlib.sha256(digest + line).digest()
+        except OSError as error:
+            raise SourceAway(str(error)) from error
+        except ValueError as error:
+            raise Fault("bad_line", last + 1) from error
+        return digest if last == serial else None
+
     def wait(self) -> None:
         time.sleep(POLL_SECONDS)
 
@@ -174,6 +195,18 @@ def last_line(path: Path) -> Line | None:
         if (line := ending_of(part.path).line) is not None:
             return line
     return None
+
+
+def last_serial(path: Path) -> int:
+    """The last serial of a journal; 0 if it has none. If a line at its end is none, the first such
+    line of all is named, in place of its file."""
+    try:
+        line = last_line(path)
+    except Fault:
+        for _ in JournalFiles(path).behind(0):
+            pass
+        raise
+    return line.serial if line else 0
 
 
 def replace_file(path: Path, text: str) -> None:

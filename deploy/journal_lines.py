@@ -1,8 +1,12 @@
 """The lines of a journal, and how the scripts beside it end.
 
 A journal has a line for each accepted batch, in order of serials: the serial in decimal, a tab, the
-batch text, a line feed (docs/API.md, "Batches out and in again"). follow.py, journal_to_postgres.py
-and rotate_journal.py share what is here.
+batch text, a line feed (docs/API.md, "Batches out and in again"). The scripts of journals share
+what is here.
+
+The digests of a journal chain its lines: that of a line is the SHA-256 of the 32 bytes of the
+digest before it, and then of the line with its line feed. Before the first line they are zeros. So
+two journals with the same digest at a serial have the same lines up to it.
 
 A script that ends by itself prints `NAME: CODE ..` on standard error. Its exit status is 0 if it
 was to end (`--once`), 1 for what is the same at the next start, 2 for options it does not take,
@@ -10,6 +14,7 @@ and 3 if a file of its own cannot be written.
 """
 
 import argparse
+import hashlib
 import os
 import re
 import sys
@@ -28,6 +33,8 @@ SERIAL = re.compile(rb"[1-9][0-9]{0,18}")
 # A batch text ends with its key, which needs no escapes ("The batch text" and "Edits" of API.md).
 KEY_AT_END = re.compile(rb'"key":"([A-Za-z0-9._:-]{1,64})"\}')
 LONGEST_END = len(b'"key":""}') + 64
+# The digest before the first line.
+NO_LINES = bytes(32)
 
 
 class Fault(Exception):
@@ -71,12 +78,24 @@ class Line:
             raise Fault("bad_line", self.serial)
         return found[1].decode()
 
+    @property
+    def whole(self) -> bytes:
+        """Its bytes in a journal, with the line feed."""
+        return b"%d\t%b\n" % (self.serial, self.text)
+
+    def digest(self, before: bytes) -> bytes:
+        """The digest of the lines up to this one, by that of those before it."""
+        return hashlib.sha256(before + self.whole).digest()
+
 
 class Source(Protocol):
     """Where lines come from. Both calls end as `SourceAway` if it does not answer."""
 
     def behind(self, serial: int) -> Iterator[Line]:
         """The lines after a serial that are present now, in order of serials."""
+
+    def digest_at(self, serial: int) -> bytes | None:
+        """The digest of the lines up to a serial; None if it does not have all of them."""
 
     def wait(self) -> None:
         """Returns once there may be more lines, or after a while."""

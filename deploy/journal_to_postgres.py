@@ -1,7 +1,7 @@
 """Puts the lines of a journal into a table of PostgreSQL, as the journal grows.
 
     python3 deploy/journal_to_postgres.py J DSN [--town NAME] [--features [--system S --shift E,N]]
-        [--once | --renew]
+        [--lease FILE] [--once | --renew | --upgrade | --promote]
 
 J is the journal that `streetmap serve --journal J` writes, or the path that all its files share
 (journal_files.py): once a file has ended, the next one is read. DSN is that of a database
@@ -18,14 +18,26 @@ the table. It begins by comparing the last line that both have. A database that 
 that is not there yet, are tried again, with pauses that grow to ten seconds; standard error says
 so. With `--once` it ends with the lines that are there.
 
+Each line gets a digest that chains it to those before it, and the time by the database's clock. The
+digests of what the table has are compared with the lines that it puts in or compares.
+
+With `--lease FILE` it puts lines in only as long as the table's lease is its own, which FILE keeps
+(journal_lease.py). The first such script takes the lease, and all others are refused from then on,
+also those without the option. `--promote` has this machine take it, with the next epoch.
+
 With `--renew` it makes the table again from the first line on that J has with another text, or has
-no more; what the table had there is moved to `streetmap_journal_replaced`. With `--features` the
-mirror is made again as a whole, in the system that it had if none is given. Then it ends.
+no more, or whose digest is wrong; what the table had there is moved to
+`streetmap_journal_replaced`. With `--features` the mirror is made again as a whole, in the system
+that it had if none is given. With `--upgrade` it gives a table of an earlier version its columns,
+and fills in digests that are missing. After each of these three it ends.
 
 It ends with status 1 at what a person has to examine, and puts nothing in after it:
 
     other_text SERIAL        the table has another text there, the first that differs: it is another
                              server's
+    other_digest SERIAL      the table's digest there is not that of its lines: it was changed
+    fenced EPOCH OWN         another machine has the lease, or this one has none (OWN is 0)
+    bad_lease FILE           FILE has no lease
     lines_missing FROM TO    J begins after what the table needs next
     bad_line SERIAL          J has no line there, or a zero byte amid others;
                              line_too_long SERIAL likewise
@@ -36,7 +48,8 @@ It ends with status 1 at what a person has to examine, and puts nothing in after
     has_mirror               --renew needs --features, as the database has a mirror
     no_lines J               --renew, and J has no line
 
-`usage` has status 2.
+`lease_not_written FILE` has status 3, and so has a database that is `away` from `--upgrade` and
+`--promote`; `usage` has status 2.
 """
 
 import argparse
@@ -44,7 +57,8 @@ import sys
 from collections.abc import Iterable, Iterator
 from pathlib import Path
 
-from journal_files import JournalFiles, last_line
+from journal_files import JournalFiles, last_serial
+from journal_lease import Lease, LeaseFile
 from journal_lines import Away, Fault, Line, Pauses, end, not_empty, tell, town_of
 from journal_mirror import MirroredTable, OfficeSystem, shift_of, system_of
 from journal_table import JournalTable, OtherText
@@ -72,40 +86,56 @@ class Copying:
     """A journal, a table, and the serial after which lines are put in or compared. It is not known
     before both were read."""
 
-    def __init__(self, path: Path, table: JournalTable, renews: bool = False) -> None:
+    def __init__(
+        self,
+        path: Path,
+        table: JournalTable,
+        renews: bool = False,
+        lease: LeaseFile | None = None,
+    ) -> None:
         self.path = path
         self.journal = JournalFiles(path)
         self.table = table
         self.renews = renews
+        self.lease = lease
         self.serial: int | None = None
 
     def begin(self) -> int:
         """The serial before that of the last line that both have."""
-        last = self.last_serial()
+        last = last_serial(self.path)
+        self.table.make_table()
+        self.take_lease()
         if self.renews:
             self.renew(last)
         self.table.make()
+        if not self.table.is_chained():
+            tell(NAME, "the table lacks digests: --upgrade fills them in")
         begun = max(0, min(self.table.last(), last) - 1)
         tell(NAME, f"going on behind serial {begun}")
         return begun
 
-    def last_serial(self) -> int:
-        """The last serial of the journal; 0 if it has none."""
-        try:
-            last = last_line(self.path)
-        except Fault:
-            # Its first line at fault is named, in place of its file.
-            for _ in JournalFiles(self.path).behind(0):
-                pass
-            raise
-        return last.serial if last else 0
+    def take_lease(self, promotes: bool = False) -> Lease:
+        """Takes the lease if nobody has it, or for a promotion. Ends as `fenced` if it is another's
+        then."""
+        if self.lease is not None:
+            self.table.lease = self.lease.read()
+            found = self.table.held()
+            if promotes or found.epoch == self.table.lease.epoch == 0:
+                self.table.lease = Lease.of_epoch(max(found.epoch, self.table.lease.epoch) + 1)
+                self.lease.write(self.table.lease)
+        with self.table.transaction() as cursor:
+            self.table.hold(cursor)
+        return self.table.lease
 
     def renew(self, last: int) -> None:
         """Takes out of the table what the journal, up to its last serial, has not."""
         if last == 0:
             raise Fault("no_lines", self.path)
-        self.table.make_table()
-        begun = self.first_other() or last + 1
+        others = self.first_other(), self.table.first_broken()
+        begun = min([last + 1, *(it for it in others if it is not None)])
+        first = next(JournalFiles(self.path).behind(begun - 1), None)
+        if first is not None and first.serial != begun:
+            raise Fault("lines_missing", begun, first.serial - 1)
         number = self.table.take_out(begun)
         self.renews = False
         tell(NAME, f"renewing from serial {begun}, {number} lines were taken out")
@@ -174,17 +204,38 @@ def arguments() -> argparse.Namespace:
     ends = words.add_mutually_exclusive_group()
     ends.add_argument("--once", action="store_true", help="ends with the lines that are there")
     ends.add_argument("--renew", action="store_true", help="makes what differs again, and ends")
+    ends.add_argument("--upgrade", action="store_true", help="adds columns and digests, and ends")
+    ends.add_argument("--promote", action="store_true", help="takes the lease, and ends")
+    words.add_argument("--lease", type=Path, metavar="FILE", help="keeps this machine's lease")
     asked = words.parse_args()
     if (asked.system is None) != (asked.shift is None) or asked.system and not asked.features:
         words.error("--system and --shift belong together, and to --features")
+    if asked.promote and asked.lease is None:
+        words.error("--promote needs --lease")
     return asked
+
+
+def serve(asked: argparse.Namespace) -> None:
+    """Does what the options select."""
+    lease = asked.lease and LeaseFile(asked.lease)
+    copying = Copying(Path(asked.journal), table_of(asked), asked.renew, lease)
+    if not (asked.upgrade or asked.promote):
+        return run(copying, asked.once or asked.renew)
+    try:
+        copying.table.make_table()
+        held = copying.take_lease(asked.promote)
+        if asked.promote:
+            return tell(NAME, f"the lease has epoch {held.epoch} now, for {held.holder}")
+        last = copying.table.upgrade()
+        tell(NAME, f"digests are filled in up to serial {last}" if last else "no digest is missing")
+    except Away as away:
+        raise Fault("away", away, status=3) from away
 
 
 def main() -> int:
     asked = arguments()
-    copying = Copying(Path(asked.journal), table_of(asked), asked.renew)
     try:
-        run(copying, asked.once or asked.renew)
+        serve(asked)
     except Fault as fault:
         return end(NAME, fault)
     return 0

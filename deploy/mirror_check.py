@@ -26,20 +26,18 @@ import argparse
 import contextlib
 import filecmp
 import sqlite3
-import subprocess
 import sys
 import tempfile
-from collections.abc import Iterator
 from dataclasses import dataclass
 from pathlib import Path
 from typing import Any
 
 from journal_files import JournalFiles
-from journal_lines import Away, Fault, Line, Source, end, not_empty, town_of
-from journal_table import JournalTable, TableSource
+from journal_lines import Away, Fault, Source, end, not_empty, town_of
+from journal_table import READ_ONLY, JournalTable, TableSource
+from program import Program, lines_up_to
 
 NAME = "mirror_check"
-READ_ONLY = "SET TRANSACTION ISOLATION LEVEL REPEATABLE READ READ ONLY"
 SERIAL = "SELECT serial FROM streetmap_mirror"
 COLLECTIONS = "SELECT id, title, time FROM streetmap_collections"
 BODIES = "SELECT body FROM streetmap_features WHERE collection = %s ORDER BY id"
@@ -112,61 +110,18 @@ def read_mirror(table: JournalTable, folder: Path) -> Mirrored:
     return Mirrored(serial, collections, features)
 
 
-def lines_up_to(source: Source, last: int, serial: int) -> Iterator[Line]:
-    """The lines after one serial, up to that of another."""
-    for line in source.behind(last) if serial > last else ():
-        if line.serial != last + 1:
-            raise Fault("lines_missing", last + 1, line.serial - 1)
-        yield line
-        last = line.serial
-        if last == serial:
-            return
-    if last < serial:
-        raise Fault("lines_missing", last + 1, serial)
-
-
 @dataclass(frozen=True)
-class Server:
+class Server(Program):
     """The program over a file of its own, which has the lines up to a serial."""
 
-    program: str
-    file: Path
-
-    def started(self, word: str, *words: str, **options: Any) -> "subprocess.Popen[bytes]":
-        """A command over the file."""
-        try:
-            return subprocess.Popen([self.program, word, str(self.file), *words], **options)
-        except OSError as error:
-            raise Fault("program_failed", word, more=(str(error),)) from error
-
-    def run(self, word: str, *words: str, **options: Any) -> None:
-        """Runs a command over the file to its end."""
-        if self.started(word, *words, **options).wait() != 0:
-            raise Fault("program_failed", word)
-
-    def last(self, serial: int) -> int:
+    def begin(self, serial: int) -> int:
         """The last serial of the file, which is made again if it is none or has more than these."""
-        if self.file.exists():
-            with contextlib.closing(sqlite3.connect(self.file)) as connection:
-                rows = connection.execute("SELECT coalesce(max(serial), 0) FROM streetmap_batches")
-                (last,) = rows.fetchone()
-            if last <= serial:
-                return int(last)
+        if self.file.exists() and (last := self.last()) <= serial:
+            return last
         for path in self.file.parent.glob(f"{self.file.name}*"):
             path.unlink()
         self.run("create")
         return 0
-
-    def apply(self, lines: Iterator[Line]) -> None:
-        """Applies lines to the file."""
-        with self.started("apply", stdin=subprocess.PIPE, stdout=subprocess.DEVNULL) as applying:
-            assert applying.stdin is not None
-            with contextlib.suppress(BrokenPipeError):
-                for line in lines:
-                    applying.stdin.write(b"%d\t%b\n" % (line.serial, line.text))
-                applying.stdin.close()
-        if applying.returncode != 0:
-            raise Fault("program_failed", "apply")
 
     def collections(self) -> Collections:
         with contextlib.closing(sqlite3.connect(self.file)) as connection:
@@ -199,7 +154,7 @@ def check(asked: argparse.Namespace, folder: Path) -> Mirrored:
         source = JournalFiles(Path(asked.journal))
     server = Server(asked.program, folder / ".streetmap")
     # The last line that the file has is sent again: it acts once, or is seen to be another.
-    last = max(0, server.last(mirrored.serial) - 1)
+    last = max(0, server.begin(mirrored.serial) - 1)
     server.apply(lines_up_to(source, last, mirrored.serial))
     compare(mirrored, server, folder)
     return mirrored

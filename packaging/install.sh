@@ -54,14 +54,17 @@ fi
 
 put "$prefix/share/streetmap/deploy" \
     deploy/{follow,journal_files,journal_lines,journal_mirror,journal_table,journal_to_postgres}.py \
+    deploy/{journal_digest,journal_lease,program,restore}.py \
     deploy/{exporter,mirror_check}.py deploy/{alerts.yml,dashboard.json}
 put "$prefix/share/streetmap/deploy/postgis" deploy/postgis/*
-install -m 755 -t "$root$prefix/share/streetmap/deploy" deploy/{rotate_journal.py,report_failure.sh}
+install -m 755 -t "$root$prefix/share/streetmap/deploy" \
+    deploy/{rotate_journal.py,report_failure.sh,audit.sh}
 install -d "$root$prefix/sbin"
 ln -sf ../share/streetmap/deploy/rotate_journal.py "$root$prefix/sbin/streetmap-rotate-journal"
-for unit in streetmap streetmap-{failed,follower,journal}; do
+for unit in streetmap streetmap-{audit,backup,failed,follower,journal}; do
     put_as "$units/$unit@.service" "deploy/$unit@.service"
 done
+put "$units" deploy/streetmap-{audit,backup}@.timer
 put_as "$units/streetmap-exporter.service" deploy/streetmap-exporter.service
 settings /etc/streetmap/town.conf deploy/town.conf
 settings /etc/default/streetmap deploy/streetmap.default

@@ -101,14 +101,21 @@ def database(context: Context, name: str, folder: Path, port: int) -> Database:
     return Database(Process(context, name, words, port), port)
 
 
-def primary(context: Context) -> Database:
+def primary(context: Context, name: str = "primary") -> Database:
     """A new cluster, which is not started yet."""
-    folder, port = own_folder(context, "primary"), free_port()
+    folder, port = own_folder(context, name), free_port()
     words = ["-U", USER, "-A", "trust", "-E", "UTF8", "--locale=C", "--no-sync", "-D", str(folder)]
     run(context, BIN / "initdb", *words)
     with (folder / "postgresql.conf").open("a") as settings:
         settings.write(SETTINGS.format(port=port))
-    return database(context, "primary", folder, port)
+    return database(context, name, folder, port)
+
+
+def stop(cluster: Database) -> None:
+    """Ends a cluster so that its files are complete."""
+    folder = cluster.process.words[-3]
+    run(cluster.process.context, BIN / "pg_ctl", "-D", folder, "-m", "fast", "-w", "stop")
+    cluster.process.kill()
 
 
 def standby(context: Context, first: Database) -> Database:

@@ -114,6 +114,14 @@ class Script:
     def python(*words: str | Path) -> list[str]:
         return [PYTHON, "-B", *map(str, words)]
 
+    def prints(self, *words: str | Path) -> tuple[str, list[str]]:
+        """What it prints, and its lines on standard error. It prints nothing if it fails."""
+        ended = subprocess.run(
+            self.command(*words), capture_output=True, text=True, timeout=self.context.seconds
+        )
+        self.context.check("a fault has a status", ended.returncode == 0, bool(ended.stdout))
+        return ended.stdout, [line.partition(": ")[2] for line in ended.stderr.splitlines()]
+
     def ends(self, *words: str | Path) -> tuple[int, list[str]]:
         """Its exit status, and its lines but for that which says where it began."""
         ended = subprocess.run(

@@ -125,11 +125,13 @@ def site(context: Context) -> Iterator[Site]:
         wait_until("PostgreSQL answers", primary.answers, context.seconds)
         standby = postgres.standby(context, primary)
         position = context.folder / "left.position"
-        copying = Script(context, "journal_to_postgres.py").command(first.journal, primary.dsn)
+        words: list[str | Path] = [first.journal, primary.dsn, "--lease"]
+        words.append(context.folder / "first.lease")
+        copying = Script(context, "journal_to_postgres.py").command(*words)
         copier = Process(context, "copier", copying)
-        words = [primary.dsn, left.url, "--position", str(position)]
+        words = [primary.dsn, left.url, "--position", position]
         follow_left = follower_script(context, "follow-left", *words)
-        words = [standby.dsn, right.url, "--journal", str(right.journal)]
+        words = [standby.dsn, right.url, "--journal", right.journal]
         follow_right = follower_script(context, "follow-right", *words)
         nginx = front(context, first.port, (left.port, right.port), port)
         servers = [it.process for it in (first, left, right)]

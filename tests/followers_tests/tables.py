@@ -90,6 +90,8 @@ def check_renewed(tables: Tables, before: list[bytes], forked: list[bytes]) -> N
     row("renewed, a journal far behind", late, "lines_missing 260 998", before, "--renew")
     tables.journal.write_bytes(b"".join(forked))
     check("the documented command", renew_as_documented(tables), 0)
+    # Others, which have no lease, would be refused after it.
+    tables.database.ask("DROP TABLE streetmap_lease")
     check("another's", tables.database.journal(), b"".join(forked))
     query = "SELECT serial || E'\\t' || batch || E'\\n' FROM streetmap_journal_replaced"
     kept = "".join(str(row[0]) for row in tables.database.ask(f"{query} ORDER BY serial"))
@@ -104,6 +106,7 @@ def renew_as_documented(tables: Tables) -> int:
     for old, new in (
         ("sudo -u streetmap python3 /usr/share/streetmap/deploy", f"{PYTHON} -B {DEPLOY}"),
         ("/var/lib/streetmap/town.journal", str(tables.journal)),
+        ("/var/lib/streetmap/town.lease", str(tables.journal.with_suffix(".lease"))),
         ("postgresql:///streetmap", tables.database.dsn),
     ):
         command = command.replace(old, new)

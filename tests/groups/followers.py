@@ -4,14 +4,19 @@ The first is under load, and its journal goes by `journal_to_postgres.py` into a
 a streaming standby. `follow.py` brings one follower the lines of the table, and another those of
 the standby's. nginx sends what reads to the followers, and what writes to the first alone. At the
 end each collection's export is the same bytes on all, and each journal that of the first.
+
+Before that, over a PostgreSQL of its own: digests and audits, single bits that are flipped in files
+and tables, leases and promotions, restores up to a serial or a time, and followers that somebody
+else has given batches.
 """
 
 import random
 import time
 
-from followers_tests import figures, fronts, parts, reading, rows, tables
+from followers_tests import audits, figures, flips, forks, fronts, leases, parts, postgres
+from followers_tests import promotions, reading, restores, rows, tables
 from followers_tests.load import Load, delays, tell_delays
-from followers_tests.processes import wait_until
+from followers_tests.processes import running, wait_until
 from followers_tests.site import Site, site
 from harness import Context
 
@@ -95,6 +100,18 @@ def check_end(site: Site, acknowledged: dict[str, int]) -> None:
     print(f"  {len(journal.splitlines())} batches, {len(acknowledged)} acknowledged under kills")
 
 
+def check_tables_alone(context: Context) -> None:
+    """What needs a PostgreSQL, and no server that runs all the time."""
+    own = postgres.primary(context, "alone")
+    with running(own.process):
+        wait_until("PostgreSQL answers", own.answers, context.seconds)
+        audits.check_audits(context, own)
+        leases.check_leases(context, own)
+        promotions.check_promotions(context, own)
+        restores.check_restores(context, own)
+        flips.check_flips(context, own)
+
+
 def run(context: Context) -> None:
     rows.check_rows(context)
     rows.check_large(context)
@@ -102,6 +119,8 @@ def run(context: Context) -> None:
     words = ("--port", "1", "--journal", context.folder / "none.journal")
     if not context.takes("serve", context.folder / "none", *words):
         return
+    forks.check_forks(context)
+    check_tables_alone(context)
     with site(context) as made:
         tables.check_tables(context, made.primary)
         check_quiet(made)

@@ -1,8 +1,8 @@
 """Commands of docs/OPERATING.md as they are there: backup, rotation, restore, who may write.
 
 A town is served by the line of its unit, its journal is copied by rsync over two rotations, and is
-restored. Then what streetmap-rotate-journal does if it is killed, repeated or refused; and what
-is reported of a unit that fails.
+restored. Then what streetmap-rotate-journal does if it is killed, repeated or refused; what the
+units find that audit a town and copy its journal; and what is reported of a unit that fails.
 """
 
 import os
@@ -11,7 +11,7 @@ import sys
 from pathlib import Path
 
 from harness import Context
-from operating_tests import backup, firewall, reports, rotation
+from operating_tests import audits, backup, firewall, reports, rotation
 
 PACKAGES = ("nftables", "rsync")
 TESTS = Path(__file__).resolve().parents[1]
@@ -37,3 +37,4 @@ def run(context: Context) -> None:
         return
     rotation.check_rotation(context)
     backup.check_backup(context)
+    audits.check_units(context)

@@ -46,6 +46,8 @@ UNIT = REPOSITORY / "deploy" / "streetmap@.service"
 FOLLOWER_UNITS = [
     REPOSITORY / "deploy" / f"streetmap-{name}@.service" for name in ("follower", "journal")
 ]
+TIMED_UNITS = [REPOSITORY / "deploy" / f"streetmap-{name}@.service" for name in ("audit", "backup")]
+TIMERS = [unit.with_suffix(".timer") for unit in TIMED_UNITS]
 REPORTING_UNIT = REPOSITORY / "deploy" / "streetmap-failed@.service"
 EXPORTER_UNIT = REPOSITORY / "deploy" / "streetmap-exporter.service"
 # What `systemd-analyze security` may say of the unit: 0 is the best, 10 the worst.
@@ -61,10 +63,13 @@ share/doc/streetmap/docs/API.md
 share/doc/streetmap/examples/town.json
 sbin/streetmap-rotate-journal
 share/streetmap/deploy/alerts.yml
+share/streetmap/deploy/audit.sh
 share/streetmap/deploy/dashboard.json
 share/streetmap/deploy/exporter.py
 share/streetmap/deploy/follow.py
+share/streetmap/deploy/journal_digest.py
 share/streetmap/deploy/journal_files.py
+share/streetmap/deploy/journal_lease.py
 share/streetmap/deploy/journal_lines.py
 share/streetmap/deploy/journal_mirror.py
 share/streetmap/deploy/journal_table.py
@@ -77,7 +82,9 @@ share/streetmap/deploy/postgis/names.sql
 share/streetmap/deploy/postgis/reading.sql
 share/streetmap/deploy/postgis/tables.sql
 share/streetmap/deploy/postgis/views.sql
+share/streetmap/deploy/program.py
 share/streetmap/deploy/report_failure.sh
+share/streetmap/deploy/restore.py
 """.split()
 MANUALS = ["streetmap", "streetmap-rotate-journal"]
 NAMES = ("streetmap", "streetmap-gateway")
@@ -146,9 +153,12 @@ def check_make_install(context: Context) -> None:
         context.check(
             f"the script of {path.name}", (folder / script.relative_to("/")).is_file(), True
         )
-    (reporting,) = unit_lines(units / REPORTING_UNIT.name)["ExecStart"]
-    script = folder / reporting.split()[0].lstrip("/")
-    context.check("the script that reports", os.access(script, os.X_OK), True)
+    for unit in (REPORTING_UNIT, TIMED_UNITS[0]):
+        line, *_ = unit_lines(units / unit.name)["ExecStart"]
+        script = folder / line.split()[0].lstrip("/")
+        context.check(f"the script of {unit.name}", os.access(script, os.X_OK), True)
+    there = [(units / timer.name).is_file() for timer in TIMERS]
+    context.check("the timers", there, [True, True])
     context.check("the manual pages", [path.stem for path in manuals], MANUALS)
     linted = output_of("mandoc", "-T", "lint", "-W", "warning", *manuals)
     context.check("their form", linted, "")
@@ -186,7 +196,7 @@ def allowed_calls(unit: Path) -> set[str]:
 
 
 def check_exposure(context: Context) -> None:
-    for unit in (UNIT, *FOLLOWER_UNITS, EXPORTER_UNIT):
+    for unit in (UNIT, *FOLLOWER_UNITS, *TIMED_UNITS, EXPORTER_UNIT):
         analysed = output_of("systemd-analyze", "security", "--offline=true", unit)
         exposure = re.search(r"exposure level for \S+: ([0-9.]+)", analysed)
         assert exposure is not None
@@ -197,7 +207,7 @@ def check_verified(context: Context) -> None:
     """systemd knows each setting of the units."""
     folder = context.folder / "verified"
     folder.mkdir()
-    for unit in (UNIT, *FOLLOWER_UNITS, REPORTING_UNIT, EXPORTER_UNIT):
+    for unit in (UNIT, *FOLLOWER_UNITS, *TIMED_UNITS, *TIMERS, REPORTING_UNIT, EXPORTER_UNIT):
         text = unit.read_text().replace("/usr/share/streetmap", str(REPOSITORY))
         (folder / unit.name).write_text(text)
     for unit in sorted(folder.iterdir()):

@@ -27,7 +27,7 @@ class Town:
 
     @classmethod
     def of(cls, made: Machine) -> "Town":
-        copy, compare, copy_files = commands_of("Backup")
+        copy, _, compare, copy_files = commands_of("Backup")
         (rotate,) = commands_of("Rotation")
         return cls(made, copy, compare, copy_files, rotate)
 
@@ -116,13 +116,16 @@ def check_lost(town: Town) -> None:
 def check_restore(town: Town) -> None:
     """The restored file has the exports and counts of the one before, and takes its place."""
     made, context = town.machine, town.context
-    restore, replace = commands_of("Restore")
-    counted = made.done(restore).splitlines()[-1]
+    restore, _, replace = commands_of("Restore")
+    said, restored = made.done(restore), made.town.with_name("restored")
+    count = len(town.posted) + 1
+    context.check("what is said", said.startswith(f"{restored} has serial {count}: "), True)
     made.done("sudo systemctl stop streetmap@town")
-    context.check("the counts", f"{counted}\n".encode(), context.run("check", made.town))
+    counts = [context.run("check", it) for it in (made.town, restored)]
+    context.check("the counts", counts[1], counts[0])
     context.check("the exports", town.exported("restored") == town.exported("town"), True)
     batches = context.run("batches", made.town)
-    context.check("the batches", context.run("batches", made.town.with_name("restored")), batches)
+    context.check("the batches", context.run("batches", restored), batches)
     made.done(replace)
     made.wait()
     context.check("its journal", town.files(made.town.parent), {FIRST: batches})
@@ -136,13 +139,13 @@ def check_restore_of_parts(town: Town) -> None:
     """Copies whose last line is cut, the same over a copy of the two files, and copies without a
     file of the journal."""
     made, context = town.machine, town.context
-    (create, apply), _ = (it.split("\n", 1) for it in commands_of("Restore"))
+    restore, apply, _ = commands_of("Restore")
     restored, lines = made.town.with_name("restored"), len(town.posted) + 1
     last = town.backup / names(19)[0]
     last.write_bytes(last.read_bytes()[:-3])
-    made.done(create)
-    ended = made.run(apply)
-    context.check("a cut line", ended.stderr, f"streetmap: cut_line {lines}\n")
+    ended = made.run(restore)
+    cut = f"restore: the line after serial {lines - 1} is cut, and is left out\n"
+    context.check("a cut line", (ended.returncode, ended.stderr), (0, cut))
     wanted = b"".join(context.run("batches", made.town).splitlines(True)[: lines - 1])
     context.check("the lines before it", context.run("batches", restored), wanted)
     for name in ("town", "town-wal"):
@@ -154,9 +157,9 @@ def check_restore_of_parts(town: Town) -> None:
     for path in made.town.parent.glob("restored*"):
         path.unlink()
     (town.backup / names(10)[0]).unlink()
-    made.done(create)
-    ended = made.run(apply)
-    context.check("without a file", ended.stderr, "streetmap: not_the_next 10\n")
+    ended = made.run(restore)
+    context.check("without a file", ended.stderr, "restore: lines_missing 10 18\n")
+    context.check("nothing is made", restored.exists(), False)
 
 
 def check_backup(context: Context) -> None:

@@ -24,6 +24,7 @@ PYTHON = "/usr/bin/python3 -B"
 # Folders of the documents, which are below that of the machine here.
 PLACES = ("/var/lib/streetmap", "/etc/streetmap", "/srv/backup")
 COMMANDS = {
+    "chown": "",
     "sudo": 'case $1 in -u) shift 2 ;; esac\nexec "$@"',
     "ssh": 'shift\nexec sh -c "$*"',
     "streetmap": 'exec "{program}" "$@"',
@@ -79,8 +80,13 @@ class Machine:
 
     def run(self, commands: str) -> subprocess.CompletedProcess[str]:
         """Runs commands of the documents, up to the first that fails."""
+        commands = commands.replace("python3 /usr/share/streetmap/deploy", f"{PYTHON} {DEPLOY}")
         for place in PLACES:
             commands = commands.replace(place, str(self.path(place)))
+        return self.run_here(commands)
+
+    def run_here(self, commands: str) -> subprocess.CompletedProcess[str]:
+        """Runs commands whose paths are those of the machine's folder."""
         path = f"{self.path('/bin')}:{os.environ['PATH']}"
         return subprocess.run(
             ["sh", "-ec", commands],

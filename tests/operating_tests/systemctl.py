@@ -74,7 +74,8 @@ def main() -> int:
         log.write(f"{command}\n")
     if command == "is-active":
         waits = (folder / "is-restarting").exists()
-        print("activating" if waits else "active" if active(folder) else "inactive")
+        if "--quiet" not in sys.argv:
+            print("activating" if waits else "active" if active(folder) else "inactive")
         return 0 if active(folder) else 3
     if command in ("stop", "restart"):
         stop(folder)
