@@ -183,7 +183,9 @@ def one_gateway(server: int, folder: Path) -> Iterator[int]:
     origin = {"easting": EASTING, "northing": NORTHING}
     settings.write_text(SETTINGS.format(port=port, server=server, **origin))
     seen = os.environ | {"PYTHONDONTWRITEBYTECODE": "1", "PYTHONPATH": str(ROOT)}
-    process = subprocess.Popen([PYTHON, "-m", "gateway", str(settings)], cwd=ROOT, env=seen)
+    with (folder / f"access-{port}").open("wb") as log:
+        words = [PYTHON, "-m", "gateway", str(settings)]
+        process = subprocess.Popen(words, cwd=ROOT, env=seen, stdout=log)
     with until_done(process, port):
         yield port
 
@@ -355,3 +357,4 @@ def run(program: Path, folder: Path) -> None:
         if MAPSERVER.exists():
             services.append(started.enter_context(mapserver(lamps, folder / "mapserver")))
         table(services)
+        report("the load of the machine", " ".join(f"{it:.1f}" for it in os.getloadavg()))

@@ -88,6 +88,9 @@ class MirroredTable(JournalTable):
             for part in PARTS:
                 cursor.execute((FOLDER / part).read_text())
             self.settle(cursor)
+        # By itself: a new column has locked readers out until now.
+        with self.transaction() as cursor:
+            cursor.execute(LOCK)
             cursor.execute(PLACE_AGAIN)
         self.is_indexed, self.views_at = False, 0.0
         self.catch_up()
