@@ -64,6 +64,7 @@ share/streetmap/deploy/alerts.yml
 share/streetmap/deploy/dashboard.json
 share/streetmap/deploy/exporter.py
 share/streetmap/deploy/follow.py
+share/streetmap/deploy/journal_changes.py
 share/streetmap/deploy/journal_files.py
 share/streetmap/deploy/journal_lines.py
 share/streetmap/deploy/journal_mirror.py
