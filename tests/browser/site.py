@@ -11,8 +11,8 @@ from pathlib import Path
 from typing import Any
 from urllib.error import HTTPError
 
-from conditional import Town, standing_in
 from harness import Context, Server, free_port
+from stand_in import Town, standing_in
 
 from browser.relay import Relay
 
