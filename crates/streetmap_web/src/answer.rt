@@ -5,21 +5,24 @@ ghost use Rattle.streetmap_connections.specs.Answers.{answer_text};
 ghost use Rattle.streetmap_http.specs.AnswerHead.{head_text};
 ghost use Rattle.streetmap_routes.specs.BaseView.{root_of};
 ghost use Rattle.streetmap_http.specs.FramingView.{head_value};
+ghost use Rattle.streetmap_web.specs.Site.{site_value};
 ghost use Rattle.streetmap_web.specs.Response.{response_text, head_of, fault_response};
 ghost use Rattle.streetmap_web.specs.Response.{request_of, sent_so};
 ghost use Rattle.streetmap_web.specs.Responds.{response_value, Sends, Answers, RefusesBy};
 ghost use Rattle.streetmap_bodies.specs.declared.request_fault.RequestFault.TheVariants.{Framing};
 ghost use Rattle.streetmap_bodies.specs.declared.request_fault.RequestFault.TheVariants as faults;
 
-use crate::respond::{faulty, respond_to};
+use crate::conditional::{respond, wanted_of};
+use crate::respond::faulty;
 use crate::response::Response;
+use crate::site::Site;
 use http::StatusCode;
 use std::alloc::{AllocError, Global};
 use streetmap_bodies::RequestFault;
 use streetmap_connections::Answer;
 use streetmap_http::{AnswerHead, FramingFault, RequestHead, is_bare, push_head};
-use streetmap_ledger::{Fault, Keeper};
-use streetmap_routes::Base;
+use streetmap_ledger::Fault;
+use streetmap_tags::Tagged;
 
 /// The room that is allocated for the head of an answer.
 const HEAD_ROOM: usize = 256;
@@ -36,6 +39,7 @@ fn finish(room: String, response: Response, closes: bool, bare: bool) -> Answer
     let Response {
         status,
         kind,
+        tag,
         allow,
         body,
     } = response;
@@ -46,6 +50,7 @@ fn finish(room: String, response: Response, closes: bool, bare: bool) -> Answer
             status,
             kind,
             len: body.len() as u64,
+            tag,
             allow,
             closes,
         },
@@ -106,23 +111,26 @@ fn closes(status: StatusCode) -> bool
 }
 
 /// Answers a request, unless a fault prevents it.
-fn try_answer<K: Keeper>(
+fn try_answer<K: Tagged>(
     alloc: Global,
     keeper: &mut K,
-    base: &Base,
+    site: &Site,
     request: RequestHead,
     body: &[u8],
 ) -> Result<(Answer, bool), Fault>
-    ensures { Sends K.model (root_of base.now)
-        (request_of (head_value request.entry) body.now) keeper.old keeper.new result }
+    ensures { Sends K.model (root_of site.now.base)
+        (request_of site.now.tags (head_value request.entry) body.now)
+        keeper.old keeper.new result }
 {
     let Ok(room) = String::with_capacity(alloc, HEAD_ROOM) else {
         return Err(Fault::Memory);
     };
+    let base = &site.base;
     let Ok(operation) = base.operation(alloc, request.method, request.target, body) else {
         return Err(Fault::Memory);
     };
-    match respond_to(alloc, keeper, base.root(), &operation) {
+    let wanted = wanted_of(site.tags, request.preconditions, operation);
+    match respond(alloc, keeper, base.root(), &wanted) {
         Ok(response) => {
             let closes = request.closes || closes(response.status);
             Ok((
@@ -135,18 +143,18 @@ fn try_answer<K: Keeper>(
 }
 
 /// Answers a request. Returns the bytes, and whether the connection closes.
-pub(crate) fn answer_to<K: Keeper>(
+pub(crate) fn answer_to<K: Tagged>(
     alloc: Global,
     keeper: &mut K,
-    base: &Base,
+    site: &Site,
     request: RequestHead,
     body: &[u8],
 ) -> (Answer, bool)
-    ensures { Answers K.model (root_of base.now)
-        (request_of (head_value request.entry) body.now)
+    ensures { Answers K.model (site_value site.now)
+        (request_of site.now.tags (head_value request.entry) body.now)
         (sent_so (answer_text result.0) result.1) keeper.old keeper.new }
 {
-    match try_answer(alloc, keeper, base, request, body) {
+    match try_answer(alloc, keeper, site, request, body) {
         Ok(answer) => answer,
         Err(fault) => (fixed(fault, is_bare(request.method)), true),
     }

@@ -1,6 +1,6 @@
 use Rattle.std.proofs.Common.{rules}
 use Rattle.streetmap_connections.specs.Served.{slots_of}
-use Rattle.streetmap_web.proofs.RequestsInTurn.{base_kept, all_calls, serves_clients}
+use Rattle.streetmap_web.proofs.RequestsInTurn.{site_kept, all_calls, serves_clients}
 use Rattle.streetmap_web.proofs.clients.serve_clients.Goals as goal
 
 pub returns-clause-serves : goal.returns-clause-serves
@@ -13,10 +13,10 @@ returns-clause-calls g c =
     let said = c.serve_connections in
     all_calls g.K.Keeper.model c.args.service.now said.new.service said.ensures.serves.exchanges said.ensures.serves.leads
 
-pub returns-clause-base : goal.returns-clause-base
-returns-clause-base g c =
+pub returns-clause-site : goal.returns-clause-site
+returns-clause-site g c =
     let said = c.serve_connections in
-    base_kept g.K.Keeper.model c.args.service.now said.new.service said.ensures.serves.exchanges said.ensures.serves.leads
+    site_kept g.K.Keeper.model c.args.service.now said.new.service said.ensures.serves.exchanges said.ensures.serves.leads
 
 pub returns-clause-counted : goal.returns-clause-counted
 returns-clause-counted c = search rules
