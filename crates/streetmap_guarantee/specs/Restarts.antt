@@ -27,7 +27,7 @@ pub data Runs {Image : Type 0} (holds : Image → State → Type 0) (site : Site
 
 -- From one state the runs led to another: each to the state after the batches that it acknowledged,
 -- in the order of its history, and after at most one more, at which its store failed.
-abbrev pub LeadTo : {Image : Type 0} {holds : Image → State → Type 0} {site : Text}
+abbrev pub LeadTo : {Image : Type 0} {holds : Image → State → Type 0} {site : SiteValue}
     {first last : Image} → Runs holds site first last → State → State → Type 0
 LeadTo none s t = t ≡ s
 LeadTo {holds = holds} {first = first} (more run runs) s t =
