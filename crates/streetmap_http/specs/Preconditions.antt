@@ -1,6 +1,6 @@
 -- What the fields of a head say of the tag of what is there. RFC 9110, sections 13.1.1 and 13.1.2.
-use Rattle.std.specs.Prelude.{ℕ, List, [], ◌∷◌, ◌++◌, Bool, true, false, ◌&&◌, ◌==◌, count_by, codes}
-use Rattle.std.specs.Prelude.{if◌then◌else◌, Option, None, Some, option_map}
+use Rattle.std.specs.Prelude.{ℕ, List, [], ◌∷◌, ◌++◌, Bool, true, false, ◌&&◌, ◌==◌, count_by}
+use Rattle.std.specs.Prelude.{codes, if◌then◌else◌, Option, None, Some, option_map}
 use Rattle.std.specs.Prelude.{option_and_then, bytes_eq}
 use Rattle.std.specs.List.{list_any}
 use Rattle.streetmap_http.specs.Fields.{FieldValue, is_named, first_value}
