@@ -39,8 +39,8 @@ use streetmap_reading::{
     summaries_of, summary_of,
 };
 use streetmap_rows::{ReadFault, Shut, Stop, settle};
-use streetmap_tags::Tagged;
 use streetmap_tables::{MakeFault, TablesFault, apply_batch, make_tables, open_tables};
+use streetmap_tags::Tagged;
 
 /// A keeper over the tables of a connection, between whose calls no transaction is open.
 #[derive(Drop)]

@@ -9,9 +9,9 @@ use sqlite::{Alter, Connection};
 use std::alloc::{AllocError, Global};
 use std::test::Fail;
 use streetmap_index::IndexedKeeper;
-use streetmap_ledger::Keeper;
 use streetmap_memory::PlainKeeper;
 use streetmap_store::TableKeeper;
+use streetmap_tags::Tagged;
 
 /// The rows, a line each.
 fn rows() -> &'static str {
@@ -53,7 +53,7 @@ fn push_before(alloc: Global, requests: &mut String, row: &Value) -> Result<(), 
 }
 
 /// Whether a new keeper gives these answers to the requests of a row.
-fn is_answered_so<K: Keeper>(alloc: Global, keeper: &mut K, row: Row<'_>) -> bool {
+fn is_answered_so<K: Tagged>(alloc: Global, keeper: &mut K, row: Row<'_>) -> bool {
     answers(alloc, keeper, row.first).is_some()
         && answers(alloc, keeper, row.sent).is_some_and(|text| text.as_slice()
             == row.written.as_bytes())
@@ -63,7 +63,7 @@ impl Task for Row<'_> {
     type Output = bool;
 
     /// Whether a new keeper gives these answers to the requests of the row.
-    fn run<K: Keeper>(self, alloc: Global, keeper: &mut K) -> bool {
+    fn run<K: Tagged>(self, alloc: Global, keeper: &mut K) -> bool {
         is_answered_so(alloc, keeper, self)
     }
 }
