@@ -261,7 +261,7 @@ pub(crate) fn wanted_of<'a>(
     operation: Operation,
 ) -> Wanted<'a>
     ensures { wanted_value result ≡
-        wanted_of tags (preconditions_value preconditions) (operation_value operation) }
+        wanted_of tags (preconditions_value preconditions.entry) (operation_value operation) }
 {
     if !tags {
         return Wanted {
