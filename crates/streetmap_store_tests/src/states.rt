@@ -44,7 +44,7 @@ fn push_state<K: Tagged>(
     keeper: &mut K,
     states: &mut Vec<Vec<u8>>,
 ) -> Result<(), Fail> {
-    match answers(alloc, keeper, LOOKS) {
+    match answers(alloc, keeper, false, LOOKS) {
         Some(text) => Ok(states.push(text)?),
         None => Err(Fail::from("nothing was answered")),
     }
@@ -75,7 +75,7 @@ pub(crate) enum Seen {
 
 /// How many batches a keeper's state is after; none if it is in no such state.
 fn place<K: Tagged>(alloc: Global, keeper: &mut K, states: &[Vec<u8>]) -> Option<usize> {
-    let text = answers(alloc, keeper, LOOKS)?;
+    let text = answers(alloc, keeper, false, LOOKS)?;
     states.iter().position(|state| *state == text)
 }
 
