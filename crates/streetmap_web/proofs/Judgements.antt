@@ -1,5 +1,5 @@
 -- Answers by a verdict on the state's tag, which was read before.
-use Rattle.std.proofs.Common.{◌≡◌, ◌≢◌, ℕ, Bool, true, false, refl, sym, ap, subst, ◌∙◌, Option, Some, None, IsSome, Result, Ok, Err, inl, inr, IfOk, OnErr}
+use Rattle.std.proofs.Common.{◌≡◌, ◌≢◌, ◌⊎◌, ℕ, Bool, true, false, refl, sym, ap, subst, ◌∙◌, Option, Some, None, IsSome, Result, Ok, Err, inl, inr, IfOk, OnErr}
 use Rattle.std.specs.Prelude.{if◌then◌else◌}
 use Rattle.std.specs.declared.alloc.AllocError.{AllocError}
 use Rattle.streetmap_http.specs.Preconditions.{PreconditionsValue}
@@ -78,23 +78,23 @@ not_judged model root operation verdict n p k = record {
 
 module _ {K T : Type 0} {model : Model K} {old mid : K} {x : T} {Shows : State → T → Type 0} (read : IsRead model old mid (Ok x) Shows) where
   -- what was responded between the second keeper and a third
-  later_in : {A : Type 0} {new : K} {Is : A → ResponseValue → Type 0} (s next : State) (operation : OperationValue) (answer : ResponseValue) (result : Result A Fault)
+  later_in : {A : Type 0} (new : K) (Is : A → ResponseValue → Type 0) (s next : State) (operation : OperationValue) (answer : ResponseValue) (result : Result A Fault)
       → ByCalls model mid new → RespondsIn model s operation answer next Is mid new result → RespondsIn model s operation answer next Is old new result
-  later_in {new = new} s next operation answer (Ok r) calls says = says
-  later_in {new = new} s next operation answer (Err faults.Memory) calls says = says
-  later_in {new = new} s next operation answer (Err faults.Device) calls says =
+  later_in new Is s next operation answer (Ok r) calls says = says
+  later_in new Is s next operation answer (Err faults.Memory) calls says = says
+  later_in new Is s next operation answer (Err faults.Device) calls says =
       (says.0, says.1, model.fails_later old mid new read.call.preserved calls.preserved says.2, says.3)
-  later_in {new = new} s next operation answer (Err faults.Damaged) calls says = says
-  later_in {new = new} s next operation answer (Err faults.Reopen) calls says = says
+  later_in new Is s next operation answer (Err faults.Damaged) calls says = says
+  later_in new Is s next operation answer (Err faults.Reopen) calls says = says
 
-  later_batch : {A : Type 0} {new : K} {Is : A → ResponseValue → Type 0} (p : PreconditionsValue) (b : BatchValue) (result : Result A Fault)
+  later_batch : {A : Type 0} (new : K) (Is : A → ResponseValue → Type 0) (p : PreconditionsValue) (b : BatchValue) (result : Result A Fault)
       → RespondsToBatch b.key (Some p) Is result (λ r. AppliesBy model (Some p) mid b r new) (ByCalls model mid new)
       → RespondsToBatch b.key (Some p) Is result (λ r. AppliesBy model (Some p) old b r new) (ByCalls model old new)
-  later_batch {new = new} p b (Ok r) says = elim says [
+  later_batch new Is p b (Ok r) says = elim says [
     | inl it ↦ inl (it.0, it.1, (it.2.0, calls_then model old mid it.2.0 (by_call read.call) it.2.1, it.2.2), it.3, it.4)
     | inr it ↦ inr (it.0, calls_then model old mid new (by_call read.call) it.1, it.2)
   ]
-  later_batch {new = new} p b (Err fault) says = elim says [
+  later_batch new Is p b (Err fault) says = elim says [
     | inl it ↦ inl (it.0, calls_then model old mid it.0 (by_call read.call) it.1, it.2)
     | inr it ↦ inr (calls_then model old mid new (by_call read.call) it.0, tt)
   ]
@@ -111,11 +111,11 @@ module _ {K T : Type 0} {model : Model K} {old mid : K} {x : T} {Shows : State �
           let alike = same s seen.0 in
           let here = says.in_state clean s seen.1 tag in
           let answered = subst (λ (r : ResponseValue). RespondsIn model s operation r (state_by s operation one) Is mid new result) alike.0 here in
-          later_in s (state_by s operation other) operation (judged root s operation other) result says.calls
+          later_in new Is s (state_by s operation other) operation (judged root s operation other) result says.calls
           (subst (λ (t : State). RespondsIn model s operation (judged root s operation other) t Is mid new result) alike.1 answered);
       shut = λ why e. open_not_shut _ why read.call.faults.0 e;
       any = says.any;
-      to_batch = λ b e. later_batch p b result (says.to_batch b e);
+      to_batch = λ b e. later_batch new Is p b result (says.to_batch b e);
     }
 
 -- the tag was read, and gives the verdict
@@ -135,11 +135,11 @@ module _ {K A : Type 0} {model : Model K} {old mid new : K} {n : ℕ} (read : Is
         ∙ ap (λ (b : Bool). if b then judged root s operation (verdict_on (batch_count s) p operation) else response_in root s operation) (sym needed) in
         let next : state_by s operation verdict ≡ state_to s wanted = ap (λ k. state_by s operation (verdict_on k p operation)) seen.0 in
         let answered = subst (λ (r : ResponseValue). RespondsIn model s operation r (state_by s operation verdict) Is mid new result) answer here in
-        later_in read s (state_to s wanted) operation (response_to root s wanted) result says.calls
+        later_in read new Is s (state_to s wanted) operation (response_to root s wanted) result says.calls
         (subst (λ (t : State). RespondsIn model s operation (response_to root s wanted) t Is mid new result) next answered);
     shut = λ why e. open_not_shut _ why read.call.faults.0 e;
     any = says.any;
-    to_batch = λ b e. later_batch read p b result (says.to_batch b e);
+    to_batch = λ b e. later_batch read new Is p b result (says.to_batch b e);
   }
 
 -- ---- a read that failed
@@ -167,34 +167,48 @@ module _ {K T : Type 0} {model : Model K} {old new : K} {Shows : State → T →
 
 -- ---- a batch that is held back
 
-module _ {K : Type 0} {model : Model K} {old new : K} (root : Text) (b : BatchValue) (n : ℕ) (p : PreconditionsValue) where
-  -- its key was used
-  used_alike : (s : State) → is_used s b.key ≡ true
-      → (judged root s (batch b) Holds ≡ judged root s (batch b) Changed) × (state_by s (batch b) Holds ≡ state_by s (batch b) Changed)
-  used_alike s used = (
-    ap (λ (t : State). tagged (batch_count t) (replied b.key (act s b).reply)) (used_stays s b used)
-        ∙ ap (λ (u : Bool). if u then tagged (batch_count s) (replied b.key (act s b).reply) else changed) (sym used),
-    used_stays s b used,
-  )
+-- its key was used
+used_alike : (root : Text) (b : BatchValue) (s : State) → is_used s b.key ≡ true
+    → (judged root s (batch b) Holds ≡ judged root s (batch b) Changed) × (state_by s (batch b) Holds ≡ state_by s (batch b) Changed)
+used_alike root b s used = (
+  ap (λ (t : State). tagged (batch_count t) (replied b.key (act s b).reply)) (used_stays s b used)
+      ∙ ap (λ (u : Bool). if u then tagged (batch_count s) (replied b.key (act s b).reply) else changed) (sym used),
+  used_stays s b used,
+)
 
-  pub used_judged : {mid : K} (result : Result Response Fault) → IsRead model old mid (Ok true) (IsKeyUsed b.key)
+module _ {K : Type 0} {model : Model K} {old new : K} (root : Text) (b : BatchValue) (n : ℕ) (p : PreconditionsValue) where
+  pub used_judged : {mid : K} (key : Text) (used : Bool) (result : Result Response Fault) → key ≡ b.key → used ≡ true → IsRead model old mid (Ok used) (IsKeyUsed key)
       → RespondsBy model root (batch b) Holds n p IsResponse mid new result → RespondsBy model root (batch b) Changed n p IsResponse old new result
-  used_judged result read says = judged_then read root (batch b) n p result Holds Changed (λ s used. used_alike s (sym used)) says
+  used_judged key used result same is read says =
+      judged_then read root (batch b) n p result Holds Changed (λ s shown. used_alike root b s (ap (is_used s) (sym same) ∙ sym shown ∙ is)) says
+
+  -- for another verdict under which the batch is not acted on
+  pub held_judged : (verdict : Verdict) (result : Result Response Fault) → (verdict ≡ NotModified) ⊎ (verdict ≡ Changed)
+      → RespondsBy model root (batch b) Changed n p IsResponse old new result → RespondsBy model root (batch b) verdict n p IsResponse old new result
+  held_judged verdict result (inl is) says = subst (λ (v : Verdict). RespondsBy model root (batch b) v n p IsResponse old new result) (sym is) (record {
+    calls = says.calls;
+    in_state = says.in_state;
+    shut = says.shut;
+    any = says.any;
+    to_batch = says.to_batch;
+  })
+  held_judged verdict result (inr is) says = subst (λ (v : Verdict). RespondsBy model root (batch b) v n p IsResponse old new result) (sym is) says
 
   -- its key is new
-  pub new_judged : (found : Result Response AllocError) (result : Result Response Fault) → IsRead model old new (Ok false) (IsKeyUsed b.key)
-      → IfOk found (λ r. response_value r ≡ changed) → IfOk found (λ r. result ≡ Ok r) → OnErr found (result ≡ Err faults.Memory)
+  pub new_judged : (key : Text) (used : Bool) (found : Result Response AllocError) (result : Result Response Fault) → key ≡ b.key → used ≡ false
+      → IsRead model old new (Ok used) (IsKeyUsed key) → IfOk found (λ r. response_value r ≡ changed) → IfOk found (λ r. result ≡ Ok r) → OnErr found (result ≡ Err faults.Memory)
       → RespondsBy model root (batch b) Changed n p IsResponse old new result
-  new_judged (Ok r) result read is same none = subst (λ (it : Result Response Fault). RespondsBy model root (batch b) Changed n p IsResponse old new it) (sym same) (record {
+  new_judged key used (Ok r) result at unused read is same none = subst (λ (it : Result Response Fault). RespondsBy model root (batch b) Changed n p IsResponse old new it) (sym same) (record {
     calls = by_call read.call;
     in_state = λ clean s h tag.
         let seen = read.reads clean s h in
-        (is ∙ ap (λ (u : Bool). if u then tagged (batch_count s) (replied b.key (act s b).reply) else changed) seen.0, seen.1);
+        let fresh : false ≡ is_used s b.key = sym unused ∙ seen.0 ∙ ap (is_used s) at in
+        (is ∙ ap (λ (u : Bool). if u then tagged (batch_count s) (replied b.key (act s b).reply) else changed) fresh, seen.1);
     shut = λ why e. open_not_shut _ why read.call.faults.0 e;
     any = (changed, (λ plain. absurd (let bad : true ≡ false = plain in cc), λ has_request e. changed_well e), is);
     to_batch = λ c e. inr (refl, by_call read.call, is);
   })
-  new_judged (Err w) result read is same none = subst (λ (it : Result Response Fault). RespondsBy model root (batch b) Changed n p IsResponse old new it) (sym none) (record {
+  new_judged key used (Err w) result at unused read is same none = subst (λ (it : Result Response Fault). RespondsBy model root (batch b) Changed n p IsResponse old new it) (sym none) (record {
     calls = by_call read.call;
     in_state = λ clean s h tag. (read.reads clean s h).1;
     shut = λ why e. open_not_shut _ why read.call.faults.0 e;
@@ -218,11 +232,36 @@ placed_so n r Holds other = absurd (other refl)
 placed_so n r NotModified other = refl
 placed_so n r Changed other = refl
 
+no_batch : {A : Type 0} (operation : OperationValue) → is_batch operation ≡ false → (b : BatchValue) → operation ≡ batch b → A
+no_batch operation read b e = absurd (let bad : false ≡ true = sym read ∙ ap is_batch e in cc)
+
+probe_stays : (s : State) (operation : OperationValue) (verdict : Verdict) → is_batch operation ≡ false → state_in s (probe operation) ≡ state_by s operation verdict
+probe_stays s operation verdict read = read_stays s (probe operation) (probe_reads operation read) ∙ sym (read_by s operation verdict read)
+
+fails_in : {K : Type 0} (model : Model K) (old new : K) (operation : OperationValue) (verdict : Verdict) → is_batch operation ≡ false → needs_state operation ≡ true
+    → (fault : Fault) (s : State) → FaultsIn model s (probe operation) (state_in s (probe operation)) old new fault
+    → FaultsIn model s operation (state_by s operation verdict) old new fault
+fails_in model old new operation verdict read needed faults.Memory s says = says
+fails_in model old new operation verdict read needed faults.Device s says =
+    (needed, says.1, says.2, subst (λ (t : State). LeavesEither (model.may_leave new) (Some s) (Some t)) (probe_stays s operation verdict read) says.3)
+fails_in model old new operation verdict read needed faults.Damaged s says = says
+fails_in model old new operation verdict read needed faults.Reopen s says = says
+
+fails_shut : (root : Text) (operation : OperationValue) → needs_state operation ≡ true → (fault : Fault) → FaultsShut root (probe operation) fault → FaultsShut root operation fault
+fails_shut root operation needed faults.Memory says = says
+fails_shut root operation needed faults.Device says = says
+fails_shut root operation needed faults.Damaged says = says
+fails_shut root operation needed faults.Reopen says = needed_shut root operation needed
+
+fails_any : (operation : OperationValue) → needs_state operation ≡ true → (fault : Fault) (cause : Option Cause) → FaultsAny (probe operation) fault cause
+    → FaultsAny operation fault cause
+fails_any operation needed faults.Memory cause says = says
+fails_any operation needed faults.Device cause says = (needed, says.1)
+fails_any operation needed faults.Damaged cause says = (needed, says.1)
+fails_any operation needed faults.Reopen cause says = (needed, says.1)
+
 module _ {K : Type 0} {model : Model K} {old new : K} (root : Text) (operation : OperationValue) (n : ℕ) (p : PreconditionsValue)
     (read : is_batch operation ≡ false) (needed : needs_state operation ≡ true) where
-  no_batch_here : {A : Type 0} (b : BatchValue) → operation ≡ batch b → A
-  no_batch_here b e = absurd (let bad : false ≡ true = sym read ∙ ap is_batch e in cc)
-
   pub tagged_judged : (response with_tag : Response) → Responds model root (plainly operation) IsResponse old new (Ok response)
       → response_value with_tag ≡ tagged n (response_value response) → RespondsBy model root operation Holds n p IsResponse old new (Ok with_tag)
   tagged_judged response with_tag says is = record {
@@ -239,7 +278,7 @@ module _ {K : Type 0} {model : Model K} {old new : K} (root : Text) (operation :
       (λ plain. absurd (let bad : true ≡ false = sym needed ∙ plain in cc), λ has_request e. tagged_well n says.any.0 (says.any.1.1 has_request) e),
       is ∙ ap (tagged n) says.any.2,
     );
-    to_batch = λ b e. no_batch_here b e;
+    to_batch = λ b e. no_batch operation read b e;
   }
 
   pub failed_by : (fault : Fault) → Responds {A = Response} model root (plainly operation) IsResponse old new (Err fault)
@@ -249,16 +288,10 @@ module _ {K : Type 0} {model : Model K} {old new : K} (root : Text) (operation :
     in_state = λ clean s h tag. says.in_state clean s h;
     shut = says.shut;
     any = says.any;
-    to_batch = λ b e. no_batch_here b e;
+    to_batch = λ b e. no_batch operation read b e;
   }
 
   module _ (verdict : Verdict) (other : verdict ≢ Holds) where
-    probe_needed : needs_state (probe operation) ≡ true
-    probe_needed = probe_needs operation ∙ needed
-
-    probe_stays : (s : State) → state_in s (probe operation) ≡ state_by s operation verdict
-    probe_stays s = read_stays s (probe operation) (probe_reads operation read) ∙ sym (read_by s operation verdict read)
-
     pub instead_judged : (response : Response) (found : Result Response AllocError) (result : Result Response Fault)
         → Responds model root (plainly (probe operation)) IsResponse old new (Ok response)
         → IfOk found (λ r. response_value r ≡ instead (in_place_by n verdict) (response_value response))
@@ -273,11 +306,11 @@ module _ {K : Type 0} {model : Model K} {old new : K} (root : Text) (operation :
               let asked : ResponseValue = response_in root s operation in (
                 is ∙ ap (instead q) here.0 ∙ probe_same root s operation q ∙ placed_so n asked verdict other
                     ∙ ap (λ k. read_judged k asked verdict) tag ∙ sym (read_is_judged root s operation verdict read),
-                subst (model.represents new) (probe_stays s) here.1,
+                subst (model.represents new) (probe_stays s operation verdict read) here.1,
               );
           shut = λ why e.
               let here = says.shut why e in (
-                is ∙ ap (instead q) (here.0 ∙ needed_shut root (probe operation) probe_needed) ∙ instead_reopen q ∙ sym (needed_shut root operation needed),
+                is ∙ ap (instead q) (here.0 ∙ needed_shut root (probe operation) (probe_needs operation ∙ needed)) ∙ instead_reopen q ∙ sym (needed_shut root operation needed),
                 here.1,
                 here.2,
               );
@@ -285,11 +318,11 @@ module _ {K : Type 0} {model : Model K} {old new : K} (root : Text) (operation :
             instead q says.any.0,
             (
               λ plain. absurd (let bad : true ≡ false = sym needed ∙ plain in cc),
-              λ has_request e. instead_well q says.any.0 (in_place_well n verdict) (says.any.1.1 probe_needed) e,
+              λ has_request e. instead_well q says.any.0 (in_place_well n verdict) (says.any.1.1 (probe_needs operation ∙ needed)) e,
             ),
             is ∙ ap (instead q) says.any.2,
           );
-          to_batch = λ b e. no_batch_here b e;
+          to_batch = λ b e. no_batch operation read b e;
         })
     instead_judged response (Err w) result says is same none =
         subst (λ (it : Result Response Fault). RespondsBy model root operation verdict n p IsResponse old new it) (sym none) (record {
@@ -299,39 +332,19 @@ module _ {K : Type 0} {model : Model K} {old new : K} (root : Text) (operation :
               let here = says.shut why e in
               (tt, here.1, here.2);
           any = tt;
-          to_batch = λ b e. no_batch_here b e;
+          to_batch = λ b e. no_batch operation read b e;
         })
-
-    fails_in : (fault : Fault) (s : State) → FaultsIn model s (probe operation) (state_in s (probe operation)) old new fault
-        → FaultsIn model s operation (state_by s operation verdict) old new fault
-    fails_in faults.Memory s says = says
-    fails_in faults.Device s says =
-        (needed, says.1, says.2, subst (λ (t : State). LeavesEither (model.may_leave new) (Some s) (Some t)) (probe_stays s) says.3)
-    fails_in faults.Damaged s says = says
-    fails_in faults.Reopen s says = says
-
-    fails_shut : (fault : Fault) → FaultsShut root (probe operation) fault → FaultsShut root operation fault
-    fails_shut faults.Memory says = says
-    fails_shut faults.Device says = says
-    fails_shut faults.Damaged says = says
-    fails_shut faults.Reopen says = needed_shut root operation needed
-
-    fails_any : (fault : Fault) (cause : Option Cause) → FaultsAny (probe operation) fault cause → FaultsAny operation fault cause
-    fails_any faults.Memory cause says = says
-    fails_any faults.Device cause says = (needed, says.1)
-    fails_any faults.Damaged cause says = (needed, says.1)
-    fails_any faults.Reopen cause says = (needed, says.1)
 
     pub failed_probe : (fault : Fault) → Responds {A = Response} model root (plainly (probe operation)) IsResponse old new (Err fault)
         → RespondsBy {A = Response} model root operation verdict n p IsResponse old new (Err fault)
     failed_probe fault says = record {
       calls = says.calls;
-      in_state = λ clean s h tag. fails_in fault s (says.in_state clean s h);
+      in_state = λ clean s h tag. fails_in model old new operation verdict read needed fault s (says.in_state clean s h);
       shut = λ why e.
           let here = says.shut why e in
-          (fails_shut fault here.0, here.1, here.2);
-      any = fails_any fault (model.cause new) says.any;
-      to_batch = λ b e. no_batch_here b e;
+          (fails_shut root operation needed fault here.0, here.1, here.2);
+      any = fails_any operation needed fault (model.cause new) says.any;
+      to_batch = λ b e. no_batch operation read b e;
     }
 
 -- ---- a request that needs no state

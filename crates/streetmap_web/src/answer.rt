@@ -7,7 +7,7 @@ ghost use Rattle.streetmap_routes.specs.BaseView.{root_of};
 ghost use Rattle.streetmap_http.specs.FramingView.{head_value};
 ghost use Rattle.streetmap_web.specs.Site.{site_value};
 ghost use Rattle.streetmap_web.specs.Response.{response_text, head_of, fault_response};
-ghost use Rattle.streetmap_web.specs.Response.{request_of, sent_so};
+ghost use Rattle.streetmap_web.specs.Response.{request_of, sent_so, body_of};
 ghost use Rattle.streetmap_web.specs.Responds.{response_value, Sends, Answers, RefusesBy};
 ghost use Rattle.streetmap_bodies.specs.declared.request_fault.RequestFault.TheVariants.{Framing};
 ghost use Rattle.streetmap_bodies.specs.declared.request_fault.RequestFault.TheVariants as faults;
@@ -27,8 +27,18 @@ use streetmap_tags::Tagged;
 /// The room that is allocated for the head of an answer.
 const HEAD_ROOM: usize = 256;
 
+/// The body that is sent: none if the answer is bare.
+fn sent_body(body: String, bare: bool) -> String
+    ensures { string_bytes result ≡ body_of bare (string_bytes body) }
+{
+    let mut body = body;
+    if bare {
+        body.clear();
+    }
+    body
+}
+
 /// Puts the head before a body, in room that was allocated before.
-#[tactic(auto, unfolding(crate::specs::Response::response_text))]
 fn finish(room: String, response: Response, closes: bool, bare: bool) -> Answer
     requires room { 256 ≤ string_capacity room }
     requires blank { string_bytes room ≡ [] }
@@ -43,7 +53,6 @@ fn finish(room: String, response: Response, closes: bool, bare: bool) -> Answer
         allow,
         body,
     } = response;
-    let mut body = body;
     push_head(
         &mut head,
         AnswerHead {
@@ -55,10 +64,7 @@ fn finish(room: String, response: Response, closes: bool, bare: bool) -> Answer
             closes,
         },
     );
-    if bare {
-        body.clear();
-    }
-    Answer::Made(head, body)
+    Answer::Made(head, sent_body(body, bare))
 }
 
 /// The head of the answer with a keeper's fault.
@@ -104,10 +110,17 @@ pub(crate) fn fixed(fault: Fault, bare: bool) -> Answer
 }
 
 /// Whether a status closes the connection.
-fn closes(status: StatusCode) -> bool
+fn is_closing(status: StatusCode) -> bool
     ensures { result ≡ (status == 500 || status == 503) }
 {
     status.as_u16() == 500 || status.as_u16() == 503
+}
+
+/// Whether the connection closes after an answer, by what the request wants and by the status.
+fn closes(requested: bool, status: StatusCode) -> bool
+    ensures { result ≡ (requested || (status == 500 || status == 503)) }
+{
+    requested || is_closing(status)
 }
 
 /// Answers a request, unless a fault prevents it.
@@ -132,11 +145,9 @@ fn try_answer<K: Tagged>(
     let wanted = wanted_of(site.tags, request.preconditions, operation);
     match respond(alloc, keeper, base.root(), &wanted) {
         Ok(response) => {
-            let closes = request.closes || closes(response.status);
-            Ok((
-                finish(room, response, closes, is_bare(request.method)),
-                closes,
-            ))
+            let closing = closes(request.closes, response.status);
+            let bare = is_bare(request.method);
+            Ok((finish(room, response, closing, bare), closing))
         }
         Err(fault) => Err(fault),
     }

@@ -92,8 +92,13 @@ fn hold_back<K: Tagged>(
         IsResponse keeper.old keeper.new result }
 {
     match keeper.has_key(batch.key()) {
-        Ok(true) => apply_tagged(alloc, keeper, batch, tag),
-        Ok(false) => or_starved(faulty(alloc, RequestFault::Changed)),
+        Ok(used) => {
+            if used {
+                apply_tagged(alloc, keeper, batch, tag)
+            } else {
+                or_starved(faulty(alloc, RequestFault::Changed))
+            }
+        }
         Err(fault) => Err(fault),
     }
 }
