@@ -61,7 +61,8 @@ pub record Guarantee {Image : Type 0} (holds : Image → State → Type 0) (leav
   -- each page is the page of the state that the batches acknowledged before it made
   pub pages :
       (before later : List Event) (e : Event) (name : Text) (q : QueryValue)
-      → history ≡ before ++ e ∷ later → e.request.wanted.operation ≡ page name q → e.response.status ≡ 200
+      → history ≡ before ++ e ∷ later → e.request.wanted.operation ≡ page name q
+      → e.response.status ≡ 200
       → ShowsPage site.root (after_all s (acknowledged before)) name q e.request.wanted.conditions
       e.response
   -- the server has acted on the acknowledged batches, and on no other

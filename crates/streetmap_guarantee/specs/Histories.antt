@@ -32,7 +32,8 @@ pub data Step (site : SiteValue) (wanted : Wanted) (response : ResponseValue)
       → Step site wanted response old new
   -- after that: 500 to each request that needs the state
   still_failed : (before after : State) → old ≡ failed before after
-      → response ≡ response_shut site.root wanted.operation → new ≡ old → Step site wanted response old new
+      → response ≡ response_shut site.root wanted.operation → new ≡ old
+      → Step site wanted response old new
 
 -- a request with its response: their bytes, and what these say
 pub record Event : Type 0 where
@@ -48,7 +49,8 @@ pub data HasRequest (tags : Bool) (e : Event) : Type 0 where
   broken : (bare : Bool) (fault : FramingFault) → Breaks e.exchange.request bare fault
       → e.request ≡ broken_request bare fault → HasRequest tags e
   no_room : (h : HeadValue) → IsHead e.exchange.request → Frames e.exchange.request (sized h)
-      → e.request ≡ request_of tags h [] → e.response ≡ fault_response (Keeper Memory) → HasRequest tags e
+      → e.request ≡ request_of tags h [] → e.response ≡ fault_response (Keeper Memory)
+      → HasRequest tags e
 
 -- both texts say so, and the connection closes if the request says so or something failed
 pub record IsHttp (tags : Bool) (e : Event) : Type 0 where
