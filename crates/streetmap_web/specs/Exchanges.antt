@@ -31,8 +31,8 @@ pub record HttpExchange : Type 0 where
 -- the bytes are this request: a head with its body, or bytes that break a rule of framing; if
 -- memory ran out for the body, they are only the head
 pub data HasRequest (tags : Bool) (e : HttpExchange) : Type 0 where
-  whole : (h : HeadValue) (body : Text) → IsRequest e.bytes h body → e.request ≡ request_of tags h body
-      → HasRequest tags e
+  whole : (h : HeadValue) (body : Text) → IsRequest e.bytes h body
+      → e.request ≡ request_of tags h body → HasRequest tags e
   broken : (bare : Bool) (fault : FramingFault) → Breaks e.bytes bare fault
       → e.request ≡ broken_request bare fault → HasRequest tags e
   no_room : (h : HeadValue) → IsHead e.bytes → Frames e.bytes (sized h)

@@ -44,8 +44,8 @@ pub record RespondsBy {K A : Type 0} (model : Model K) (root : Text) (operation 
     (old new : K) (result : Result A Fault) : Type 0 where
   pub calls : ByCalls model old new
   pub in_state : model.is_clean new → (s : State) → model.represents old s → n ≡ batch_count s
-      → RespondsIn model s operation (judged root s operation verdict) (state_by s operation verdict)
-      Is old new result
+      → RespondsIn model s operation (judged root s operation verdict)
+      (state_by s operation verdict) Is old new result
   pub shut : (why : Cause) → model.cause old ≡ Some why
       → RespondsShut root operation Is result
       × (model.cause new ≡ Some why) × LeavesSame (model.may_leave old) (model.may_leave new)

@@ -37,8 +37,7 @@ response_value b = record {
   kind = b.kind;
   tag = b.tag;
   allow = b.allow;
-  body = string_bytes
-      b.body;
+  body = string_bytes b.body;
 }
 
 -- the response has this value
@@ -220,9 +219,8 @@ pub record ComesOut {K : Type 0} (model : Model K) (site : SiteValue) (x : Condi
   pub batch_answered : AnswersBatch model request sent old new
   pub device : outcome ≡ device_failed → model.fails old new
   pub shuts :
-      needs_state request.wanted.operation ≡ true → (answer_by site x request.wanted outcome).status ≡
-      500
-      → IsSome (model.cause new)
+      needs_state request.wanted.operation ≡ true
+      → (answer_by site x request.wanted outcome).status ≡ 500 → IsSome (model.cause new)
 
 -- the request was answered, with some outcome
 abbrev pub AnswersOperation :

@@ -55,8 +55,7 @@ fault_response fault = record {
   kind = Json;
   tag = None;
   allow = allow_of fault;
-  body
-      = compact_text (fault_body fault);
+  body = compact_text (fault_body fault);
 }
 
 -- a resource that exists
@@ -95,8 +94,7 @@ replied key reply = record {
   kind = Json;
   tag = None;
   allow = None;
-  body
-      = compact_text (reply_body key reply);
+  body = compact_text (reply_body key reply);
 }
 
 -- the answer in a state; root is the base of links without its last slash
@@ -279,8 +277,7 @@ abbrev pub request_of : (tags : Bool) → HeadValue → Text → RequestValue
 request_of tags h body = record {
   wanted = wanted_of tags h.preconditions (operation_of h.method h.target body);
   closes = h.closes;
-  bare = is_bare
-      h.method;
+  bare = is_bare h.method;
 }
 
 -- one that breaks a rule of framing; the connection closes after its answer

@@ -42,8 +42,8 @@ AnsweredInTurn site x (e ∷ es) (w ∷ ws) = IsAnswerTo site x e w
 -- the refusal of a request for which memory ran out: the fixed answer 503. These requests led from
 -- the first keeper to the second: each batch was answered by the result of `apply`, or the keeper
 -- was never called for it, and of each request it is said what a crash may leave after it.
-pub record ServesClients {K : Type 0} (model : Model K) (site : SiteValue) (x : Condition) (old new : K)
-    (before after : List (Slot TcpStream)) : Type 0 where
+pub record ServesClients {K : Type 0} (model : Model K) (site : SiteValue) (x : Condition)
+    (old new : K) (before after : List (Slot TcpStream)) : Type 0 where
   pub exchanges : List Exchange
   pub interleaved : GoesOnAs (map exchanges_of (flat_map clients_in before)) exchanges
       (map exchanges_of (flat_map clients_in after))
@@ -60,8 +60,8 @@ pub record ServesClients {K : Type 0} (model : Model K) (site : SiteValue) (x : 
 -- The clients of one place that was empty before: they were served one after the other. The
 -- requests are those of the clients' own lists, one list after the other, in the order in which the
 -- clients were admitted. If the call is done, at least that number of them ended.
-pub record ServesInRow {K : Type 0} (model : Model K) (site : SiteValue) (x : Condition) (old new : K)
-    (count : ℕ) (Done : Type 0) : Type 0 where
+pub record ServesInRow {K : Type 0} (model : Model K) (site : SiteValue) (x : Condition)
+    (old new : K) (count : ℕ) (Done : Type 0) : Type 0 where
   pub before : List (Slot TcpStream)
   pub after : List (Slot TcpStream)
   pub nobody : flat_map clients_in before ≡ []

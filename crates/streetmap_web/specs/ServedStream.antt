@@ -36,8 +36,8 @@ around input_before input_after output_before output_after = record {
 
 -- a request was read and acted on: its bytes are off the reader, and the keeper is in the condition
 -- after it
-pub record Acted {K : Type 0} (model : Model K) (tags : Bool) (x : Condition) (e : HttpExchange) (a : Around)
-    (new : K) : Type 0 where
+pub record Acted {K : Type 0} (model : Model K) (tags : Bool) (x : Condition) (e : HttpExchange)
+    (a : Around) (new : K) : Type 0 where
   pub is : IsExchange tags x e
   pub read : Consumes a.input_before a.input_after e.bytes
   pub in_condition : IsInCondition model new (condition_after x e)
@@ -69,9 +69,8 @@ TurnSays model ReadFailed site x a new = AnswersNothing model x a new
 
 -- the request that was answered in a turn, if one was
 abbrev pub last_of :
-    {K : Type 0} (model : Model K) (turn : Turn) (site : SiteValue) (x : Condition) (a : Around) (new :
-    K)
-    → TurnSays model turn site x a new → List HttpExchange
+    {K : Type 0} (model : Model K) (turn : Turn) (site : SiteValue) (x : Condition) (a : Around)
+    (new : K) → TurnSays model turn site x a new → List HttpExchange
 last_of model Open site x a new says = says.0 ∷ []
 last_of model Closed site x a new says = says.0 ∷ []
 last_of model (WriteFailed begun) site x a new says = says.0 ∷ []
@@ -81,8 +80,8 @@ last_of model Truncated site x a new says = []
 last_of model ReadFailed site x a new says = []
 
 -- what a turn did, and that its request led from the first keeper to the second
-abbrev pub TurnComes : {K : Type 0} → Model K → Turn → SiteValue → Condition → Around → (old new : K)
-    → Type 0
+abbrev pub TurnComes : {K : Type 0} → Model K → Turn → SiteValue → Condition → Around
+    → (old new : K) → Type 0
 TurnComes model turn site x a old new =
     (says : TurnSays model turn site x a new)
     × ComesAll model site x old (last_of model turn site x a new says) new

@@ -18,9 +18,8 @@ pub record AnswersRequest {K : Type 0} (model : Model K) (site : SiteValue) (x :
 
 -- requests in a row, each answered over the keeper that the one before left
 abbrev pub ComesAll :
-    {K : Type 0} (model : Model K) (site : SiteValue) (x : Condition) (old : K) (es : List HttpExchange)
-    (new : K)
-    → Type 0
+    {K : Type 0} (model : Model K) (site : SiteValue) (x : Condition) (old : K)
+    (es : List HttpExchange) (new : K) → Type 0
 ComesAll model site x old [] new = new ≡ old
 ComesAll {K} model site x old (e ∷ es) new =
     (mid : K) × ComesOut model site x e.request e.outcome (sent_for site x e) old mid

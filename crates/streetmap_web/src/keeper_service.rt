@@ -21,7 +21,7 @@ use streetmap_http::{Arrival, FIELD_LIMIT, Framed, HeadScan, arrival_of, frame_o
 use streetmap_ledger::Fault;
 use streetmap_tags::Tagged;
 
-/// A keeper, the base of the links in its answers, the writer of a line for each answer, if any,
+/// A keeper, what its service is on the web, the writer of a line for each answer, if any,
 /// and what is done once the keeper's store has failed.
 #[derive(Drop)]
 pub struct KeeperService<K, W> {

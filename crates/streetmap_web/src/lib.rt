@@ -18,8 +18,8 @@
 //!
 //! Modules, in the order of reading: `site`, `response`, `respond` (the answer in a state),
 //! `verdict` and `conditional` (the same under conditions), `answer` (with its head), `requests`
-//! (the bytes of one), `turns` (a stream); `log`, `watch`, `keeper_service` (a request of a client),
-//! `clients`.
+//! (the bytes of one), `turns` (a stream); `log`, `watch`, `keeper_service` (a request of a
+//! client), `clients`.
 #![tactic(auto)]
 
 mod answer;

@@ -158,8 +158,8 @@ fn respond_page<K: Keeper>(
     name: &str,
     query: &Query,
 ) -> Result<Response, Fault>
-    ensures { Responds K.model root.now (plainly (spec.page name.now (query_value query.now))) IsResponse
-        keeper.old keeper.new result }
+    ensures { Responds K.model root.now (plainly (spec.page name.now (query_value query.now)))
+        IsResponse keeper.old keeper.new result }
 {
     match keeper.page(name, query) {
         Ok(page) => or_starved(found_page(alloc, root, name, query, &page)),
