@@ -207,26 +207,26 @@ module _ (root : Text) (s : State) where
   reads_have operation verdict reads has n e = has n e ∙ ap batch_count (sym (read_by s operation verdict reads))
 
   judged_has : (operation : OperationValue) (verdict : Verdict) → HasTag (batch_count (state_by s operation verdict)) (judged root s operation verdict)
-  judged_has (faulty fault) verdict = reads_have (faulty fault) verdict refl (read_has (batch_count s) _ verdict (untagged root s (faulty fault)))
-  judged_has landing_page verdict = reads_have landing_page verdict refl (read_has (batch_count s) _ verdict (untagged root s landing_page))
-  judged_has api_text verdict = reads_have api_text verdict refl (read_has (batch_count s) _ verdict (untagged root s api_text))
-  judged_has conformance_classes verdict = reads_have conformance_classes verdict refl (read_has (batch_count s) _ verdict (untagged root s conformance_classes))
-  judged_has all_collections verdict = reads_have all_collections verdict refl (read_has (batch_count s) _ verdict (untagged root s all_collections))
-  judged_has (one_collection name) verdict = reads_have (one_collection name) verdict refl (read_has (batch_count s) _ verdict (untagged root s (one_collection name)))
-  judged_has (page name q) verdict = reads_have (page name q) verdict refl (read_has (batch_count s) _ verdict (untagged root s (page name q)))
-  judged_has (feature name id) verdict = reads_have (feature name id) verdict refl (read_has (batch_count s) _ verdict (untagged root s (feature name id)))
+  judged_has (faulty fault) verdict = reads_have (faulty fault) verdict refl (read_has (batch_count s) (response_in root s (faulty fault)) verdict (untagged root s (faulty fault)))
+  judged_has landing_page verdict = reads_have landing_page verdict refl (read_has (batch_count s) (response_in root s landing_page) verdict (untagged root s landing_page))
+  judged_has api_text verdict = reads_have api_text verdict refl (read_has (batch_count s) (response_in root s api_text) verdict (untagged root s api_text))
+  judged_has conformance_classes verdict = reads_have conformance_classes verdict refl (read_has (batch_count s) (response_in root s conformance_classes) verdict (untagged root s conformance_classes))
+  judged_has all_collections verdict = reads_have all_collections verdict refl (read_has (batch_count s) (response_in root s all_collections) verdict (untagged root s all_collections))
+  judged_has (one_collection name) verdict = reads_have (one_collection name) verdict refl (read_has (batch_count s) (response_in root s (one_collection name)) verdict (untagged root s (one_collection name)))
+  judged_has (page name q) verdict = reads_have (page name q) verdict refl (read_has (batch_count s) (response_in root s (page name q)) verdict (untagged root s (page name q)))
+  judged_has (feature name id) verdict = reads_have (feature name id) verdict refl (read_has (batch_count s) (response_in root s (feature name id)) verdict (untagged root s (feature name id)))
   judged_has (batch b) Holds = tagged_has (batch_count (act s b).state) (replied b.key (act s b).reply) refl
   judged_has (batch b) NotModified = held_has (batch_count s) (replied b.key (act s b).reply) (is_used s b.key) refl
   judged_has (batch b) Changed = held_has (batch_count s) (replied b.key (act s b).reply) (is_used s b.key) refl
 
   needed_has : (operation : OperationValue) (verdict : Verdict) (needed : Bool)
       → HasTag (batch_count (state_by s operation verdict)) (if needed then judged root s operation verdict else response_in root s operation)
-  needed_has operation verdict true = judged_has operation verdict
+  needed_has operation verdict true n e = judged_has operation verdict n e
   needed_has operation verdict false n e = no_tag _ n (untagged root s operation) e
 
   under_has : (operation : OperationValue) (conditions : Option PreconditionsValue) → HasTag (batch_count (state_under s operation conditions)) (response_under root s operation conditions)
   under_has operation None n e = no_tag _ n (untagged root s operation) e
-  under_has operation (Some p) = needed_has operation (verdict_on (batch_count s) p operation) (needs_state operation)
+  under_has operation (Some p) n e = needed_has operation (verdict_on (batch_count s) p operation) (needs_state operation) n e
 
 -- the tag of an answer is that of the state after its request
 step_tag : (site : SiteValue) (wanted : Wanted) (r : ResponseValue) (x y : Server) (n : ℕ) → Step site wanted r x y → r.tag ≡ Some n → n ≡ batch_count (state_of y)
