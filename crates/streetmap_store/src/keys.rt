@@ -16,7 +16,10 @@ pub(crate) fn is_key_used<S: Alter>(conn: &mut Connection<S>, key: &str) -> Resu
     ensures { ReadsTables S.Store (ReadsState (IsKeyUsed key.now)) conn.old conn.new result }
 {
     match kept_rows(conn, key) {
-        Ok(rows) => Ok(!rows.is_empty()),
+        Ok(rows) => match rows.first() {
+            Some(_) => Ok(true),
+            None => Ok(false),
+        },
         Err(error) => Err(ReadFault::Store(error)),
     }
 }
