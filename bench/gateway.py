@@ -40,6 +40,8 @@ CONNECTIONS = (1, 4)
 # Of a walk through all lamps every N-th page is requested.
 EACH_WALKED = 50
 PROCESSES = 4
+# How many times QGIS Server's pages a second are wanted.
+WANTED = {"of a walk": 6, "of a box": 2, "of a property": 3}
 # A box of some 160 m each way has some 250 lamps. Degrees.
 WIDE, HIGH = 0.0024, 0.00144
 QGIS_SERVER = Path("/usr/lib/cgi-bin/qgis_mapserv.fcgi")
@@ -181,7 +183,9 @@ def one_gateway(server: int, folder: Path) -> Iterator[int]:
     origin = {"easting": EASTING, "northing": NORTHING}
     settings.write_text(SETTINGS.format(port=port, server=server, **origin))
     seen = os.environ | {"PYTHONDONTWRITEBYTECODE": "1", "PYTHONPATH": str(ROOT)}
-    process = subprocess.Popen([PYTHON, "-m", "gateway", str(settings)], cwd=ROOT, env=seen)
+    with (folder / f"access-{port}").open("wb") as log:
+        words = [PYTHON, "-m", "gateway", str(settings)]
+        process = subprocess.Popen(words, cwd=ROOT, env=seen, stdout=log)
     with until_done(process, port):
         yield port
 
@@ -307,9 +311,19 @@ def rates(asked: dict[Service, list[str]], many: int) -> list[float]:
     return [statistics.median(taken) for taken in zip(*rounds)]
 
 
-def print_row(name: str, figures: list[float]) -> None:
+def print_heading(what: str, services: list[Service]) -> None:
+    """The columns of a table: the servers, how many times the second one's figure that of the
+    gateway is, and how many are wanted."""
+    names = [what, *(it.name for it in services), "times", "wanted"]
+    print("| " + " | ".join(names) + " |")
+    print("|---" * len(names) + "|")
+
+
+def print_row(name: str, figures: list[float], wanted: float | None = None) -> None:
     shown = [f"{it:,.0f}" if it >= 10 else f"{it:,.1f}" if it > 0 else "-" for it in figures]
-    print(f"| {name} | {' | '.join(shown)} |", flush=True)
+    times = f"{figures[0] / figures[1]:.2f}" if len(figures) > 1 and figures[1] else "-"
+    ends = (times, "-" if wanted is None else f"at least {wanted:g}")
+    print(f"| {name} | {' | '.join([*shown, *ends])} |", flush=True)
 
 
 def table(services: list[Service]) -> None:
@@ -320,12 +334,11 @@ def table(services: list[Service]) -> None:
         "of a walk": {it: walked(it) for it in services},
         "of a box": {it: [it.target(f"&bbox={area}") for area in areas] for it in services},
     }
-    print("| Pages of 100, a second | " + " | ".join(it.name for it in services) + " |")
-    print("|---" * (len(services) + 1) + "|")
+    print_heading("Pages of 100, a second", services)
     for name, asked in kinds.items():
         sizes = [bytes_of(service, targets) for service, targets in asked.items()]
         for many in CONNECTIONS:
-            print_row(f"{name}, connections: {many}", rates(asked, many))
+            print_row(f"{name}, connections: {many}", rates(asked, many), WANTED.get(name))
         print_row(f"{name}, bytes of a page", sizes)
 
 
@@ -344,3 +357,4 @@ def run(program: Path, folder: Path) -> None:
         if MAPSERVER.exists():
             services.append(started.enter_context(mapserver(lamps, folder / "mapserver")))
         table(services)
+        report("the load of the machine", " ".join(f"{it:.1f}" for it in os.getloadavg()))

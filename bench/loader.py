@@ -37,15 +37,20 @@ class Loader:
         return sum(self.counts) / took
 
     def load(self, first: int) -> None:
-        """Requests on one connection, beginning with one of the targets."""
+        """Requests on one connection, beginning with one of the targets. A server that does not
+        answer in a minute is a fault."""
         connection = http.client.HTTPConnection("127.0.0.1", self.port, timeout=60)
         ends, count = time.monotonic() + self.seconds, 0
         for target in itertools.islice(itertools.cycle(self.targets), first, None):
             if time.monotonic() > ends:
                 break
-            connection.request("GET", target)
-            answer = connection.getresponse()
-            text = answer.read()
+            try:
+                connection.request("GET", target)
+                answer = connection.getresponse()
+                text = answer.read()
+            except (OSError, http.client.HTTPException) as fault:
+                self.faults.append(f"{target}: {fault!r}")
+                break
             if answer.status != 200:
                 self.faults.append(f"{target}: {answer.status} {text[:200]!r}")
                 break

@@ -1,9 +1,11 @@
 """Pages and tiles of the gateway over the mirror, beside QGIS Server over the same database.
 
-Each server is one process behind nginx. 100,000 lamps are in a file that `streetmap serve` has open
-with a journal, and that journal is in a mirror of PostGIS, which the gateway and QGIS Server read.
-It needs the packages of the group `mirror`, and `nginx`. The gateway's pages of boxes and of a walk
-are the server's, those of a property are the mirror's. Of QGIS Server all are the database's.
+Each server is one process behind nginx. 100,000 lamps and 30,000 features that are further apart
+(town.py) are in a file that `streetmap serve` has open with a journal, and that journal is in a
+mirror of PostGIS, which the gateway and QGIS Server read. It needs the packages of the group
+`mirror`, and `nginx`. The gateway's pages of boxes and of a walk are the server's, those of a
+property are the mirror's. Of QGIS Server all are the database's. Then: tiles, how late the mirror
+is, and how fast one is filled; with --slow from a million features.
 """
 
 import contextlib
@@ -15,21 +17,30 @@ import subprocess
 import time
 import urllib.request
 from collections.abc import Iterator
+from dataclasses import dataclass
 from pathlib import Path
 
 from clients import until_done
 from gateway import EASTING, NORTHING, PROXY, PYTHON, QGIS_SERVER, ROOT, SETTINGS, Service
-from gateway import boxes, bytes_of, by_fastcgi, nginx, print_row, rates, walked
+from gateway import CONNECTIONS, WANTED, boxes, bytes_of, by_fastcgi, nginx, print_heading
+from gateway import print_row, rates, walked
 from harness import free_port
 from measures import compact, create, fail, report
 from messages import open_collection
 from tables import FEATURES, batches
+from town import KINDS, ordinary, write_journal
 
 HEIGHTS, EACH_HEIGHT = 9000, 450
-# A tile of level 14 has all that it can have, 10,000 of these lamps, and one of 16 some 1,400.
-LEVELS, ROUNDS_OF_TILES = (14, 15, 16, 17), 5
+# A tile of level 14 has all that it can have, 10,000 of these lamps, and one of 16 some 1,400. Of
+# each other collection one of level 14 has some 2,200.
+LEVELS, LEVEL, ROUNDS_OF_TILES = (14, 15, 16, 17), 14, 9
+# Batches whose delay is measured, and features of the mirror that is filled.
+DELAYS, FILLED, SLOW_FILLED = 40, 100_000, 1_000_000
+# What is wanted: a tile of level 14 and the delay at most, in milliseconds, and features a second.
+TILE_WANTED, DELAY_WANTED, FILLED_WANTED = 20, 60, 10_000
 MIRROR = '[mirror]\ndatabase = "{database}"\n'
 MIRRORED = "SELECT serial FROM streetmap_mirror"
+GIVEN = ("--features", "--system", "EPSG:25832", "--shift", f"{EASTING},{NORTHING}")
 PROJECT = """
 import sys
 from qgis.core import QgsApplication, QgsProject, QgsVectorLayer
@@ -92,49 +103,73 @@ def quietly(words: list[str | Path]) -> subprocess.Popen[bytes]:
     return subprocess.Popen(words, stdout=subprocess.DEVNULL, stderr=subprocess.DEVNULL)
 
 
-def wait_for(database: int, serial: int) -> None:
-    """Waits until the mirror has a serial."""
-    ends = time.monotonic() + WAIT_SECONDS
-    while rows(database, MIRRORED) != [str(serial)]:
-        if time.monotonic() > ends:
-            fail(f"the mirror has no serial {serial}")
-        time.sleep(0.05)
+def source(port: int, name: str = "postgres") -> str:
+    return f"postgresql://postgres@127.0.0.1:{port}/{name}"
+
+
+def transport(journal: Path, into: str, *more: str) -> list[str | Path]:
+    """The command that puts a journal into a database with a mirror."""
+    script = ROOT / "deploy" / "journal_to_postgres.py"
+    return [PYTHON, "-B", script, journal, into, *GIVEN, *more]
+
+
+@dataclass
+class Site:
+    """A server, the mirror of its journal, and the serial of the server's last batch."""
+
+    server: int
+    database: int
+    serial: int
+    psql: subprocess.Popen[str]
+
+    def mirrored(self) -> str:
+        """The serial of the mirror, over a connection that stays open."""
+        assert self.psql.stdin is not None and self.psql.stdout is not None
+        self.psql.stdin.write(f"{MIRRORED};\n")
+        self.psql.stdin.flush()
+        return self.psql.stdout.readline().strip()
+
+    def wait(self) -> None:
+        """Waits until the mirror has the server's last batch."""
+        ends = time.monotonic() + WAIT_SECONDS
+        while self.mirrored() != str(self.serial):
+            if time.monotonic() > ends:
+                fail(f"the mirror has no serial {self.serial}")
+            time.sleep(0.001)
+
+    def change(self) -> None:
+        """A batch that changes each collection, so that no tile is kept."""
+        edits = [{"op": "delete", "collection": "lamps", "id": f"lamp-{self.serial:06}"}]
+        edits += [{"op": "delete", "collection": it, "id": f"F{self.serial:07}"} for it in KINDS]
+        body = compact({"key": f"change-{self.serial}", "edits": edits}).encode()
+        urllib.request.urlopen(f"http://127.0.0.1:{self.server}/batches", body, timeout=60).close()
+        self.serial += 1
 
 
 @contextlib.contextmanager
-def mirrored(program: Path, file: Path, journal: Path, database: int) -> Iterator[int]:
-    """A server with a journal, and its transport into a database that has caught up. Gives the
-    server's port."""
+def mirrored(program: Path, file: Path, journal: Path, database: int) -> Iterator[Site]:
+    """A server with a journal, and its transport into a database that has caught up."""
     port = free_port()
-    served: list[str | Path] = [
-        program,
-        "serve",
-        file,
-        "--port",
-        str(port),
-        "--warm",
-        "--journal",
-        journal,
-    ]
-    source = f"postgresql://postgres@127.0.0.1:{database}/postgres"
-    given = ["--features", "--system", "EPSG:25832", "--shift", f"{EASTING},{NORTHING}"]
-    script: list[str | Path] = [
-        PYTHON,
-        "-B",
-        ROOT / "deploy" / "journal_to_postgres.py",
-        journal,
-        source,
-        *given,
-    ]
-    with until_done(quietly(served), port):
-        transport = quietly(script)
-        try:
-            wait_for(database, FEATURES // 1000 + 1)
-            rows(database, "VACUUM ANALYZE streetmap_features")
-            yield port
-        finally:
-            transport.terminate()
-            transport.wait()
+    words: list[str | Path] = ["serve", file, "--port", str(port), "--warm", "--journal", journal]
+    with contextlib.ExitStack() as started:
+        started.enter_context(until_done(quietly([program, *words]), port))
+        copying = quietly(transport(journal, source(database)))
+        started.callback(copying.wait)
+        started.callback(copying.terminate)
+        while not rows(database, MIRRORED):
+            time.sleep(0.1)
+        psql = subprocess.Popen(
+            ["psql", "-Atq", "-d", source(database)],
+            stdin=subprocess.PIPE,
+            stdout=subprocess.PIPE,
+            text=True,
+        )
+        started.callback(psql.wait)
+        started.callback(psql.terminate)
+        site = Site(port, database, 1 + FEATURES // 1000 + len(list(ordinary())), psql)
+        site.wait()
+        rows(database, "VACUUM ANALYZE streetmap_features")
+        yield site
 
 
 @contextlib.contextmanager
@@ -142,10 +177,11 @@ def gateway(server: int, database: int, folder: Path) -> Iterator[Service]:
     """One gateway behind nginx, in front of a server and its mirror."""
     folder.mkdir()
     port = free_port()
-    source = f"postgresql://postgres@127.0.0.1:{database}/postgres"
     origin = {"easting": EASTING, "northing": NORTHING}
     settings = folder / "gateway.toml"
-    text = SETTINGS.format(port=port, server=server, **origin) + MIRROR.format(database=source)
+    text = SETTINGS.format(port=port, server=server, **origin) + MIRROR.format(
+        database=source(database)
+    )
     settings.write_text(text)
     seen = os.environ | {"PYTHONDONTWRITEBYTECODE": "1", "PYTHONPATH": str(ROOT)}
     with (folder / "access").open("wb") as log:
@@ -187,24 +223,27 @@ def table(services: list[Service]) -> None:
         "of a box": {it: [it.target(f"&bbox={area}") for area in areas] for it in services},
         "of a property": {it: by_height(it) for it in services},
     }
-    print("| Pages, a second | " + " | ".join(it.name for it in services) + " |")
-    print("|---" * (len(services) + 1) + "|")
+    print_heading("Pages, a second", services)
     for name, asked in kinds.items():
         sizes = [bytes_of(it, targets, name != "of a property") for it, targets in asked.items()]
-        for many in (1, 4):
-            print_row(f"{name}, connections: {many}", rates(asked, many))
+        for many in CONNECTIONS:
+            print_row(f"{name}, connections: {many}", rates(asked, many), WANTED[name])
         print_row(f"{name}, bytes of a page", sizes)
 
 
 def tiles_of(service: Service) -> list[str]:
-    """The tile in the middle of the lamps, at each level."""
+    """The tile in the middle of the lamps, at each level, and those of the other collections."""
     collection = json.loads(service.page("/collections/lamps"))
     west, south, east, north = collection["extent"]["spatial"]["bbox"][0]
     across = (west + east + 360) / 720
     turn = math.asinh(math.tan(math.radians((south + north) / 2)))
     down = (1 - turn / math.pi) / 2
-    path = "/collections/lamps/tiles/WebMercatorQuad"
-    return [f"{path}/{it}/{int(down * 2**it)}/{int(across * 2**it)}" for it in LEVELS]
+    places = [("lamps", level) for level in LEVELS] + [(kind, LEVEL) for kind in KINDS]
+    return [
+        f"/collections/{name}/tiles/WebMercatorQuad/{level}/{int(down * 2**level)}"
+        f"/{int(across * 2**level)}"
+        for name, level in places
+    ]
 
 
 def milliseconds(service: Service, target: str) -> tuple[float, int]:
@@ -212,13 +251,6 @@ def milliseconds(service: Service, target: str) -> tuple[float, int]:
     begun = time.perf_counter()
     size = len(service.page(target))
     return (time.perf_counter() - begun) * 1000, size
-
-
-def change(server: int, serial: int) -> None:
-    """A batch that changes the collection, so that no tile is kept."""
-    lamp = {"op": "delete", "collection": "lamps", "id": f"lamp-{serial:06}"}
-    body = compact({"key": f"change-{serial}", "edits": [lamp]}).encode()
-    urllib.request.urlopen(f"http://127.0.0.1:{server}/batches", body, timeout=60).close()
 
 
 def drawn_and_kept(service: Service, targets: list[str]) -> list[tuple[float, float, int]]:
@@ -230,35 +262,68 @@ def drawn_and_kept(service: Service, targets: list[str]) -> list[tuple[float, fl
     return found
 
 
-def report_tiles(service: Service, server: int, database: int) -> None:
-    """Medians of several rounds. Before each the collection changes."""
+def report_tiles(service: Service, site: Site) -> None:
+    """Medians of several rounds. Before each the collections change."""
     targets = tiles_of(service)
     rounds = []
-    for number in range(ROUNDS_OF_TILES):
-        change(server, number)
-        wait_for(database, FEATURES // 1000 + 2 + number)
+    for _ in range(ROUNDS_OF_TILES):
+        site.change()
+        site.wait()
         rounds.append(drawn_and_kept(service, targets))
     for target, figures in zip(targets, zip(*rounds)):
         drawn, kept, size = (statistics.median(each) for each in zip(*figures))
+        _, _, name, _, _, level, _, _ = target.split("/")
         what = f"{drawn:.1f} ms, again {kept:.1f} ms, {size:.0f} bytes"
-        report(target.rpartition("Quad/")[2], what)
+        wanted = f"; at most {TILE_WANTED} ms are wanted" if level == str(LEVEL) else ""
+        report(f"a tile of {name}, level {level}", f"{what}{wanted}")
 
 
-def run(program: Path, folder: Path) -> None:
+def report_delay(site: Site) -> None:
+    """How long after its 200 a batch is in the mirror."""
+    took = []
+    for _ in range(DELAYS):
+        site.change()
+        begun = time.perf_counter()
+        site.wait()
+        took.append((time.perf_counter() - begun) * 1000)
+    figures = f"{statistics.median(took):.0f} ms in the median, {max(took):.0f} ms at most"
+    report("the mirror after a 200", f"{figures}; a median of {DELAY_WANTED} ms is wanted")
+
+
+def report_filling(folder: Path, database: int, count: int) -> None:
+    """A mirror from a journal that is there, with its indexes and views."""
+    journal = folder / "filling.journal"
+    write_journal(journal, count)
+    rows(database, "CREATE DATABASE filling")
+    begun = time.perf_counter()
+    words = transport(journal, source(database, "filling"), "--once")
+    subprocess.run(words, stderr=subprocess.DEVNULL, check=True)
+    took = time.perf_counter() - begun
+    figures = f"{count / took:,.0f} features a second, {count:,} in {took:.1f} s"
+    report("filling a mirror", f"{figures}; at least {FILLED_WANTED:,} a second are wanted")
+
+
+def run(program: Path, folder: Path, filled: int = FILLED) -> None:
     folder.chmod(0o755)
     if not (QGIS_SERVER.exists() and (BIN / "postgres").exists()):
         report("pages", "not installed: qgis-server, postgresql")
         return
     opening = {"key": "open", "edits": [open_collection("lamps", title="Lamps")]}
-    file = create(program, folder / "lamps.streetmap", opening, *batches("lamps", 1))
+    file = create(program, folder / "lamps.streetmap", opening, *batches("lamps", 1), *ordinary())
     with contextlib.ExitStack() as started:
         database = started.enter_context(cluster(folder / "cluster"))
         journal = folder / "lamps.journal"
-        server = started.enter_context(mirrored(program, file, journal, database))
+        site = started.enter_context(mirrored(program, file, journal, database))
         services = [
-            started.enter_context(gateway(server, database, folder / "gateway")),
+            started.enter_context(gateway(site.server, database, folder / "gateway")),
             started.enter_context(qgis_server(database, folder / "qgis")),
         ]
         table(services)
-        report_tiles(services[0], server, database)
+        report_tiles(services[0], site)
+        report_delay(site)
+        report_filling(folder, database, filled)
         report("the load of the machine", " ".join(f"{it:.1f}" for it in os.getloadavg()))
+
+
+def run_slow(program: Path, folder: Path) -> None:
+    run(program, folder, SLOW_FILLED)

@@ -28,6 +28,7 @@ SET_SYSTEM = "INSERT INTO streetmap_mirror (srid, easting, northing) VALUES (%s,
 IS_SYSTEM = "SELECT EXISTS (SELECT FROM spatial_ref_sys WHERE srid = %s)"
 ADD_GEOMETRY = "ALTER TABLE streetmap_features ADD COLUMN geometry geometry(Geometry, {})"
 ACT, MAKE_VIEWS = "SELECT streetmap_act(%s)", "SELECT streetmap_make_due_views(%s)"
+PLACE_AGAIN = "SELECT streetmap_place_again()"
 # In one transaction at most: lines that act, and views that are made.
 MOST_LINES, MOST_VIEWS = 100, 50
 # In seconds: between two tries at a view that somebody reads.
@@ -87,6 +88,10 @@ class MirroredTable(JournalTable):
             for part in PARTS:
                 cursor.execute((FOLDER / part).read_text())
             self.settle(cursor)
+        # By itself: a new column has locked readers out until now.
+        with self.transaction() as cursor:
+            cursor.execute(LOCK)
+            cursor.execute(PLACE_AGAIN)
         self.is_indexed, self.views_at = False, 0.0
         self.catch_up()
 

@@ -50,10 +50,13 @@ JOIN streetmap_collections AS opened ON opened.id = kept.collection
 CROSS JOIN LATERAL json_to_record(streetmap_without_zeros(kept.body)::json)
     AS body (id text, geometry text, properties jsonb)
 CROSS JOIN LATERAL (SELECT ST_SetSRID(ST_GeomFromGeoJSON(body.geometry), 0)) AS read (grid)
-WHERE (kept.id, kept.properties, kept.time, kept.grid::bytea, kept.geometry::bytea)
+WHERE (kept.id, kept.properties, kept.time, kept.grid::bytea, kept.geometry::bytea,
+        kept.mercator::bytea)
     IS DISTINCT FROM (body.id, body.properties, streetmap_time(body.properties -> opened.time),
         read.grid::bytea,
-        streetmap_placed(read.grid, mirror.easting, mirror.northing, mirror.srid)::bytea)
+        streetmap_placed(read.grid, mirror.easting, mirror.northing, mirror.srid)::bytea,
+        streetmap_mercator_or_null(
+            read.grid, mirror.easting, mirror.northing, mirror.srid)::bytea)
 LIMIT 1
 """
 # Bodies that are read at once.

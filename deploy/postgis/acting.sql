@@ -135,6 +135,33 @@ BEGIN
 END
 $$;
 
+-- Puts in the features that the edits in the temporary table insert or replace. What cannot be
+-- placed in EPSG:3857 fails, unless that is taken into account, which takes longer.
+CREATE OR REPLACE FUNCTION streetmap_put_features(is_careful boolean)
+RETURNS void LANGUAGE plpgsql AS $$
+BEGIN
+    UPDATE streetmap_features AS kept
+    SET serial = edit.serial, body = edit.body, properties = edit.properties, grid = edit.grid,
+        time = edit.time,
+        geometry = streetmap_placed(edit.grid, mirror.easting, mirror.northing, mirror.srid),
+        mercator = CASE WHEN is_careful THEN streetmap_mercator_or_null(
+                edit.grid, mirror.easting, mirror.northing, mirror.srid)
+            ELSE streetmap_mercator(edit.grid, mirror.easting, mirror.northing, mirror.srid) END
+    FROM streetmap_acting AS edit CROSS JOIN streetmap_mirror AS mirror
+    WHERE edit.is_last AND edit.op IN ('insert', 'replace') AND edit.was_there
+        AND kept.collection = edit.collection AND kept.id = edit.id;
+    INSERT INTO streetmap_features
+        (collection, id, serial, body, properties, grid, time, geometry, mercator)
+    SELECT edit.collection, edit.id, edit.serial, edit.body, edit.properties, edit.grid, edit.time,
+        streetmap_placed(edit.grid, mirror.easting, mirror.northing, mirror.srid),
+        CASE WHEN is_careful THEN streetmap_mercator_or_null(
+                edit.grid, mirror.easting, mirror.northing, mirror.srid)
+            ELSE streetmap_mercator(edit.grid, mirror.easting, mirror.northing, mirror.srid) END
+    FROM streetmap_acting AS edit CROSS JOIN streetmap_mirror AS mirror
+    WHERE edit.is_last AND edit.op IN ('insert', 'replace') AND NOT edit.was_there;
+END
+$$;
+
 -- Changes the features as the edits in the temporary table say.
 CREATE OR REPLACE FUNCTION streetmap_change_features()
 RETURNS void LANGUAGE plpgsql AS $$
@@ -142,19 +169,37 @@ BEGIN
     DELETE FROM streetmap_features AS kept USING streetmap_acting AS edit
     WHERE edit.is_last AND edit.op = 'delete'
         AND kept.collection = edit.collection AND kept.id = edit.id;
-    UPDATE streetmap_features AS kept
-    SET serial = edit.serial, body = edit.body, properties = edit.properties, grid = edit.grid,
-        time = edit.time,
-        geometry = streetmap_placed(edit.grid, mirror.easting, mirror.northing, mirror.srid)
-    FROM streetmap_acting AS edit CROSS JOIN streetmap_mirror AS mirror
-    WHERE edit.is_last AND edit.op IN ('insert', 'replace') AND edit.was_there
-        AND kept.collection = edit.collection AND kept.id = edit.id;
-    INSERT INTO streetmap_features
-        (collection, id, serial, body, properties, grid, time, geometry)
-    SELECT edit.collection, edit.id, edit.serial, edit.body, edit.properties, edit.grid, edit.time,
-        streetmap_placed(edit.grid, mirror.easting, mirror.northing, mirror.srid)
-    FROM streetmap_acting AS edit CROSS JOIN streetmap_mirror AS mirror
-    WHERE edit.is_last AND edit.op IN ('insert', 'replace') AND NOT edit.was_there;
+    BEGIN
+        PERFORM streetmap_put_features(false);
+    EXCEPTION
+        WHEN internal_error THEN
+            PERFORM streetmap_put_features(true);
+    END;
+END
+$$;
+
+-- Features whose `mercator` is not what PostGIS makes now, of the first ones, or of all if their
+-- number is not given.
+CREATE OR REPLACE FUNCTION streetmap_misplaced(most bigint)
+RETURNS TABLE (collection text, id text, mercator geometry) LANGUAGE sql STABLE AS $$
+    SELECT kept.collection, kept.id, made.it
+    FROM (SELECT * FROM streetmap_features LIMIT most) AS kept CROSS JOIN streetmap_mirror AS mirror
+    CROSS JOIN LATERAL (
+        SELECT streetmap_mercator_or_null(kept.grid, mirror.easting, mirror.northing, mirror.srid)
+    ) AS made (it)
+    WHERE kept.mercator::bytea IS DISTINCT FROM made.it::bytea
+$$;
+
+-- Places features again in EPSG:3857 if one of the first thousand is not there: in a mirror that
+-- was made without that, or after PROJ was given another grid.
+CREATE OR REPLACE FUNCTION streetmap_place_again()
+RETURNS void LANGUAGE plpgsql AS $$
+BEGIN
+    IF EXISTS (SELECT FROM streetmap_misplaced(1000)) THEN
+        UPDATE streetmap_features AS kept SET mercator = made.mercator
+        FROM streetmap_misplaced(NULL) AS made
+        WHERE kept.collection = made.collection AND kept.id = made.id;
+    END IF;
 END
 $$;
 

@@ -118,6 +118,27 @@ CREATE OR REPLACE FUNCTION streetmap_placed(
         ST_AsText(ST_TransScale(ST_Force2D(grid), easting, northing, 0.001, 0.001), 3), srid)
 $$;
 
+-- The same in EPSG:3857, by PostGIS's own operation, which may fail: that does not lead there from
+-- everywhere. NULL without a system. Doubles are near enough here.
+CREATE OR REPLACE FUNCTION streetmap_mercator(
+    grid geometry, easting bigint, northing bigint, srid integer
+) RETURNS geometry LANGUAGE sql IMMUTABLE PARALLEL SAFE AS $$
+    SELECT CASE WHEN srid <> 0 THEN ST_Transform(ST_SetSRID(
+        ST_TransScale(ST_Force2D(grid), easting, northing, 0.001, 0.001), srid), 3857) END
+$$;
+
+-- The same; NULL if the operation fails.
+CREATE OR REPLACE FUNCTION streetmap_mercator_or_null(
+    grid geometry, easting bigint, northing bigint, srid integer
+) RETURNS geometry LANGUAGE plpgsql IMMUTABLE PARALLEL SAFE AS $$
+BEGIN
+    RETURN streetmap_mercator(grid, easting, northing, srid);
+EXCEPTION
+    WHEN internal_error THEN
+        RETURN NULL;
+END
+$$;
+
 -- A JSON text without U+0000, which neither json functions nor jsonb take: an escape for U+FFFD is
 -- in its place. Texts of the server have no such escape themselves, so it can be taken back.
 CREATE OR REPLACE FUNCTION streetmap_without_zeros(given text)

@@ -42,6 +42,7 @@ $$;
 -- A feature: the serial of its last change; its text, as an export has it; and of that text the
 -- properties, the geometry in the grid's whole millimetres with heights, and the time. `geometry`
 -- is the same in the office's system, without heights: ADD_GEOMETRY of journal_mirror.py adds it.
+-- `mercator` is that in EPSG:3857, from which tiles are drawn.
 CREATE TABLE IF NOT EXISTS streetmap_features (
     collection text COLLATE "C" NOT NULL,
     id text COLLATE "C" NOT NULL,
@@ -50,8 +51,20 @@ CREATE TABLE IF NOT EXISTS streetmap_features (
     properties jsonb,
     grid geometry CHECK (ST_SRID(grid) = 0),
     time tstzrange CHECK (NOT isempty(time)),
+    mercator geometry(Geometry, 3857),
     PRIMARY KEY (collection, id)
 );
+
+-- Mirrors that were made before have no such column: streetmap_place_again fills it.
+DO $$
+BEGIN
+    IF NOT EXISTS (SELECT FROM pg_attribute
+                   WHERE attrelid = 'streetmap_features'::regclass AND attname = 'mercator')
+    THEN
+        ALTER TABLE streetmap_features ADD COLUMN mercator geometry(Geometry, 3857);
+    END IF;
+END
+$$;
 
 -- The kinds of values seen in a property: string, number, large (a number above 2^63 - 1),
 -- boolean, array, object. Nulls, and names of more than 63 bytes, are not noted.

@@ -5,6 +5,8 @@ of a statement, by one processor, and by the number of connections.
 """
 
 import asyncio
+import io
+import struct
 import sys
 import time
 from collections.abc import Callable
@@ -31,6 +33,9 @@ SET max_parallel_workers_per_gather = 0;
 SET jit = off;
 SET timezone = 'UTC'
 """
+BINARY = "COPY ({}) TO STDOUT (FORMAT binary)"
+# What is before the first row: a signature of 11 bytes, flags, and an extension that has no bytes.
+HEAD_BYTES = 19
 Value = TypeVar("Value")
 Row = tuple[Any, ...]
 
@@ -50,6 +55,19 @@ class Reading:
     def row(self, query: Composable) -> Row | None:
         rows = self.rows(query)
         return rows[0] if rows else None
+
+    def values(self, query: Composable) -> list[bytes | None]:
+        """The values of the one row of a query, as bytes: PostgreSQL's binary form, so that none of
+        them is written as digits and read again."""
+        file = io.BytesIO()
+        self.cursor.copy_expert(SQL(BINARY).format(query), file)
+        row, at, found = file.getbuffer()[HEAD_BYTES:], 2, list[bytes | None]()
+        for _ in range(*struct.unpack_from("!h", row)):
+            (size,) = struct.unpack_from("!i", row, at)
+            at += 4
+            found.append(None if size < 0 else bytes(row[at : at + size]))
+            at += max(0, size)
+        return found
 
     @property
     def is_late(self) -> bool:

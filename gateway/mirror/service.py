@@ -68,7 +68,8 @@ class MirrorService:
             apart = tiles.distance(reading, self.system, self.systems)
             if not apart < tiles.CLOSE:
                 detail = (
-                    f"PostGIS and system.operation are {apart:.3f} m apart in EPSG:3857. With"
+                    f"PostGIS and system.operation are {apart:.3f} m apart in EPSG:3857. If PROJ"
+                    " was given another grid, restart the mirror's transport. With"
                     " mirror.tiles = false there are no tiles, and all else is right."
                 )
                 raise Problem(500, "other_operation", detail)

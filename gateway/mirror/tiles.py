@@ -32,23 +32,28 @@ HALF, UNITS, MARGIN = Decimal("20037508.3427892480"), 4096, 64
 PIXELS, PAPER = 256, Decimal("0.00028")
 # The first features of a tile by id that are drawn; the others are left out.
 MOST_FEATURES = 10_000
-# OFFSET 0 has each geometry made once, although it is both tested and drawn.
+# The first features are taken in the order of the CTE. OFFSET 0 has each geometry made once,
+# although it is both tested and drawn. A row that another hand put in may have no `mercator`.
 TILE = """
 WITH chosen AS MATERIALIZED (
-    SELECT id, properties, geometry FROM streetmap_features
+    SELECT id, properties, geometry, mercator FROM streetmap_features
     WHERE collection = {collection} AND {within}
     ORDER BY id LIMIT {most} + 1
 )
 SELECT (SELECT count(*) FROM chosen) > {most}, ST_AsMVT(drawn, {collection}, {units}, 'geometry')
 FROM (
-    SELECT id, CASE WHEN properties ? 'id' THEN properties - 'id' ELSE properties END AS properties,
+    SELECT id, CASE WHEN ({has_id}) THEN properties - 'id' ELSE properties END AS properties,
         ST_AsMVTGeom(
-            ST_Transform(geometry, 3857),
+            coalesce(mercator, ST_Transform(geometry, 3857)),
             ST_TileEnvelope({level}, {column}, {row}), {units}, {margin}
         ) AS geometry
-    FROM (SELECT * FROM chosen ORDER BY id LIMIT {most}) AS first
+    FROM (SELECT * FROM chosen LIMIT {most}) AS first
     OFFSET 0
 ) AS drawn WHERE geometry IS NOT NULL
+"""
+# Whether a property has the name of the id, which a tile has once.
+HAS_ID = """
+SELECT EXISTS (SELECT FROM streetmap_properties WHERE collection = {collection} AND name = 'id')
 """
 PLACED = """
 SELECT ST_X(it.placed), ST_Y(it.placed) FROM (
@@ -56,6 +61,17 @@ SELECT ST_X(it.placed), ST_Y(it.placed) FROM (
     FROM unnest({x}, {y}) WITH ORDINALITY AS at (x, y, number) ORDER BY number
 ) AS it
 """
+# How far what is kept of some features is from what PostGIS makes of them now.
+KEPT_APART = """
+SELECT coalesce(max(greatest(
+    abs(ST_XMin(mercator) - ST_XMin(placed)), abs(ST_YMin(mercator) - ST_YMin(placed)))), 0)
+FROM (
+    SELECT mercator, ST_Transform(geometry, 3857) AS placed FROM streetmap_features
+    WHERE mercator IS NOT NULL LIMIT 100 OFFSET 0
+) AS kept
+"""
+# As PostgreSQL has it in its binary form.
+TRUE = b"\1"
 # Both operations agree if they are nearer than this, in metres of EPSG:3857, over a raster of
 # positions.
 CLOSE, RASTER = 0.001, 9
@@ -114,6 +130,7 @@ def draw(
         return Tile(b"", False)
     asked = SQL(TILE).format(
         collection=Value(collection),
+        has_id=SQL(HAS_ID).format(collection=Value(collection)),
         within=system.within(region.bounds),
         most=Value(MOST_FEATURES),
         units=Value(UNITS),
@@ -122,13 +139,13 @@ def draw(
         column=Value(at.column),
         row=Value(at.row),
     )
-    is_cut, body = reading.rows(asked)[0]
-    return Tile(bytes(body), is_cut)
+    is_cut, body = reading.values(asked)
+    return Tile(body or b"", is_cut == TRUE)
 
 
 def distance(reading: Reading, system: MirrorSystem, systems: Systems) -> float:
-    """How far what PostGIS and the gateway make of grid positions is apart at most, in metres of
-    EPSG:3857."""
+    """How far what PostGIS and the gateway make of grid positions is apart at most, and what the
+    mirror keeps of features, in metres of EPSG:3857."""
     mercator = systems.by_uri[f"{EPSG}3857"]
     positions = placeable(systems)
     wanted = mercator.coordinates(positions)
@@ -136,7 +153,8 @@ def distance(reading: Reading, system: MirrorSystem, systems: Systems) -> float:
     y = [(system.grid.northing + position[1]) / STEPS for position in positions]
     found = reading.rows(SQL(PLACED).format(srid=Value(system.srid), x=Value(x), y=Value(y)))
     pairs = zip(found, wanted, strict=True)
-    return max(float(abs(a - b)) for one, other in pairs for a, b in zip(one, other))
+    apart = [float(abs(a - b)) for one, other in pairs for a, b in zip(one, other)]
+    return max(*apart, *map(float, reading.rows(SQL(KEPT_APART))[0]))
 
 
 def placeable(systems: Systems) -> Sequence[tuple[int, int]]:

@@ -73,7 +73,7 @@ def check_two(old: Machine, new: Machine) -> None:
             wait_until("the follower has them", there, context.seconds)
         for text in TEXTS[3:5]:
             old.post(text)
-        context.check("the promotion", new.leases.promote("new").wait(context.seconds), 0)
+        context.check("the promotion", new.leases.promote("newer").wait(context.seconds), 0)
     with running(new.copier()):
         for name in ("n4", "n5", "n6"):
             new.post(text_of(name, lamp(int(name[1:]) + 40)))
@@ -93,7 +93,7 @@ def check_two(old: Machine, new: Machine) -> None:
 def check_promotions(context: Context, cluster: Database) -> None:
     cluster.ask_alone("CREATE DATABASE promotions")
     leases = Leases(context, replace(cluster, name="promotions"))
-    with machine(leases, "old") as old, machine(leases, "new") as new:
+    with machine(leases, "older") as old, machine(leases, "newer") as new:
         check_two(old, new)
-    lost = context.run("batches", context.folder / "old", "--after", "3")
+    lost = context.run("batches", context.folder / "older", "--after", "3")
     context.check("what the old one alone has", lost, b"".join(LINES[3:5]))

@@ -51,6 +51,7 @@ def run(context: Context) -> None:
         rows.check_owner(context, cluster)
         rows.check_towns(context, cluster)
         changes.check_changes(context, cluster)
+        changes.check_places(context, cluster)
         views.check_views(context, cluster)
         tools.check_tools(context, cluster)
         filling.check_filling(context, cluster)

@@ -283,6 +283,7 @@ def check_wrong(made: MirrorSite) -> None:
     export = f"mirror_check: differs {collection}"
     for change, wanted in (
         ("UPDATE streetmap_features SET geometry = ST_Translate(geometry, 0.001, 0)", columns),
+        ("UPDATE streetmap_features SET mercator = NULL", columns),
         ("UPDATE streetmap_features SET grid = ST_Translate(grid, 1, 0)", columns),
         ("UPDATE streetmap_features SET properties = NULL", columns),
         ("UPDATE streetmap_features SET time = '[2024-01-01,2025-01-01)'", columns),
