@@ -17,8 +17,8 @@ returns-in-Some g c = record {
   stays = λ clean s unlimited keeps trees left. c.kept_rows.ensures.crash clean s keeps.rows trees left;
 }
 
-pub returns-in-None : goal.returns-in-None
-returns-in-None g c = record {
+pub returns-in-Ok : goal.returns-in-Ok
+returns-in-Ok g c = record {
   shows = λ clean s unlimited keeps.
       let r = c.in-Ok.ensures.reads_state clean unlimited s keeps.rows in
       let none = no_row kept_view (get s.keys c.args.key.now) c.deref.result.now (search rules) c.in-None.ensures.value in
@@ -28,8 +28,8 @@ returns-in-None g c = record {
   stays = λ clean s unlimited keeps trees left. c.kept_rows.ensures.crash clean s keeps.rows trees left;
 }
 
-pub returns-in-Err : goal.returns-in-Err
-returns-in-Err g c = record {
+pub returns : goal.returns
+returns g c = record {
   shows = λ clean s unlimited keeps.
       let r = c.in-Err.ensures.reads_state clean unlimited s keeps.rows in
       (r.0, c.in-Err.ensures.reason clean, r.1);
