@@ -43,7 +43,7 @@ from collections.abc import Iterator
 from pathlib import Path
 
 from journal_files import JournalFiles, last_serial
-from journal_lines import NO_LINES, Away, Fault, Line, end, not_empty, town_of
+from journal_lines import NO_LINES, Fault, Line, not_empty, print_made, town_of
 from journal_table import JournalTable, Row
 
 NAME = "journal_digest"
@@ -209,13 +209,7 @@ def arguments() -> argparse.Namespace:
 
 def main() -> int:
     asked = arguments()
-    try:
-        print(audit(asked))
-    except Fault as fault:
-        return end(NAME, fault)
-    except Away as away:
-        return end(NAME, Fault("away", away, status=3))
-    return 0
+    return print_made(NAME, lambda: audit(asked))
 
 
 if __name__ == "__main__":

@@ -19,7 +19,7 @@ import os
 import re
 import sys
 import time
-from collections.abc import Iterator
+from collections.abc import Callable, Iterator
 from dataclasses import dataclass
 from typing import BinaryIO, Protocol
 
@@ -171,3 +171,14 @@ def end(name: str, fault: Fault) -> int:
     for line in (str(fault), *fault.more):
         print(f"{name}: {line}", file=sys.stderr, flush=True)
     return fault.status
+
+
+def print_made(name: str, make: Callable[[], str]) -> int:
+    """Prints what a script makes once; its exit status, which is 3 if a source is away."""
+    try:
+        print(make())
+    except Fault as fault:
+        return end(name, fault)
+    except Away as away:
+        return end(name, Fault("away", away, status=3))
+    return 0

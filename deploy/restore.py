@@ -43,7 +43,7 @@ from dataclasses import dataclass
 from pathlib import Path
 
 from journal_files import NUMBERED, JournalFiles, ending_of, family_of, last_serial, parts_of
-from journal_lines import NO_LINES, Away, Fault, Line, Source, end, not_empty, tell, town_of
+from journal_lines import NO_LINES, Away, Fault, Line, Source, not_empty, print_made, tell, town_of
 from program import Program, lines_up_to
 
 NAME = "restore"
@@ -172,13 +172,7 @@ def arguments() -> argparse.Namespace:
 
 def main() -> int:
     asked = arguments()
-    try:
-        print(restore(asked))
-    except Fault as fault:
-        return end(NAME, fault)
-    except Away as away:
-        return end(NAME, Fault("away", away, status=3))
-    return 0
+    return print_made(NAME, lambda: restore(asked))
 
 
 if __name__ == "__main__":
