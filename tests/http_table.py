@@ -1,4 +1,5 @@
-"""Writes the table of HTTP rows of a proved test from examples/http.jsonl.
+"""Writes the table of HTTP rows of a proved test, from examples/http.jsonl and
+examples/conditional.jsonl.
 
     python3 tests/http_table.py [--check]
 
@@ -13,26 +14,44 @@ from pathlib import Path
 
 ROOT = Path(__file__).resolve().parent.parent
 ROWS = ROOT / "examples" / "http.jsonl"
+CONDITIONAL = ROOT / "examples" / "conditional.jsonl"
 TABLE = ROOT / "crates" / "streetmap_store_tests" / "src" / "rows.rt"
 SOURCE = """\
 //! The rows of HTTP, a JSON object a line: what it shows, the batches that are there before, the
 //! bytes of the requests, and all bytes of the answers. `tests/http_table.py` writes this file from
-//! `examples/http.jsonl`: change that one, and write this one again.
+//! `examples/http.jsonl` and `examples/conditional.jsonl`: change those, and write this one again.
 
-/// The number of rows.
+/// The number of rows of a service without tags.
 pub(crate) const COUNT: u64 = {count};
 
 pub(crate) const ROWS: &str =
     r##"{rows}"##;
+
+/// The number of rows of a service with tags.
+pub(crate) const CONDITIONAL_COUNT: u64 = {conditional_count};
+
+pub(crate) const CONDITIONAL_ROWS: &str =
+    r##"{conditional_rows}"##;
 """
+
+
+def rows_in(path: Path) -> str:
+    """The rows of a file, which can stand in a raw string."""
+    rows = path.read_text()
+    if '"##' in rows or not rows.endswith("\n"):
+        raise ValueError("the rows cannot stand in a raw string")
+    return rows
 
 
 def table() -> str:
     """The source of the table, in the layout of `rt fmt`."""
-    rows = ROWS.read_text()
-    if '"##' in rows or not rows.endswith("\n"):
-        raise ValueError("the rows cannot stand in a raw string")
-    return SOURCE.format(count=rows.count("\n"), rows=rows)
+    rows, conditional = rows_in(ROWS), rows_in(CONDITIONAL)
+    return SOURCE.format(
+        count=rows.count("\n"),
+        rows=rows,
+        conditional_count=conditional.count("\n"),
+        conditional_rows=conditional,
+    )
 
 
 def is_current() -> bool:
@@ -45,7 +64,7 @@ def main() -> int:
     if parser.parse_args().check:
         if is_current():
             return 0
-        print(f"{TABLE} is not the table of {ROWS}: run python3 tests/http_table.py")
+        print(f"{TABLE} is not the table of the rows: run python3 tests/http_table.py")
         return 1
     TABLE.write_text(table())
     return 0

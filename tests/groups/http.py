@@ -1,7 +1,8 @@
 """Rows of HTTP to the byte, each over a file of its own, and bodies at their limits.
 
-A row (examples/http.jsonl) has the batches that are there before, the bytes of the requests, and
-all bytes of the answers. A proved test runs the same rows over other keepers, from a table.
+A row (examples/http.jsonl; examples/conditional.jsonl of a service with tags) has the batches that
+are there before, the bytes of the requests, and all bytes of the answers. A proved test runs the
+same rows over other keepers, from a table.
 """
 
 import json
@@ -15,10 +16,12 @@ MOST_BYTES = 8_388_608
 MOST_EDITS = 10_000
 
 
-def written(context: Context, number: int, before: list[str], sent: bytes) -> str:
+def written(
+    context: Context, number: int, before: list[str], sent: bytes, options: tuple[str, ...] = ()
+) -> str:
     """What is written over a new file in which these batches were accepted."""
     file = context.new_file(f"{number}.streetmap", *map(post, before))
-    return context.run("pipe", file, sent=sent).decode()
+    return context.run("pipe", file, *options, sent=sent).decode()
 
 
 def answer(status: str, body: str, fields: str = "") -> str:
@@ -48,11 +51,19 @@ def limits() -> list[tuple[str, list[str], bytes, str]]:
     ]
 
 
+def rows_in(name: str) -> list[tuple[str, list[str], bytes, str]]:
+    """What each row of a file shows, the batches before, the requests and the answers."""
+    return [
+        (row["what"], row["before"], row["sent"].encode(), row["written"]) for row in rows_of(name)
+    ]
+
+
 def run(context: Context) -> None:
     context.check("the table of the proved test is that of the rows", http_table.is_current(), True)
-    asked = [
-        (row["what"], row["before"], row["sent"].encode(), row["written"])
-        for row in rows_of("http.jsonl")
-    ]
-    for number, (what, before, sent, wanted) in enumerate([*asked, *limits()]):
+    asked = [*rows_in("http.jsonl"), *limits()]
+    for number, (what, before, sent, wanted) in enumerate(asked):
         context.check(what, written(context, number, before, sent), wanted)
+    tagged = rows_in("conditional.jsonl")
+    for number, (what, before, sent, wanted) in enumerate(tagged, len(asked)):
+        answers = written(context, number, before, sent, ("--conditional",))
+        context.check(what, answers, wanted)

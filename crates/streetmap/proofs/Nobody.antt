@@ -1,12 +1,12 @@
 -- What is guaranteed if no client was accepted.
 use Rattle.std.proofs.Common.{◌≡◌, List, [], ◌∷◌, ◌++◌, Option, Some, refl, sym, subst}
 use Rattle.std.proofs.lemmas.List.Elements.{All-nil}
-use Rattle.streetmap_batch.specs.Text.{Text}
 use Rattle.streetmap_ledger.specs.State.{State}
 use Rattle.streetmap_ledger.specs.Keep.{LeavesOnly}
 use Rattle.streetmap_connections.specs.History.{History}
 use Rattle.streetmap_connections.specs.Interleaving as interleaving
 use Rattle.streetmap_connections.specs.Timeline as timeline
+use Rattle.streetmap_web.specs.Site.{SiteValue}
 use Rattle.streetmap_guarantee.specs.Server.{serving}
 use Rattle.streetmap_guarantee.specs.Histories.{Event}
 use Rattle.streetmap_guarantee.specs.Guarantee.{IsInOrder, RefusesForMemory}
@@ -20,10 +20,10 @@ no_event (first ∷ before) later e is = absurd (let bad : ◌≡◌ {A = List E
 same_state : (s t : State) → Some s ≡ Some t → s ≡ t
 same_state s t e = cc
 
-module _ {Image : Type 0} (holds : Image → State → Type 0) (leaves : Image → Type 0) (root : Text) (s : State) (left : Option State → Type 0)
+module _ {Image : Type 0} (holds : Image → State → Type 0) (leaves : Image → Type 0) (site : SiteValue) (s : State) (left : Option State → Type 0)
     (states : LeavesStates holds leaves left) (only : LeavesOnly left (Some s)) where
   -- a crash leaves the state alone
-  none_served : GuaranteeOfTown holds leaves root s []
+  none_served : GuaranteeOfTown holds leaves site s []
   none_served = record {
     guarantee = record {
       history = [];
@@ -39,5 +39,5 @@ module _ {Image : Type 0} (holds : Image → State → Type 0) (leaves : Image �
     timeline = timeline.none refl refl;
   }
 
-  pub nobody_came : (connections : List History) → connections ≡ [] → GuaranteeOfTown holds leaves root s connections
-  nobody_came connections none = subst (GuaranteeOfTown holds leaves root s) (sym none) none_served
+  pub nobody_came : (connections : List History) → connections ≡ [] → GuaranteeOfTown holds leaves site s connections
+  nobody_came connections none = subst (GuaranteeOfTown holds leaves site s) (sym none) none_served

@@ -13,6 +13,7 @@ use streetmap_command::{Connections, Import, JournalArguments, LoadArguments};
 use streetmap_faults::ProgramFault;
 use streetmap_placing::Numbers;
 use streetmap_routes::Base;
+use streetmap_web::Site;
 
 /// Whether a file of that name exists.
 fn is_there(rt: &HostRuntime, path: &str) -> Result<bool, ProgramFault> {
@@ -66,9 +67,9 @@ pub(crate) fn create(rt: &HostRuntime, path: &str) -> Result<(), ProgramFault> {
 }
 
 /// Serves the requests of standard input over a file.
-pub(crate) fn pipe(rt: &HostRuntime, path: &str, base: Base) -> Result<(), ProgramFault> {
+pub(crate) fn pipe(rt: &HostRuntime, path: &str, site: Site) -> Result<(), ProgramFault> {
     refuse_missing(rt, path)?;
-    fault::of_stream(pipe_file(rt, path, Unknown, &base)?.end)
+    fault::of_stream(pipe_file(rt, path, Unknown, &site)?.end)
 }
 
 /// Writes a collection of a file on standard output.

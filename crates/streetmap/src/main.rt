@@ -33,6 +33,7 @@ use std::process::ExitCode;
 use streetmap_command::{Command, VERSION, read_command};
 use streetmap_faults::ProgramFault;
 use streetmap_routes::Base;
+use streetmap_web::Site;
 
 /// The arguments of the command line, the first of which is the program's name.
 fn words_of(rt: &HostRuntime) -> Result<Vec<String>, ProgramFault> {
@@ -55,9 +56,14 @@ fn perform(rt: &HostRuntime, command: Command<'_>) -> Result<(), ProgramFault> {
         Command::Version => print_version(rt),
         Command::Lines => Ok(lines::run(rt)?),
         Command::Create { file } => files::create(rt, file),
-        Command::Pipe { file, base } => {
+        Command::Pipe {
+            file,
+            base,
+            conditional,
+        } => {
             let base = Base::new(rt.alloc(), base.as_str())?.ok_or(ProgramFault::BadBase)?;
-            files::pipe(rt, file, base)
+            let tags = conditional;
+            files::pipe(rt, file, Site { base, tags })
         }
         Command::Serve {
             file,

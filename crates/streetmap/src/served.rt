@@ -3,6 +3,7 @@ ghost use Rattle.std.specs.Prelude.{◌≤◌, length, map, IfOk, IfSome, IsOk};
 ghost use Rattle.sqlite_wal.specs.Files.{image_at};
 ghost use Rattle.streetmap_ledger.specs.State.{State};
 ghost use Rattle.streetmap_routes.specs.BaseView.{root_of};
+ghost use Rattle.streetmap_web.specs.Site.{site_value};
 ghost use Rattle.streetmap_connections.specs.AllClients.{clients_of, ended_of};
 ghost use Rattle.streetmap_connections.specs.SlotClients.{client_history};
 ghost use Rattle.streetmap_guarantee.specs.Town.{GuaranteeOfTown};
@@ -18,7 +19,8 @@ use streetmap_connections::Clients;
 use streetmap_faults::ProgramFault;
 use streetmap_ledger::{Durable, Keeper, KeepsBatches};
 use streetmap_routes::Base;
-use streetmap_web::End;
+use streetmap_tags::Tagged;
+use streetmap_web::{End, Site};
 
 /// The clients of a keeper, what served them, and how that ended.
 #[derive(Drop)]
@@ -36,7 +38,7 @@ pub(crate) struct Piped<K> {
 }
 
 /// Serves the connections of a port over a keeper, with a journal if one is requested.
-fn serve_over<K: Durable + KeepsBatches + Drop>(
+fn serve_over<K: Durable + KeepsBatches + Tagged + Drop>(
     rt: &HostRuntime,
     keeper: K,
     connections: Connections,
@@ -45,7 +47,8 @@ fn serve_over<K: Durable + KeepsBatches + Drop>(
 ) -> Result<Town<K>, ProgramFault>
     ensures guarantee { IfOk result (λ town.
         K.model.is_clean town.service.keeper.keeper → (s : State) → K.model.represents keeper s →
-        GuaranteeOfTown K.holds (K.leaves town.service.keeper.keeper) (root_of base) s
+        GuaranteeOfTown K.holds (K.leaves town.service.keeper.keeper)
+        (record { root = root_of base; tags = connections.conditional }) s
         (map client_history (clients_of town.clients))) }
     ensures began_clean { IfOk result (λ town.
         K.model.is_clean town.service.keeper.keeper → K.model.is_clean keeper) }
@@ -80,7 +83,8 @@ pub(crate) fn serve_file<S: Start>(
         ⟦<ServedFile<S> as Keeper>⟧.model.is_clean town.service.keeper.keeper → (s : State) →
         HoldsTables (image_at S.Start) s →
         GuaranteeOfTown ⟦<ServedFile<S> as Durable>⟧.holds
-        (⟦<ServedFile<S> as Durable>⟧.leaves town.service.keeper.keeper) (root_of base) s
+        (⟦<ServedFile<S> as Durable>⟧.leaves town.service.keeper.keeper)
+        (record { root = root_of base; tags = connections.conditional }) s
         (map client_history (clients_of town.clients))) }
     ensures counted { IfOk result (λ town. IsOk town.ended →
         IfSome connections.count (λ n. n ≤ length (ended_of town.clients))) }
@@ -95,19 +99,19 @@ pub(crate) fn serve_file<S: Start>(
 }
 
 /// Serves the requests of standard input over a keeper, which is handed back.
-fn pipe_over<K: Durable + Drop>(
+fn pipe_over<K: Durable + Tagged + Drop>(
     rt: &HostRuntime,
     keeper: K,
-    base: &Base,
+    site: &Site,
 ) -> Result<Piped<K>, ProgramFault>
     ensures guarantee { IfOk result (λ it. K.model.is_clean it.keeper → (s : State) →
         K.model.represents keeper s →
-        GuaranteeOfPipe K.holds (K.leaves it.keeper) (root_of base.now) s it.end) }
+        GuaranteeOfPipe K.holds (K.leaves it.keeper) (site_value site.now) s it.end) }
     ensures began_clean { IfOk result (λ it.
         K.model.is_clean it.keeper → K.model.is_clean keeper) }
 {
     let mut keeper = keeper;
-    let end = pipe(rt, &mut keeper, base)?;
+    let end = pipe(rt, &mut keeper, site)?;
     Ok(Piped { keeper, end })
 }
 
@@ -116,15 +120,15 @@ pub(crate) fn pipe_file<S: Start>(
     rt: &HostRuntime,
     path: &str,
     start: S,
-    base: &Base,
+    site: &Site,
 ) -> Result<Piped<ServedFile<S>>, ProgramFault>
     ensures { IfOk result (λ it. ⟦<ServedFile<S> as Keeper>⟧.model.is_clean it.keeper →
         (s : State) → HoldsTables (image_at S.Start) s →
         GuaranteeOfPipe ⟦<ServedFile<S> as Durable>⟧.holds
-        (⟦<ServedFile<S> as Durable>⟧.leaves it.keeper) (root_of base.now) s it.end) }
+        (⟦<ServedFile<S> as Durable>⟧.leaves it.keeper) (site_value site.now) s it.end) }
 {
     let keeper = open_indexed(rt, path, start)?;
-    match pipe_over(rt, keeper, base) {
+    match pipe_over(rt, keeper, site) {
         Ok(it) => Ok(it),
         Err(refused) => Err(refused),
     }

@@ -2,7 +2,7 @@
 ghost use Rattle.std.specs.Prelude.{◌≡◌, ◌≤◌, [], length, map, None, Some, IfSome, IfOk, IsOk};
 ghost use Rattle.std.specs.Prelude.{IsErr};
 ghost use Rattle.streetmap_ledger.specs.State.{State};
-ghost use Rattle.streetmap_routes.specs.BaseView.{root_of};
+ghost use Rattle.streetmap_web.specs.Site.{site_value};
 ghost use Rattle.streetmap_connections.specs.AllClients.{clients_of, ended_of};
 ghost use Rattle.streetmap_connections.specs.SlotClients.{client_history};
 ghost use Rattle.streetmap_journal.specs.Reports.{IsForIf};
@@ -22,17 +22,18 @@ use streetmap_guarantee::{pipe as serve_stream, serve_town, warm};
 use streetmap_journal::{Journal, JournalWriter, JournaledKeeper};
 use streetmap_ledger::{Durable, Keeper, KeepsBatches};
 use streetmap_routes::Base;
-use streetmap_web::{End, KeeperService, Watch};
+use streetmap_tags::Tagged;
+use streetmap_web::{End, KeeperService, Site, Watch};
 
 /// Serves the requests of standard input on standard output; returns how that ended.
-pub(crate) fn pipe<K: Durable>(
+pub(crate) fn pipe<K: Durable + Tagged>(
     rt: &HostRuntime,
     keeper: &mut K,
-    base: &Base,
+    site: &Site,
 ) -> Result<End, ProgramFault>
     ensures guarantee { IfOk result (λ end. K.model.is_clean keeper.new → (s : State) →
         K.model.represents keeper.old s →
-        GuaranteeOfPipe K.holds (K.leaves keeper.new) (root_of base.now) s end) }
+        GuaranteeOfPipe K.holds (K.leaves keeper.new) (site_value site.now) s end) }
     ensures unchanged { IsErr result → keeper.new ≡ keeper.old }
     ensures began_clean { K.model.is_clean keeper.new → K.model.is_clean keeper.old }
 {
@@ -40,14 +41,14 @@ pub(crate) fn pipe<K: Durable>(
         return Err(ProgramFault::Memory);
     };
     let mut output = writer(rt);
-    Ok(serve_stream(rt.alloc(), keeper, base, &mut reader, &mut output).end)
+    Ok(serve_stream(rt.alloc(), keeper, site, &mut reader, &mut output).end)
 }
 
 /// A keeper with a journal in a file, if one is requested, served to clients.
 pub(crate) type Service<K> = KeeperService<JournaledKeeper<K, JournalFile>, Stderr>;
 
 /// A service over a keeper, which has no journal yet.
-pub(crate) fn service_of<K: KeepsBatches>(
+pub(crate) fn service_of<K: KeepsBatches + Tagged>(
     rt: &HostRuntime,
     keeper: K,
     base: Base,
@@ -55,7 +56,7 @@ pub(crate) fn service_of<K: KeepsBatches>(
 ) -> Service<K>
     ensures keeper { result.keeper.keeper ≡ keeper }
     ensures no_journal { result.keeper.journal ≡ None }
-    ensures base { result.base ≡ base }
+    ensures site { result.site ≡ record { base = base; tags = connections.conditional } }
 {
     KeeperService {
         alloc: rt.alloc(),
@@ -64,7 +65,10 @@ pub(crate) fn service_of<K: KeepsBatches>(
             keeper,
             journal: None,
         },
-        base,
+        site: Site {
+            base,
+            tags: connections.conditional,
+        },
         log: connections.log.then(|| rt.stderr()),
         watch: Watch::new(rt.stderr(), connections.count.is_none()),
     }
@@ -155,7 +159,7 @@ fn count_of(connections: Connections) -> u64
 }
 
 /// Serves connections: many clients at once, or one client after the other.
-pub(crate) fn serve<K: Durable + KeepsBatches>(
+pub(crate) fn serve<K: Durable + KeepsBatches + Tagged>(
     rt: &HostRuntime,
     connections: Connections,
     journal: Option<JournalArguments<'_>>,
@@ -165,7 +169,8 @@ pub(crate) fn serve<K: Durable + KeepsBatches>(
     requires { clients_of clients.old ≡ [] }
     ensures guarantee { K.model.is_clean service.new.keeper.keeper → (s : State) →
         K.model.represents service.old.keeper.keeper s →
-        GuaranteeOfTown K.holds (K.leaves service.new.keeper.keeper) (root_of service.old.base) s
+        GuaranteeOfTown K.holds (K.leaves service.new.keeper.keeper)
+        (site_value service.old.site) s
         (map client_history (clients_of clients.new)) }
     ensures counted { IsOk result →
         IfSome connections.count (λ n. n ≤ length (ended_of clients.new)) }

@@ -159,6 +159,8 @@ request_code (request_faults.MethodNotAllowed methods) = (refl, lit≤ tt)
 request_code (request_faults.Query fault) = query_code fault
 request_code (request_faults.Batch fault) = batch_code fault
 request_code (request_faults.Refused refusal place) = refusal_code refusal
+request_code request_faults.BadCondition = (refl, lit≤ tt)
+request_code request_faults.Changed = (refl, lit≤ tt)
 request_code (request_faults.Keeper fault) = keeper_code fault
 
 pub framing_description : (f : FramingFault) → IsPlain (framing.description_of f)
@@ -187,6 +189,8 @@ request_description (request_faults.MethodNotAllowed methods) = (refl, lit≤ tt
 request_description (request_faults.Query fault) = query_description fault
 request_description (request_faults.Batch fault) = batch_description fault
 request_description (request_faults.Refused refusal place) = refusal_description refusal
+request_description request_faults.BadCondition = (refl, lit≤ tt)
+request_description request_faults.Changed = (refl, lit≤ tt)
 request_description (request_faults.Keeper fault) = keeper_description fault
 
 pub request_cause : (f : RequestFault) → ForSome (request.cause_of f) IsPlain
@@ -201,4 +205,6 @@ request_cause request_faults.NotFound = λ x e. cc
 request_cause (request_faults.MethodNotAllowed methods) = λ x e. cc
 request_cause (request_faults.Query fault) = λ x e. cc
 request_cause (request_faults.Refused refusal place) = λ x e. cc
+request_cause request_faults.BadCondition = λ x e. cc
+request_cause request_faults.Changed = λ x e. cc
 request_cause (request_faults.Keeper fault) = λ x e. cc

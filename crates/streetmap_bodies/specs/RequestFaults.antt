@@ -22,6 +22,8 @@ use Rattle.streetmap_bodies.specs.declared.request_fault.RequestFault.TheVariant
 use Rattle.streetmap_bodies.specs.declared.request_fault.RequestFault.TheVariants.{MethodNotAllowed}
 use Rattle.streetmap_bodies.specs.declared.request_fault.RequestFault.TheVariants.{Query, Batch}
 use Rattle.streetmap_bodies.specs.declared.request_fault.RequestFault.TheVariants.{Refused, Keeper}
+use Rattle.streetmap_bodies.specs.declared.request_fault.RequestFault.TheVariants.{BadCondition}
+use Rattle.streetmap_bodies.specs.declared.request_fault.RequestFault.TheVariants.{Changed}
 
 -- the name in the answer
 unfoldable pub code_of : RequestFault → Text
@@ -32,6 +34,8 @@ code_of (MethodNotAllowed methods) = codes "method_not_allowed"
 code_of (Query fault) = query.code_of fault
 code_of (Batch fault) = batch.code_of fault
 code_of (Refused refusal place) = ledger.code_of refusal
+code_of BadCondition = codes "bad_condition"
+code_of Changed = codes "changed"
 code_of (Keeper fault) = ledger.fault_code fault
 
 -- the sentence in the answer
@@ -43,6 +47,8 @@ description_of (MethodNotAllowed methods) = codes "The method is not allowed her
 description_of (Query fault) = query.description_of fault
 description_of (Batch fault) = batch.description_of fault
 description_of (Refused refusal place) = ledger.description_of refusal
+description_of BadCondition = codes "A condition cannot be read."
+description_of Changed = codes "The state is not as a condition requires."
 description_of (Keeper fault) = ledger.fault_description fault
 
 -- the status of a query that cannot be read
@@ -69,6 +75,8 @@ status_of (MethodNotAllowed methods) = 405
 status_of (Query fault) = query_status fault
 status_of (Batch fault) = batch_status fault
 status_of (Refused refusal place) = 409
+status_of BadCondition = 400
+status_of Changed = 412
 status_of (Keeper fault) = keeper_status fault
 
 -- the place of the edit at fault, counted from 1

@@ -30,6 +30,10 @@ pub enum RequestFault {
     Batch(BatchFault),
     /// The batch is refused, with the place of the edit at fault, if any.
     Refused(Refusal, Option<u64>),
+    /// A condition of it is neither `*` nor a list of tags.
+    BadCondition,
+    /// A condition of it does not hold.
+    Changed,
     /// The keeper did not answer.
     Keeper(Fault),
 }
@@ -48,6 +52,8 @@ impl RequestFault {
             RequestFault::Query(fault) => fault.code(),
             RequestFault::Batch(fault) => fault.code(),
             RequestFault::Refused(refusal, _) => refusal.code(),
+            RequestFault::BadCondition => "bad_condition",
+            RequestFault::Changed => "changed",
             RequestFault::Keeper(fault) => fault.code(),
         }
     }
@@ -65,6 +71,8 @@ impl RequestFault {
             RequestFault::Query(fault) => fault.description(),
             RequestFault::Batch(fault) => fault.description(),
             RequestFault::Refused(refusal, _) => refusal.description(),
+            RequestFault::BadCondition => "A condition cannot be read.",
+            RequestFault::Changed => "The state is not as a condition requires.",
             RequestFault::Keeper(fault) => fault.description(),
         }
     }
@@ -83,6 +91,8 @@ impl RequestFault {
             | RequestFault::Keeper(Fault::Memory) => StatusCode::SERVICE_UNAVAILABLE,
             RequestFault::Query(_) | RequestFault::Batch(_) => StatusCode::BAD_REQUEST,
             RequestFault::Refused(_, _) => StatusCode::CONFLICT,
+            RequestFault::BadCondition => StatusCode::BAD_REQUEST,
+            RequestFault::Changed => StatusCode::PRECONDITION_FAILED,
             RequestFault::Keeper(_) => StatusCode::INTERNAL_SERVER_ERROR,
         }
     }

@@ -51,6 +51,7 @@ connections_value c = record {
   clients = c.clients;
   log = c.log;
   warm = c.warm;
+  conditional = c.conditional;
 }
 
 abbrev pub command_value : Command → CommandValue
@@ -58,7 +59,8 @@ command_value (Help topic) = help_command topic
 command_value Version = version_command
 command_value Lines = lines_command
 command_value (Create file) = create_command file.now
-command_value (Pipe file base) = pipe_command file.now (string_bytes base)
+command_value (Pipe file base conditional) =
+    pipe_command file.now (string_bytes base) conditional
 command_value (Serve file c base journal) =
     serve_command file.now (connections_value c) (string_bytes base)
     (option_map journal_value journal)

@@ -52,14 +52,16 @@ abbrev pub create : App
 create = over_file (codes "create")
 
 abbrev pub pipe : App
-pipe = with_rule (over_file (codes "pipe")) (option (codes "base"))
+pipe = with_rule (with_rule (over_file (codes "pipe")) (option (codes "base")))
+    (flag (codes "conditional"))
 
 -- FILE, and the clients that are served
 abbrev pub serve_clients : App
-serve_clients = with_rule (with_rule (with_rule (with_rule
+serve_clients = with_rule (with_rule (with_rule (with_rule (with_rule
     (with_rule (with_rule (over_file (codes "serve"))
     (required_option (codes "port"))) (option (codes "count"))) (option (codes "clients")))
-    (flag (codes "log"))) (option (codes "base"))) (flag (codes "warm"))
+    (flag (codes "log"))) (option (codes "base"))) (flag (codes "warm")))
+    (flag (codes "conditional"))
 
 -- and a journal of what is accepted
 abbrev pub serve : App
@@ -170,13 +172,14 @@ pub record JournalWords : Type 0 where
   pub sync : Bool
 
 -- the connections that are served: the port, how many in all, how many at once, whether each answer
--- has a line, and whether indexes are learnt first
+-- has a line, whether indexes are learnt first, and whether answers have tags
 pub record ConnectionsWords : Type 0 where
   pub port : ℕ
   pub count : Option ℕ
   pub clients : ℕ
   pub log : Bool
   pub warm : Bool
+  pub conditional : Bool
 
 -- what a command line requests
 pub data CommandValue : Type 0 where
@@ -184,7 +187,7 @@ pub data CommandValue : Type 0 where
   version_command : CommandValue
   lines_command : CommandValue
   create_command : (file : Text) → CommandValue
-  pipe_command : (file base : Text) → CommandValue
+  pipe_command : (file base : Text) (conditional : Bool) → CommandValue
   serve_command : (file : Text) (connections : ConnectionsWords) (base : Text)
       (journal : Option JournalWords) → CommandValue
   import_command : (file text key collection : Text) (replace progress : Bool) → CommandValue
@@ -232,15 +235,15 @@ clients_given count (Some text) = number_up_to 1024 text
 abbrev pub create_by : List Row → Option CommandValue
 create_by rows = option_map create_command (first_of (codes "file") rows)
 
-abbrev pub pipe_by : List Row → Option CommandValue
-pipe_by rows = option_map (λ f.
-    pipe_command f (unwrap_or (first_of (codes "base") rows) plain_base))
-    (first_of (codes "file") rows)
-
 -- a flag is set: `clap` gives it the value `true` if it is among the arguments, otherwise `false`
 abbrev pub is_set : Option Text → Bool
 is_set None = false
 is_set (Some value) = bytes_eq value (codes "true")
+
+abbrev pub pipe_by : List Row → Option CommandValue
+pipe_by rows = option_map (λ f.
+    pipe_command f (unwrap_or (first_of (codes "base") rows) plain_base)
+    (is_set (first_of (codes "conditional") rows))) (first_of (codes "file") rows)
 
 -- the serial after which something begins, up to 2^32 - 1; 0 if none is given
 abbrev pub after_given : Option Text → Option ℕ
@@ -261,17 +264,23 @@ journal_by rows = journal_given (first_of (codes "journal") rows)
     (first_of (codes "journal-after") rows) (is_set (first_of (codes "journal-sync") rows))
 
 -- the connections, from the port, count, clients and flags that are given
-abbrev pub connections_given : (port count clients log warm : Option Text)
+abbrev pub connections_given : (port count clients log warm conditional : Option Text)
     → Option ConnectionsWords
-connections_given port count clients log warm =
-    option_and_then (λ p. option_and_then (λ n. option_map (λ c.
-    record { port = p; count = n; clients = c; log = is_set log; warm = is_set warm })
-    (clients_given n clients)) (count_given count)) (port_given port)
+connections_given port count clients log warm conditional =
+    option_and_then (λ p. option_and_then (λ n. option_map (λ c. record {
+      port = p;
+      count = n;
+      clients = c;
+      log = is_set log;
+      warm = is_set warm;
+      conditional = is_set conditional;
+    }) (clients_given n clients)) (count_given count)) (port_given port)
 
 abbrev pub connections_by : List Row → Option ConnectionsWords
 connections_by rows = connections_given (first_of (codes "port") rows)
     (first_of (codes "count") rows) (first_of (codes "clients") rows)
     (first_of (codes "log") rows) (first_of (codes "warm") rows)
+    (first_of (codes "conditional") rows)
 
 -- the command `serve`, from the file, connections, journal and base that are given
 abbrev pub serve_given : (file : Option Text) (connections : Option ConnectionsWords)

@@ -41,6 +41,8 @@ pub struct Connections {
     pub log: bool,
     /// Whether the index of each collection is learnt before clients are served.
     pub warm: bool,
+    /// Whether answers have tags, and requests conditions.
+    pub conditional: bool,
 }
 
 /// The import of a text of features.
@@ -72,10 +74,11 @@ pub enum Command<'a> {
         file: &'a str,
     },
     /// `streetmap pipe FILE`: serve one stream of requests on standard input and output, with links
-    /// under the base.
+    /// under the base; with `conditional` answers have tags, and requests conditions.
     Pipe {
         file: &'a str,
         base: String,
+        conditional: bool,
     },
     /// `streetmap serve FILE`: serve connections, with links under the base, and write a journal of
     /// what is accepted.
@@ -229,6 +232,7 @@ pub(crate) fn read_connections(found: &ArgMatches<'_>) -> Option<Connections>
         clients,
         log: has_flag(found, "log"),
         warm: has_flag(found, "warm"),
+        conditional: has_flag(found, "conditional"),
     })
 }
 
@@ -273,7 +277,12 @@ fn read_pipe<'a>(alloc: Global, found: &ArgMatches<'a>) -> Result<Command<'a>, C
 {
     let file = value_of(found, "file").ok_or(CommandFault::Usage)?;
     let base = read_base(alloc, value_of(found, "base"), "http://localhost/")?;
-    Ok(Command::Pipe { file, base })
+    let conditional = has_flag(found, "conditional");
+    Ok(Command::Pipe {
+        file,
+        base,
+        conditional,
+    })
 }
 
 /// The command `import`, from its arguments.

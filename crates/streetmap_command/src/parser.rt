@@ -151,7 +151,8 @@ pub(crate) fn make_pipe<'a>(alloc: Global) -> Result<Command<'a>, AllocError>
     ensures local { IfOk result (λ c. (fields_of c).has_globals ≡ false) }
 {
     let command = file_command(alloc, "pipe", texts::PIPE, texts::FILE);
-    with_argument(command, option_arg(alloc, "base", texts::BASE))
+    let command = with_argument(command, option_arg(alloc, "base", texts::BASE));
+    with_argument(command, flag_arg(alloc, "conditional", texts::CONDITIONAL))
 }
 
 fn make_serve_clients<'a>(alloc: Global) -> Result<Command<'a>, AllocError>
@@ -164,7 +165,8 @@ fn make_serve_clients<'a>(alloc: Global) -> Result<Command<'a>, AllocError>
     let command = with_argument(command, option_arg(alloc, "clients", texts::CLIENTS));
     let command = with_argument(command, flag_arg(alloc, "log", texts::LOG));
     let command = with_argument(command, option_arg(alloc, "base", texts::BASE));
-    with_argument(command, flag_arg(alloc, "warm", texts::WARM))
+    let command = with_argument(command, flag_arg(alloc, "warm", texts::WARM));
+    with_argument(command, flag_arg(alloc, "conditional", texts::CONDITIONAL))
 }
 
 pub(crate) fn make_serve<'a>(alloc: Global) -> Result<Command<'a>, AllocError>

@@ -30,6 +30,8 @@ pub(crate) const LOG: &str = "Writes a line on standard error for each answer";
 
 pub(crate) const WARM: &str = "Learns the index of each collection before it listens";
 
+pub(crate) const CONDITIONAL: &str = "Gives answers tags, and takes conditions on them";
+
 pub(crate) const JOURNAL: &str = "Writes each accepted batch to this file before its answer";
 
 pub(crate) const JOURNAL_AFTER: &str = "Begins an empty journal after this serial";

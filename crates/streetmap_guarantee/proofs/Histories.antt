@@ -1,5 +1,5 @@
 -- Requests that were answered in turn, as the history of a server.
-use Rattle.std.proofs.Common.{◌≡◌, ◌==◌, List, [], ◌∷◌, ◌++◌, map, Bool, false, Option, None, Some, refl, sym, ap, subst, ◌∙◌, arith}
+use Rattle.std.proofs.Common.{◌≡◌, ◌==◌, ℕ, List, [], ◌∷◌, ◌++◌, map, Bool, true, false, Option, None, Some, refl, sym, ap, subst, ◌∙◌, arith}
 use Rattle.std.specs.Prelude.{if◌then◌else◌}
 use Rattle.streetmap_http.specs.Framing.{IsRequest, Breaks, Frames, sized}
 use Rattle.streetmap_http.specs.Head.{IsHead}
@@ -18,7 +18,14 @@ use Rattle.streetmap_ledger.proofs.Acceptance.{refused_changes_nothing}
 use Rattle.streetmap_routes.specs.Operations.{OperationValue, faulty, landing_page, api_text, conformance_classes, all_collections, one_collection, page, feature, batch}
 use Rattle.streetmap_bodies.specs.declared.request_fault.RequestFault.TheVariants.{Keeper}
 use Rattle.streetmap_connections.specs.History.{Exchange}
-use Rattle.streetmap_web.specs.Response.{ResponseValue, response_in, response_shut, fault_response, state_in, replied, found_page, not_found, response_text}
+use Rattle.streetmap_web.specs.Site.{SiteValue}
+use Rattle.streetmap_http.specs.Preconditions.{PreconditionsValue}
+use Rattle.streetmap_ledger.specs.Kept.{batch_count}
+use Rattle.streetmap_tags.specs.Keys.{is_used}
+use Rattle.streetmap_web.specs.declared.verdict.Verdict.{Verdict}
+use Rattle.streetmap_web.specs.declared.verdict.Verdict.TheVariants.{Holds, NotModified, Changed}
+use Rattle.streetmap_web.specs.Response.{ResponseValue, Wanted, response_in, response_shut, fault_response, state_in, state_by, state_under, state_to, response_under, response_to, needs_state, judged, read_judged, batch_judged, tagged, instead, not_modified, changed, verdict_on, replied, found, found_page, not_found, response_text}
+use Rattle.streetmap_web.proofs.Verdicts.{used_stays, read_by, read_stays, unneeded_reads}
 use Rattle.streetmap_web.specs.Conditions.{Condition, RequestOutcome, of_state, shut, as_requested, no_memory, device_failed, of_keeper, CanBe, answer_by, after}
 use Rattle.streetmap_web.specs.Exchanges as web
 use Rattle.streetmap_web.specs.ServedClients.{IsAnswerTo, AnsweredInTurn}
@@ -34,87 +41,87 @@ abbrev pub condition_of : Server → Condition
 condition_of (serving s) = of_state s
 condition_of (failed before after) = shut causes.Device
 
-abbrev pub server_by : Server → OperationValue → RequestOutcome → Server
-server_by (serving s) operation as_requested = serving (state_in s operation)
-server_by (serving s) operation no_memory = serving s
-server_by (serving s) operation device_failed = failed s (state_in s operation)
-server_by (serving s) operation (of_keeper shown) = serving s
-server_by (failed before after) operation outcome = failed before after
+abbrev pub server_by : Server → Wanted → RequestOutcome → Server
+server_by (serving s) wanted as_requested = serving (state_to s wanted)
+server_by (serving s) wanted no_memory = serving s
+server_by (serving s) wanted device_failed = failed s (state_to s wanted)
+server_by (serving s) wanted (of_keeper shown) = serving s
+server_by (failed before after) wanted outcome = failed before after
 
-pub after_is : (y : Server) (operation : OperationValue) (outcome : RequestOutcome) → after (condition_of y) operation outcome ≡ condition_of (server_by y operation outcome)
-after_is (serving s) operation as_requested = refl
-after_is (serving s) operation no_memory = refl
-after_is (serving s) operation device_failed = refl
-after_is (serving s) operation (of_keeper shown) = refl
-after_is (failed before after) operation outcome = refl
+pub after_is : (y : Server) (wanted : Wanted) (outcome : RequestOutcome) → after (condition_of y) wanted outcome ≡ condition_of (server_by y wanted outcome)
+after_is (serving s) wanted as_requested = refl
+after_is (serving s) wanted no_memory = refl
+after_is (serving s) wanted device_failed = refl
+after_is (serving s) wanted (of_keeper shown) = refl
+after_is (failed before after) wanted outcome = refl
 
 abbrev pub next_server : Server → web.HttpExchange → Server
-next_server y w = server_by y w.request.operation w.outcome
+next_server y w = server_by y w.request.wanted w.outcome
 
 abbrev pub last_server : Server → List web.HttpExchange → Server
 last_server y [] = y
 last_server y (w ∷ ws) = last_server (next_server y w) ws
 
-takes_step : (root : Text) (y : Server) (operation : OperationValue) (outcome : RequestOutcome) → CanBe (condition_of y) operation outcome
-    → Step root operation (answer_by root (condition_of y) operation outcome) y (server_by y operation outcome)
-takes_step root (serving s) operation as_requested can = seq.answered s refl refl refl
-takes_step root (serving s) operation no_memory can = seq.out_of_memory refl refl
-takes_step root (serving s) operation device_failed can = seq.store_failed s refl can refl refl
-takes_step root (serving s) operation (of_keeper shown) can = absurd can
-takes_step root (failed before after) operation as_requested can = seq.still_failed before after refl refl refl
-takes_step root (failed before after) operation no_memory can = seq.out_of_memory refl refl
-takes_step root (failed before after) operation device_failed can = absurd can
-takes_step root (failed before after) operation (of_keeper shown) can = absurd can
+takes_step : (site : SiteValue) (y : Server) (wanted : Wanted) (outcome : RequestOutcome) → CanBe (condition_of y) wanted outcome
+    → Step site wanted (answer_by site (condition_of y) wanted outcome) y (server_by y wanted outcome)
+takes_step site (serving s) wanted as_requested can = seq.answered s refl refl refl
+takes_step site (serving s) wanted no_memory can = seq.out_of_memory refl refl
+takes_step site (serving s) wanted device_failed can = seq.store_failed s refl can refl refl
+takes_step site (serving s) wanted (of_keeper shown) can = absurd can
+takes_step site (failed before after) wanted as_requested can = seq.still_failed before after refl refl refl
+takes_step site (failed before after) wanted no_memory can = seq.out_of_memory refl refl
+takes_step site (failed before after) wanted device_failed can = absurd can
+takes_step site (failed before after) wanted (of_keeper shown) can = absurd can
 
 -- ---- the history
 
-abbrev pub event_of : Text → Server → Exchange → web.HttpExchange → Event
-event_of root y e w = record { exchange = e; request = w.request; response = web.response root (condition_of y) w }
+abbrev pub event_of : SiteValue → Server → Exchange → web.HttpExchange → Event
+event_of site y e w = record { exchange = e; request = w.request; response = web.response site (condition_of y) w }
 
-abbrev pub history_of : Text → Server → List Exchange → List web.HttpExchange → List Event
-history_of root y [] ws = []
-history_of root y (e ∷ es) [] = []
-history_of root y (e ∷ es) (w ∷ ws) = event_of root y e w ∷ history_of root (next_server y w) es ws
+abbrev pub history_of : SiteValue → Server → List Exchange → List web.HttpExchange → List Event
+history_of site y [] ws = []
+history_of site y (e ∷ es) [] = []
+history_of site y (e ∷ es) (w ∷ ws) = event_of site y e w ∷ history_of site (next_server y w) es ws
 
 -- after a request, by the state that the keeper represented
-in_turn : (root : Text) (y : Server) (w : web.HttpExchange) (es : List Exchange) (ws : List web.HttpExchange)
-    → AnsweredInTurn root (web.condition_after (condition_of y) w) es ws → AnsweredInTurn root (condition_of (next_server y w)) es ws
-in_turn root y w es ws h = subst (λ (x : Condition). AnsweredInTurn root x es ws) (after_is y w.request.operation w.outcome) h
+in_turn : (site : SiteValue) (y : Server) (w : web.HttpExchange) (es : List Exchange) (ws : List web.HttpExchange)
+    → AnsweredInTurn site (web.condition_after (condition_of y) w) es ws → AnsweredInTurn site (condition_of (next_server y w)) es ws
+in_turn site y w es ws h = subst (λ (x : Condition). AnsweredInTurn site x es ws) (after_is y w.request.wanted w.outcome) h
 
-pub exchanges_are : (root : Text) (y : Server) (es : List Exchange) (ws : List web.HttpExchange) → AnsweredInTurn root (condition_of y) es ws
-    → map (λ (e : Event). e.exchange) (history_of root y es ws) ≡ es
-exchanges_are root y [] ws h = refl
-exchanges_are root y (e ∷ es) [] h = absurd h
-exchanges_are root y (e ∷ es) (w ∷ ws) h = ap (λ (l : List Exchange). e ∷ l) (exchanges_are root (next_server y w) es ws (in_turn root y w es ws h.1))
+pub exchanges_are : (site : SiteValue) (y : Server) (es : List Exchange) (ws : List web.HttpExchange) → AnsweredInTurn site (condition_of y) es ws
+    → map (λ (e : Event). e.exchange) (history_of site y es ws) ≡ es
+exchanges_are site y [] ws h = refl
+exchanges_are site y (e ∷ es) [] h = absurd h
+exchanges_are site y (e ∷ es) (w ∷ ws) h = ap (λ (l : List Exchange). e ∷ l) (exchanges_are site (next_server y w) es ws (in_turn site y w es ws h.1))
 
-module _ (root : Text) (y : Server) (e : Exchange) (w : web.HttpExchange) (is : IsAnswerTo root (condition_of y) e w) where
+module _ (site : SiteValue) (y : Server) (e : Exchange) (w : web.HttpExchange) (is : IsAnswerTo site (condition_of y) e w) where
   abbrev pub it : Event
-  it = event_of root y e w
+  it = event_of site y e w
 
-  requested : web.HasRequest w → HasRequest it
+  requested : web.HasRequest site.tags w → HasRequest site.tags it
   requested (web.whole h body request says) = seq.whole h body (subst (λ (t : Text). IsRequest t h body) is.request request) says
   requested (web.broken bare fault breaks says) = seq.broken bare fault (subst (λ (t : Text). Breaks t bare fault) is.request breaks) says
   requested (web.no_room h head frames says outcome) =
       seq.no_room h (subst IsHead is.request head) (subst (λ (t : Text). Frames t (sized h)) is.request frames) says
-      (ap (answer_by root (condition_of y) w.request.operation) outcome ∙ no_memory_response root (condition_of y) w.request.operation)
+      (ap (answer_by site (condition_of y) w.request.wanted) outcome ∙ no_memory_response site (condition_of y) w.request.wanted)
 
-  pub is_http : IsHttp it
+  pub is_http : IsHttp site.tags it
   is_http = record {
     has_request = requested is.is.has_request;
     closes = is.closes;
-    answers = is.text ∙ ap (λ (b : Bool). response_text b w.request.bare (web.response root (condition_of y) w)) (sym is.closes);
+    answers = is.text ∙ ap (λ (b : Bool). response_text b w.request.bare (web.response site (condition_of y) w)) (sym is.closes);
   }
 
-pub is_sequential : (root : Text) (y : Server) (es : List Exchange) (ws : List web.HttpExchange) → AnsweredInTurn root (condition_of y) es ws
-    → IsSequential root y (history_of root y es ws) (last_server y ws)
-is_sequential root y [] [] h = refl
-is_sequential root y [] (w ∷ ws) h = absurd h
-is_sequential root y (e ∷ es) [] h = absurd h
-is_sequential root y (e ∷ es) (w ∷ ws) h = (
-  is_http root y e w h.0,
+pub is_sequential : (site : SiteValue) (y : Server) (es : List Exchange) (ws : List web.HttpExchange) → AnsweredInTurn site (condition_of y) es ws
+    → IsSequential site y (history_of site y es ws) (last_server y ws)
+is_sequential site y [] [] h = refl
+is_sequential site y [] (w ∷ ws) h = absurd h
+is_sequential site y (e ∷ es) [] h = absurd h
+is_sequential site y (e ∷ es) (w ∷ ws) h = (
+  is_http site y e w h.0,
   next_server y w,
-  takes_step root y w.request.operation w.outcome h.0.is.can,
-  is_sequential root (next_server y w) es ws (in_turn root y w es ws h.1),
+  takes_step site y w.request.wanted w.outcome h.0.is.can,
+  is_sequential site (next_server y w) es ws (in_turn site y w es ws h.1),
 )
 
 -- ---- what was acknowledged
@@ -137,6 +144,10 @@ fault_is_none Memory = refl
 fault_is_none Device = refl
 fault_is_none Damaged = refl
 fault_is_none Reopen = refl
+
+changed_is_none : (changed.status == 200) ≡ false
+unfolding fault_response
+changed_is_none = refl
 
 failed_is_none : (fault : Fault) (operation : OperationValue) (r : ResponseValue) (bs : List BatchValue) → r ≡ fault_response (Keeper fault) → with_acknowledged operation r bs ≡ bs
 failed_is_none fault operation r bs e = not_acknowledged operation r bs (ap (λ (p : ResponseValue). p.status == 200) e ∙ fault_is_none fault)
@@ -170,26 +181,69 @@ answer_acts root s (page name q) bs = refl
 answer_acts root s (feature name id) bs = refl
 answer_acts root s (batch b) bs = reply_acts s b (act s b).reply bs refl
 
--- one step, and the batches after it
-step_acts : (root : Text) (operation : OperationValue) (r : ResponseValue) (x y : Server) (bs : List BatchValue) → Step root operation r x y
-    → after_all (state_of y) bs ≡ after_all (state_of x) (with_acknowledged operation r bs)
-step_acts root operation r x y bs (seq.answered s was is now) =
-    ap (λ (z : Server). after_all (state_of z) bs) now ∙ answer_acts root s operation bs
-    ∙ ap (λ (p : ResponseValue). after_all s (with_acknowledged operation p bs)) (sym is)
-    ∙ ap (λ (z : Server). after_all (state_of z) (with_acknowledged operation r bs)) (sym was)
-step_acts root operation r x y bs (seq.out_of_memory is now) =
-    ap (λ (z : Server). after_all (state_of z) bs) now ∙ ap (after_all (state_of x)) (sym (failed_is_none Memory operation r bs is))
-step_acts root operation r x y bs (seq.store_failed s was has_request is now) =
-    ap (λ (z : Server). after_all (state_of z) bs) now ∙ ap (after_all s) (sym (failed_is_none Device operation r bs is))
-    ∙ ap (λ (z : Server). after_all (state_of z) (with_acknowledged operation r bs)) (sym was)
-step_acts root operation r x y bs (seq.still_failed before after was is now) =
-    ap (λ (z : Server). after_all (state_of z) bs) now
-    ∙ ap (after_all (state_of x)) (sym (shut_is_none root operation bs))
-    ∙ ap (λ (p : ResponseValue). after_all (state_of x) (with_acknowledged operation p bs)) (sym is)
+-- a tag acknowledges nothing more
+tag_by : (n : ℕ) (b : Bool) (p : ResponseValue) → (if b then record p { tag = Some n } else p).status ≡ p.status
+tag_by n true p = refl
+tag_by n false p = refl
 
-pub history_acts : (root : Text) (x y : Server) (es : List Event) → IsSequential root x es y → state_of y ≡ after_all (state_of x) (acknowledged es)
-history_acts root x y [] h = ap state_of h
-history_acts root x y (e ∷ es) h = history_acts root h.1 y es h.3 ∙ step_acts root e.request.operation e.response x h.1 (acknowledged es) h.2
+tagged_acknowledges : (b : BatchValue) (n : ℕ) (p : ResponseValue) (bs : List BatchValue) → with_acknowledged (batch b) (tagged n p) bs ≡ with_acknowledged (batch b) p bs
+tagged_acknowledges b n p bs = ap (λ (status : ℕ). if status == 200 then b ∷ bs else bs) (tag_by n (p.status == 200) p)
+
+-- a batch whose conditions do not hold
+held_acts : (s : State) (b : BatchValue) (n : ℕ) (bs : List BatchValue) (used : Bool) → is_used s b.key ≡ used
+    → after_all s bs ≡ after_all s (with_acknowledged (batch b) (if used then tagged n (replied b.key (act s b).reply) else changed) bs)
+held_acts s b n bs true is =
+    ap (λ (t : State). after_all t bs) (sym (used_stays s b is)) ∙ reply_acts s b (act s b).reply bs refl
+    ∙ ap (after_all s) (sym (tagged_acknowledges b n (replied b.key (act s b).reply) bs))
+held_acts s b n bs false is = ap (after_all s) (sym (not_acknowledged (batch b) changed bs changed_is_none))
+
+judged_acts : (root : Text) (s : State) (operation : OperationValue) (verdict : Verdict) (bs : List BatchValue)
+    → after_all (state_by s operation verdict) bs ≡ after_all s (with_acknowledged operation (judged root s operation verdict) bs)
+judged_acts root s (faulty fault) verdict bs = ap (λ (t : State). after_all t bs) (read_by s (faulty fault) verdict refl)
+judged_acts root s landing_page verdict bs = ap (λ (t : State). after_all t bs) (read_by s landing_page verdict refl)
+judged_acts root s api_text verdict bs = ap (λ (t : State). after_all t bs) (read_by s api_text verdict refl)
+judged_acts root s conformance_classes verdict bs = ap (λ (t : State). after_all t bs) (read_by s conformance_classes verdict refl)
+judged_acts root s all_collections verdict bs = ap (λ (t : State). after_all t bs) (read_by s all_collections verdict refl)
+judged_acts root s (one_collection name) verdict bs = ap (λ (t : State). after_all t bs) (read_by s (one_collection name) verdict refl)
+judged_acts root s (page name q) verdict bs = ap (λ (t : State). after_all t bs) (read_by s (page name q) verdict refl)
+judged_acts root s (feature name id) verdict bs = ap (λ (t : State). after_all t bs) (read_by s (feature name id) verdict refl)
+judged_acts root s (batch b) Holds bs =
+    reply_acts s b (act s b).reply bs refl ∙ ap (after_all s) (sym (tagged_acknowledges b (batch_count (act s b).state) (replied b.key (act s b).reply) bs))
+judged_acts root s (batch b) NotModified bs = held_acts s b (batch_count s) bs (is_used s b.key) refl
+judged_acts root s (batch b) Changed bs = held_acts s b (batch_count s) bs (is_used s b.key) refl
+
+needed_acts : (root : Text) (s : State) (operation : OperationValue) (verdict : Verdict) (bs : List BatchValue) (needed : Bool) → needs_state operation ≡ needed
+    → after_all (state_by s operation verdict) bs ≡ after_all s (with_acknowledged operation (if needed then judged root s operation verdict else response_in root s operation) bs)
+needed_acts root s operation verdict bs true is = judged_acts root s operation verdict bs
+needed_acts root s operation verdict bs false is =
+    let reads = unneeded_reads operation is in
+    ap (λ (t : State). after_all t bs) (read_by s operation verdict reads ∙ sym (read_stays s operation reads)) ∙ answer_acts root s operation bs
+
+wanted_acts : (root : Text) (s : State) (operation : OperationValue) (conditions : Option PreconditionsValue) (bs : List BatchValue)
+    → after_all (state_under s operation conditions) bs ≡ after_all s (with_acknowledged operation (response_under root s operation conditions) bs)
+wanted_acts root s operation None bs = answer_acts root s operation bs
+wanted_acts root s operation (Some p) bs = needed_acts root s operation (verdict_on (batch_count s) p operation) bs (needs_state operation) refl
+
+-- one step, and the batches after it
+pub step_acts : (site : SiteValue) (wanted : Wanted) (r : ResponseValue) (x y : Server) (bs : List BatchValue) → Step site wanted r x y
+    → after_all (state_of y) bs ≡ after_all (state_of x) (with_acknowledged wanted.operation r bs)
+step_acts site wanted r x y bs (seq.answered s was is now) =
+    ap (λ (z : Server). after_all (state_of z) bs) now ∙ wanted_acts site.root s wanted.operation wanted.conditions bs
+    ∙ ap (λ (p : ResponseValue). after_all s (with_acknowledged wanted.operation p bs)) (sym is)
+    ∙ ap (λ (z : Server). after_all (state_of z) (with_acknowledged wanted.operation r bs)) (sym was)
+step_acts site wanted r x y bs (seq.out_of_memory is now) =
+    ap (λ (z : Server). after_all (state_of z) bs) now ∙ ap (after_all (state_of x)) (sym (failed_is_none Memory wanted.operation r bs is))
+step_acts site wanted r x y bs (seq.store_failed s was has_request is now) =
+    ap (λ (z : Server). after_all (state_of z) bs) now ∙ ap (after_all s) (sym (failed_is_none Device wanted.operation r bs is))
+    ∙ ap (λ (z : Server). after_all (state_of z) (with_acknowledged wanted.operation r bs)) (sym was)
+step_acts site wanted r x y bs (seq.still_failed before after was is now) =
+    ap (λ (z : Server). after_all (state_of z) bs) now
+    ∙ ap (after_all (state_of x)) (sym (shut_is_none site.root wanted.operation bs))
+    ∙ ap (λ (p : ResponseValue). after_all (state_of x) (with_acknowledged wanted.operation p bs)) (sym is)
+
+pub history_acts : (site : SiteValue) (x y : Server) (es : List Event) → IsSequential site x es y → state_of y ≡ after_all (state_of x) (acknowledged es)
+history_acts site x y [] h = ap state_of h
+history_acts site x y (e ∷ es) h = history_acts site h.1 y es h.3 ∙ step_acts site e.request.wanted e.response x h.1 (acknowledged es) h.2
 
 -- ---- pages
 
@@ -198,11 +252,31 @@ unfolding fault_response
 missing_is_none e = absurd (omega (arith, e))
 
 found_is : (root : Text) (s : State) (name : Text) (q : QueryValue) (o : Option PageValue) → page_in s name q ≡ o → (found_page root name q o).status ≡ 200
-    → ShowsPage root s name q (found_page root name q o)
+    → ShowsPage root s name q None (found_page root name q o)
 found_is root s name q None is e = absurd (missing_is_none e)
 found_is root s name q (Some p) is e = (p, is, refl)
 
-not_200 : (fault : Fault) → (fault_response (Keeper fault)).status ≡ 200 → ⊥
+pub changed_not_200 : changed.status ≡ 200 → ⊥
+unfolding fault_response
+changed_not_200 e = absurd (omega (arith, e))
+
+missing_by : (root name : Text) (q : QueryValue) (n : ℕ) (verdict : Verdict) → (read_judged n (found_page root name q None) verdict).status ≡ 200 → ⊥
+unfolding fault_response
+missing_by root name q n Holds e = absurd (omega (arith, e))
+missing_by root name q n NotModified e = absurd (omega (arith, e))
+missing_by root name q n Changed e = absurd (omega (arith, e))
+
+-- a page under conditions that hold, with the tag of the state
+judged_is : (root : Text) (s : State) (name : Text) (q : QueryValue) (conditions : PreconditionsValue) (verdict : Verdict) (o : Option PageValue) → page_in s name q ≡ o
+    → (read_judged (batch_count s) (found_page root name q o) verdict).status ≡ 200
+    → ShowsPage root s name q (Some conditions) (read_judged (batch_count s) (found_page root name q o) verdict)
+unfolding fault_response
+judged_is root s name q conditions verdict None is e = absurd (missing_by root name q (batch_count s) verdict e)
+judged_is root s name q conditions Holds (Some p) is e = (p, is, refl)
+judged_is root s name q conditions NotModified (Some p) is e = absurd (omega (arith, e))
+judged_is root s name q conditions Changed (Some p) is e = absurd (changed_not_200 e)
+
+pub not_200 : (fault : Fault) → (fault_response (Keeper fault)).status ≡ 200 → ⊥
 unfolding fault_response
 not_200 Memory e = absurd (omega (arith, e))
 not_200 Device e = absurd (omega (arith, e))
@@ -212,19 +286,30 @@ not_200 Reopen e = absurd (omega (arith, e))
 status_is : (p r : ResponseValue) → p ≡ r → p.status ≡ 200 → r.status ≡ 200
 status_is p r same e = subst (λ (x : ResponseValue). x.status ≡ 200) same e
 
-page_shown : (root : Text) (name : Text) (q : QueryValue) (r : ResponseValue) (x y : Server) → Step root (page name q) r x y → r.status ≡ 200
-    → ShowsPage root (state_of x) name q r
-page_shown root name q r x y (seq.answered s was is now) e =
-    let shown = found_is root s name q (page_in s name q) refl (status_is r (found_page root name q (page_in s name q)) is e) in
-    subst (λ (z : Server). ShowsPage root (state_of z) name q r) (sym was) (subst (λ (p : ResponseValue). ShowsPage root s name q p) (sym is) shown)
-page_shown root name q r x y (seq.out_of_memory is now) e = absurd (not_200 Memory (status_is r (fault_response (Keeper Memory)) is e))
-page_shown root name q r x y (seq.store_failed s was has_request is now) e = absurd (not_200 Device (status_is r (fault_response (Keeper Device)) is e))
-page_shown root name q r x y (seq.still_failed before after was is now) e = absurd (not_200 Reopen (status_is r (fault_response (Keeper Reopen)) is e))
+page_under : (root name : Text) (q : QueryValue) (s : State) (conditions : Option PreconditionsValue) → (response_under root s (page name q) conditions).status ≡ 200
+    → ShowsPage root s name q conditions (response_under root s (page name q) conditions)
+page_under root name q s None e = found_is root s name q (page_in s name q) refl e
+page_under root name q s (Some p) e = judged_is root s name q p (verdict_on (batch_count s) p (page name q)) (page_in s name q) refl e
 
-pub page_of_state : (root : Text) (x y : Server) (before later : List Event) (e : Event) (name : Text) (q : QueryValue)
-    → IsSequential root x (before ++ e ∷ later) y → e.request.operation ≡ page name q → e.response.status ≡ 200
-    → ShowsPage root (after_all (state_of x) (acknowledged before)) name q e.response
-page_of_state root x y [] later e name q h has_request ok = page_shown root name q e.response x h.1 (subst (λ (a : OperationValue). Step root a e.response x h.1) has_request h.2) ok
-page_of_state root x y (f ∷ before) later e name q h has_request ok =
-    subst (λ (t : State). ShowsPage root t name q e.response) (step_acts root f.request.operation f.response x h.1 (acknowledged before) h.2)
-    (page_of_state root h.1 y before later e name q h.3 has_request ok)
+page_shown : (site : SiteValue) (name : Text) (q : QueryValue) (conditions : Option PreconditionsValue) (r : ResponseValue) (x y : Server)
+    → Step site (record { operation = page name q; conditions = conditions }) r x y → r.status ≡ 200
+    → ShowsPage site.root (state_of x) name q conditions r
+page_shown site name q conditions r x y (seq.answered s was is now) e =
+    let answer : ResponseValue = response_under site.root s (page name q) conditions in
+    let shown = page_under site.root name q s conditions (status_is r answer is e) in
+    subst (λ (z : Server). ShowsPage site.root (state_of z) name q conditions r) (sym was)
+    (subst (λ (p : ResponseValue). ShowsPage site.root s name q conditions p) (sym is) shown)
+page_shown site name q conditions r x y (seq.out_of_memory is now) e = absurd (not_200 Memory (status_is r (fault_response (Keeper Memory)) is e))
+page_shown site name q conditions r x y (seq.store_failed s was has_request is now) e = absurd (not_200 Device (status_is r (fault_response (Keeper Device)) is e))
+page_shown site name q conditions r x y (seq.still_failed before after was is now) e = absurd (not_200 Reopen (status_is r (fault_response (Keeper Reopen)) is e))
+
+pub page_of_state : (site : SiteValue) (x y : Server) (before later : List Event) (e : Event) (name : Text) (q : QueryValue)
+    → IsSequential site x (before ++ e ∷ later) y → e.request.wanted.operation ≡ page name q → e.response.status ≡ 200
+    → ShowsPage site.root (after_all (state_of x) (acknowledged before)) name q e.request.wanted.conditions e.response
+page_of_state site x y [] later e name q h has_request ok =
+    page_shown site name q e.request.wanted.conditions e.response x h.1
+    (subst (λ (a : OperationValue). Step site (record { operation = a; conditions = e.request.wanted.conditions }) e.response x h.1) has_request h.2) ok
+page_of_state site x y (f ∷ before) later e name q h has_request ok =
+    subst (λ (t : State). ShowsPage site.root t name q e.request.wanted.conditions e.response)
+    (step_acts site f.request.wanted f.response x h.1 (acknowledged before) h.2)
+    (page_of_state site h.1 y before later e name q h.3 has_request ok)

@@ -6,3 +6,5 @@ pub mod Clients
 pub mod Streams
 pub mod RealTime
 pub mod Restarts
+pub mod Judged
+pub mod Tagging

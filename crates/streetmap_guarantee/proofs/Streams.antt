@@ -11,6 +11,7 @@ use Rattle.streetmap_ledger.specs.Model.{Model}
 use Rattle.streetmap_connections.specs.History.{History, Exchange, FitsStream, LeavesOpen, requests_of, texts_of}
 use Rattle.streetmap_connections.specs.Interleaving as interleaving
 use Rattle.streetmap_connections.specs.Interleaving.{IsInterleaving, Merges}
+use Rattle.streetmap_web.specs.Site.{SiteValue}
 use Rattle.streetmap_web.specs.Conditions.{Condition, of_state}
 use Rattle.streetmap_web.specs.Exchanges as web
 use Rattle.streetmap_web.specs.Exchanges.{HttpExchange, GoOn}
@@ -25,29 +26,29 @@ use Rattle.streetmap_guarantee.specs.Guarantee.{IsInOrder, RefusesForMemory}
 use Rattle.streetmap_guarantee.specs.Streams.{GuaranteeOfStream}
 use Rattle.streetmap_guarantee.proofs.Guarantees.{LeavesStates, is_guaranteed}
 
-answered_all : (root : Text) (x : Condition) (ws last : List HttpExchange) → GoOn root x ws
-    → (let y = web.condition_after_all x ws in AnsweredInTurn root y (exchanges_at root y last) last)
-    → AnsweredInTurn root x (exchanges_at root x (ws ++ last)) (ws ++ last)
-answered_all root x [] last go h = h
-answered_all root x (w ∷ ws) last go h = (is_answer root x w go.0, answered_all root (web.condition_after x w) ws last go.2 h)
+answered_all : (site : SiteValue) (x : Condition) (ws last : List HttpExchange) → GoOn site x ws
+    → (let y = web.condition_after_all x ws in AnsweredInTurn site y (exchanges_at site y last) last)
+    → AnsweredInTurn site x (exchanges_at site x (ws ++ last)) (ws ++ last)
+answered_all site x [] last go h = h
+answered_all site x (w ∷ ws) last go h = (is_answer site x w go.0, answered_all site (web.condition_after x w) ws last go.2 h)
 
-exchanges-append : (root : Text) (x : Condition) (ws last : List HttpExchange)
-    → exchanges_at root x (ws ++ last) ≡ exchanges_at root x ws ++ exchanges_at root (web.condition_after_all x ws) last
-exchanges-append root x [] last = refl
-exchanges-append root x (w ∷ ws) last = ap (λ (es : List Exchange). exchange_at root x w ∷ es) (exchanges-append root (web.condition_after x w) ws last)
+exchanges-append : (site : SiteValue) (x : Condition) (ws last : List HttpExchange)
+    → exchanges_at site x (ws ++ last) ≡ exchanges_at site x ws ++ exchanges_at site (web.condition_after_all x ws) last
+exchanges-append site x [] last = refl
+exchanges-append site x (w ∷ ws) last = ap (λ (es : List Exchange). exchange_at site x w ∷ es) (exchanges-append site (web.condition_after x w) ws last)
 
-requests_are : (root : Text) (x : Condition) (ws : List HttpExchange) → requests_of (exchanges_at root x ws) ≡ web.all_requests ws
-requests_are root x [] = refl
-requests_are root x (w ∷ ws) = ap (λ (t : Text). w.bytes ++ t) (requests_are root (web.condition_after x w) ws)
+requests_are : (site : SiteValue) (x : Condition) (ws : List HttpExchange) → requests_of (exchanges_at site x ws) ≡ web.all_requests ws
+requests_are site x [] = refl
+requests_are site x (w ∷ ws) = ap (λ (t : Text). w.bytes ++ t) (requests_are site (web.condition_after x w) ws)
 
-texts_are : (root : Text) (x : Condition) (ws : List HttpExchange) → texts_of (exchanges_at root x ws) ≡ web.all_answers root x ws
-texts_are root x [] = refl
-texts_are root x (w ∷ ws) = ap (λ (t : Text). web.answer_bytes root x w ++ t) (texts_are root (web.condition_after x w) ws)
+texts_are : (site : SiteValue) (x : Condition) (ws : List HttpExchange) → texts_of (exchanges_at site x ws) ≡ web.all_answers site x ws
+texts_are site x [] = refl
+texts_are site x (w ∷ ws) = ap (λ (t : Text). web.answer_bytes site x w ++ t) (texts_are site (web.condition_after x w) ws)
 
-all_open : (root : Text) (x : Condition) (ws : List HttpExchange) → GoOn root x ws → All LeavesOpen (exchanges_at root x ws)
-all_open root x [] go = All-nil LeavesOpen
-all_open root x (w ∷ ws) go =
-    All-cons LeavesOpen (exchange_at root x w) (exchanges_at root (web.condition_after x w) ws) go.1 (all_open root (web.condition_after x w) ws go.2)
+all_open : (site : SiteValue) (x : Condition) (ws : List HttpExchange) → GoOn site x ws → All LeavesOpen (exchanges_at site x ws)
+all_open site x [] go = All-nil LeavesOpen
+all_open site x (w ∷ ws) go =
+    All-cons LeavesOpen (exchange_at site x w) (exchanges_at site (web.condition_after x w) ws) go.1 (all_open site (web.condition_after x w) ws go.2)
 
 -- one list alone
 merges_alone : {A : Type 0} (xs : List A) → Merges xs [] xs
@@ -59,27 +60,27 @@ interleaves_alone xs = interleaving.more (merges_alone xs) interleaving.none
 
 -- ---- the whole stream
 
-module _ {K Image : Type 0} (model : Model K) (holds : Image → State → Type 0) (leaves : Image → Type 0) (root : Text) (s : State) (old new : K)
+module _ {K Image : Type 0} (model : Model K) (holds : Image → State → Type 0) (leaves : Image → Type 0) (site : SiteValue) (s : State) (old new : K)
     (represented : model.represents old s) (states : LeavesStates holds leaves (model.may_leave new)) where
   pub stream_is_guaranteed : (input rest before now : Option Text) (end : End) (count : ℕ)
-      → ServesExchanges model root end count (of_state s) (around input rest before now) old new
-      → GuaranteeOfStream holds leaves root s end input rest before now
+      → ServesExchanges model site end count (of_state s) (around input rest before now) old new
+      → GuaranteeOfStream holds leaves site s end input rest before now
   stream_is_guaranteed input rest before now end count it =
       let x = of_state s in
       let ws = it.exchanges in
       let y = web.condition_after_all x ws in
-      let last = last_of model it.turn root y _ new it.ends in
-      let ending : IsLast root y _ (end_of it.turn) last = is_last root y _ model new it.turn it.ends it.closed in
-      let front = exchanges_at root x ws in
-      let back = exchanges_at root y last in
-      let es = exchanges_at root x (ws ++ last) in
-      let split : es ≡ front ++ back = exchanges-append root x ws last in
+      let last = last_of model it.turn site y _ new it.ends in
+      let ending : IsLast site y _ (end_of it.turn) last = is_last site y _ model new it.turn it.ends it.closed in
+      let front = exchanges_at site x ws in
+      let back = exchanges_at site y last in
+      let es = exchanges_at site x (ws ++ last) in
+      let split : es ≡ front ++ back = exchanges-append site x ws last in
       let requests : requests_of es ≡ web.all_requests ws ++ requests_of back =
-      ap requests_of split ∙ flat_map-append (λ (e : Exchange). e.request) front back ∙ ap (λ (t : Text). t ++ requests_of back) (requests_are root x ws) in
-      let sent : Text = web.all_answers root x ws ++ ending.part in
+      ap requests_of split ∙ flat_map-append (λ (e : Exchange). e.request) front back ∙ ap (λ (t : Text). t ++ requests_of back) (requests_are site x ws) in
+      let sent : Text = web.all_answers site x ws ++ ending.part in
       let texts : texts_of es ≡ sent ++ ending.unsent =
-      ap texts_of split ∙ flat_map-append (λ (e : Exchange). e.text) front back ∙ ap (λ (t : Text). t ++ texts_of back) (texts_are root x ws)
-      ∙ ap (λ (t : Text). web.all_answers root x ws ++ t) ending.parts ∙ sym (append_assoc (web.all_answers root x ws) ending.part ending.unsent) in
+      ap texts_of split ∙ flat_map-append (λ (e : Exchange). e.text) front back ∙ ap (λ (t : Text). t ++ texts_of back) (texts_are site x ws)
+      ∙ ap (λ (t : Text). web.all_answers site x ws ++ t) ending.parts ∙ sym (append_assoc (web.all_answers site x ws) ending.part ending.unsent) in
       let h : History = record {
         received = requests_of es;
         ended = false;
@@ -87,16 +88,16 @@ module _ {K Image : Type 0} (model : Model K) (holds : Image → State → Type 
         waited = [];
         exchanges = es;
         refusals = [];
-        closes = closes_last root y last;
+        closes = closes_last site y last;
         sent = sent;
         unsent = ending.unsent;
       } in
       let fits : FitsStream h = record {
         received = sym (append-nil (requests_of es));
         answered = append-nil (texts_of es) ∙ texts;
-        stays = λ stays. (refl, subst (All LeavesOpen) (sym split) (All-append LeavesOpen front back (all_open root x ws it.go_on) (ending.stays stays)));
+        stays = λ stays. (refl, subst (All LeavesOpen) (sym split) (All-append LeavesOpen front back (all_open site x ws it.go_on) (ending.stays stays)));
         closed = λ closes.
-            let c = ending.closed front (all_open root x ws it.go_on) closes in
+            let c = ending.closed front (all_open site x ws it.go_on) closes in
             inl (refl, c.0, c.1, split ∙ c.2, c.3);
       } in
       record {
@@ -104,8 +105,8 @@ module _ {K Image : Type 0} (model : Model K) (holds : Image → State → Type 
         left = ending.left;
         read = subst (Consumes input ending.left) (sym requests) (Consumes-trans input it.middle ending.left _ _ it.read ending.read);
         written = Appends-trans before it.written now _ _ it.answered ending.written;
-        ends = subst (λ (e : End). EndsSo e (closes_last root y last) ending.unsent ending.left rest) (sym it.end_is) ending.ends;
-        guarantee = is_guaranteed model holds leaves root s old new represented states (h ∷ []) es (ws ++ last)
+        ends = subst (λ (e : End). EndsSo e (closes_last site y last) ending.unsent ending.left rest) (sym it.end_is) ending.ends;
+        guarantee = is_guaranteed model holds leaves site s old new represented states (h ∷ []) es (ws ++ last)
             (All-cons IsInOrder h [] ∣ fits ∣₁ (All-nil IsInOrder)) (All-cons RefusesForMemory h [] (All-nil (λ r. IsRefusal r.bytes r.text)) (All-nil RefusesForMemory)) (interleaves_alone es)
-            (answered_all root x ws last it.go_on ending.answered) it.comes;
+            (answered_all site x ws last it.go_on ending.answered) it.comes;
       }

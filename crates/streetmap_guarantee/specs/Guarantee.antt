@@ -1,6 +1,8 @@
 -- What serving guarantees.
 use Rattle.std.specs.Prelude.{◌≡◌, List, ◌∷◌, ◌++◌, map, All}
-use Rattle.std.specs.Prelude.{Some}
+use Rattle.std.specs.Prelude.{ℕ, Option, Some, None}
+use Rattle.streetmap_http.specs.Preconditions.{PreconditionsValue}
+use Rattle.streetmap_ledger.specs.Kept.{batch_count}
 use Rattle.serde_json.specs.Written.{compact_text}
 use Rattle.streetmap_http.specs.declared.answer_head.MediaType.TheVariants.{GeoJson}
 use Rattle.streetmap_query.specs.QueryValue.{QueryValue}
@@ -13,6 +15,7 @@ use Rattle.streetmap_bodies.specs.Bodies.{page_data}
 use Rattle.streetmap_connections.specs.History.{History, Exchange, FitsStream}
 use Rattle.streetmap_connections.specs.Interleaving.{IsInterleaving}
 use Rattle.streetmap_connections.specs.RefusedRequests.{AreRefused}
+use Rattle.streetmap_web.specs.Site.{SiteValue}
 use Rattle.streetmap_web.specs.Refusals.{IsRefusal}
 use Rattle.streetmap_web.specs.Response.{ResponseValue, found}
 use Rattle.streetmap_guarantee.specs.Server.{Server, serving, state_of, HasKept}
@@ -31,15 +34,22 @@ IsInOrder h = ∥ FitsStream h ∥₁
 abbrev pub RefusesForMemory : History → Type 0
 RefusesForMemory h = AreRefused IsRefusal h.refusals
 
--- the response is the page of the state
-abbrev pub ShowsPage : Text → State → Text → QueryValue → ResponseValue → Type 0
-ShowsPage root s name q response = (p : PageValue) × (page_in s name q ≡ Some p)
-    × (response ≡ found GeoJson (compact_text (page_data root name q p)))
+-- the tag of an answer from the state, if there are conditions: the service gives tags
+abbrev pub tag_of : Option PreconditionsValue → State → Option ℕ
+tag_of None s = None
+tag_of (Some p) s = Some (batch_count s)
+
+-- the response is the page of the state, with its tag if there are conditions
+abbrev pub ShowsPage : Text → State → Text → QueryValue → Option PreconditionsValue → ResponseValue
+    → Type 0
+ShowsPage root s name q conditions response = (p : PageValue) × (page_in s name q ≡ Some p)
+    × (response ≡ record (found GeoJson (compact_text (page_data root name q p)))
+    { tag = tag_of conditions s })
 
 -- Connections were served, from a state on. A crash leaves one of the images that `leaves` admits,
 -- and `holds` says which state an image holds.
 pub record Guarantee {Image : Type 0} (holds : Image → State → Type 0) (leaves : Image → Type 0)
-    (root : Text) (s : State) (connections : List History) : Type 0 where
+    (site : SiteValue) (s : State) (connections : List History) : Type 0 where
   -- one history: the connections' own requests and answers, interleaved
   pub history : List Event
   pub in_order : All IsInOrder connections
@@ -47,12 +57,14 @@ pub record Guarantee {Image : Type 0} (holds : Image → State → Type 0) (leav
   pub interleaved : IsInterleaving (map exchanges_of connections) (map (λ e. e.exchange) history)
   -- a server that handles one request at a time, from the state on, could have given it
   pub server : Server
-  pub sequential : IsSequential root (serving s) history server
+  pub sequential : IsSequential site (serving s) history server
   -- each page is the page of the state that the batches acknowledged before it made
   pub pages :
       (before later : List Event) (e : Event) (name : Text) (q : QueryValue)
-      → history ≡ before ++ e ∷ later → e.request.operation ≡ page name q → e.response.status ≡ 200
-      → ShowsPage root (after_all s (acknowledged before)) name q e.response
+      → history ≡ before ++ e ∷ later → e.request.wanted.operation ≡ page name q
+      → e.response.status ≡ 200
+      → ShowsPage site.root (after_all s (acknowledged before)) name q e.request.wanted.conditions
+      e.response
   -- the server has acted on the acknowledged batches, and on no other
   pub acts : state_of server ≡ after_all s (acknowledged history)
   -- whatever a crash leaves holds the state that this server has kept: that of all acknowledged

@@ -10,28 +10,30 @@ use Rattle.streetmap_ledger.specs.declared.reply.Fault.TheVariants.{Memory, Devi
 use Rattle.streetmap_routes.specs.Operations.{OperationValue, batch}
 use Rattle.streetmap_bodies.specs.declared.request_fault.RequestFault.TheVariants.{Keeper}
 use Rattle.streetmap_connections.specs.History.{Exchange}
+use Rattle.streetmap_web.specs.Site.{SiteValue}
 use Rattle.streetmap_web.specs.Response.{ResponseValue, RequestValue, request_of, broken_request}
-use Rattle.streetmap_web.specs.Response.{response_in, response_shut, fault_response, state_in}
-use Rattle.streetmap_web.specs.Response.{needs_state, closes_with, response_text}
+use Rattle.streetmap_web.specs.Response.{Wanted, response_to, response_shut, fault_response}
+use Rattle.streetmap_web.specs.Response.{state_to, needs_state, closes_with, response_text}
 use Rattle.streetmap_guarantee.specs.Server.{Server, serving, failed}
 
 -- a request gets the response, and leads from one server to the other
-pub data Step (root : Text) (operation : OperationValue) (response : ResponseValue)
+pub data Step (site : SiteValue) (wanted : Wanted) (response : ResponseValue)
     (old new : Server)
     : Type 0 where
   -- the response of the state, which a batch changes
-  answered : (s : State) → old ≡ serving s → response ≡ response_in root s operation
-      → new ≡ serving (state_in s operation) → Step root operation response old new
+  answered : (s : State) → old ≡ serving s → response ≡ response_to site.root s wanted
+      → new ≡ serving (state_to s wanted) → Step site wanted response old new
   -- out of memory: 503, and nothing has changed
   out_of_memory : response ≡ fault_response (Keeper Memory) → new ≡ old
-      → Step root operation response old new
+      → Step site wanted response old new
   -- the store failed: 500
-  store_failed : (s : State) → old ≡ serving s → needs_state operation ≡ true
-      → response ≡ fault_response (Keeper Device) → new ≡ failed s (state_in s operation)
-      → Step root operation response old new
+  store_failed : (s : State) → old ≡ serving s → needs_state wanted.operation ≡ true
+      → response ≡ fault_response (Keeper Device) → new ≡ failed s (state_to s wanted)
+      → Step site wanted response old new
   -- after that: 500 to each request that needs the state
   still_failed : (before after : State) → old ≡ failed before after
-      → response ≡ response_shut root operation → new ≡ old → Step root operation response old new
+      → response ≡ response_shut site.root wanted.operation → new ≡ old
+      → Step site wanted response old new
 
 -- a request with its response: their bytes, and what these say
 pub record Event : Type 0 where
@@ -41,26 +43,27 @@ pub record Event : Type 0 where
 
 -- the bytes received say this: a head with its body, or bytes that break a rule of HTTP; or only a
 -- head, if memory ran out for its body
-pub data HasRequest (e : Event) : Type 0 where
+pub data HasRequest (tags : Bool) (e : Event) : Type 0 where
   whole : (h : HeadValue) (body : Text) → IsRequest e.exchange.request h body
-      → e.request ≡ request_of h body → HasRequest e
+      → e.request ≡ request_of tags h body → HasRequest tags e
   broken : (bare : Bool) (fault : FramingFault) → Breaks e.exchange.request bare fault
-      → e.request ≡ broken_request bare fault → HasRequest e
+      → e.request ≡ broken_request bare fault → HasRequest tags e
   no_room : (h : HeadValue) → IsHead e.exchange.request → Frames e.exchange.request (sized h)
-      → e.request ≡ request_of h [] → e.response ≡ fault_response (Keeper Memory) → HasRequest e
+      → e.request ≡ request_of tags h [] → e.response ≡ fault_response (Keeper Memory)
+      → HasRequest tags e
 
 -- both texts say so, and the connection closes if the request says so or something failed
-pub record IsHttp (e : Event) : Type 0 where
-  pub has_request : HasRequest e
+pub record IsHttp (tags : Bool) (e : Event) : Type 0 where
+  pub has_request : HasRequest tags e
   pub closes : e.exchange.closes ≡ closes_with e.request.closes e.response
   pub answers : e.exchange.text ≡ response_text e.exchange.closes e.request.bare e.response
 
 -- each request is answered after the one before it
-abbrev pub IsSequential : Text → Server → List Event → Server → Type 0
-IsSequential root old [] new = new ≡ old
-IsSequential root old (e ∷ es) new =
-    IsHttp e × (next : Server) × Step root e.request.operation e.response old next
-    × IsSequential root next es new
+abbrev pub IsSequential : SiteValue → Server → List Event → Server → Type 0
+IsSequential site old [] new = new ≡ old
+IsSequential site old (e ∷ es) new =
+    IsHttp site.tags e × (next : Server) × Step site e.request.wanted e.response old next
+    × IsSequential site next es new
 
 -- a batch before others, if it was acknowledged
 abbrev pub with_acknowledged : OperationValue → ResponseValue → List BatchValue → List BatchValue
@@ -70,4 +73,4 @@ with_acknowledged _ response others = others
 -- the batches of a history that were acknowledged: answered with status 200
 abbrev pub acknowledged : List Event → List BatchValue
 acknowledged [] = []
-acknowledged (e ∷ es) = with_acknowledged e.request.operation e.response (acknowledged es)
+acknowledged (e ∷ es) = with_acknowledged e.request.wanted.operation e.response (acknowledged es)

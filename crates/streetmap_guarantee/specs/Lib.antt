@@ -5,3 +5,4 @@ pub mod Streams
 pub mod Runs
 pub mod Town
 pub mod Restarts
+pub mod Tagging

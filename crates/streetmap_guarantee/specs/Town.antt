@@ -5,14 +5,15 @@ use Rattle.streetmap_ledger.specs.State.{State}
 use Rattle.streetmap_connections.specs.History.{Exchange, History}
 use Rattle.streetmap_connections.specs.Interleaving.{IsInterleaving}
 use Rattle.streetmap_connections.specs.Timeline.{Timeline}
+use Rattle.streetmap_web.specs.Site.{SiteValue}
 use Rattle.streetmap_guarantee.specs.Guarantee.{Guarantee, exchanges_of}
 
 -- Clients were served by one thread: the requests of the history were answered in its order, along
 -- one timeline of all that was read, answered and written.
 pub record GuaranteeOfTown {Image : Type 0} (holds : Image → State → Type 0)
-    (leaves : Image → Type 0) (root : Text) (s : State) (connections : List History)
+    (leaves : Image → Type 0) (site : SiteValue) (s : State) (connections : List History)
     : Type 0 where
-  pub guarantee : Guarantee holds leaves root s connections
+  pub guarantee : Guarantee holds leaves site s connections
   pub timeline : Timeline [] (map (λ e. e.exchange) guarantee.history) connections
 
 -- A moment of a timeline: the connections as they were, what had been answered by then, and what

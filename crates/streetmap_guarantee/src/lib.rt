@@ -13,6 +13,7 @@
 #![tactic(auto)]
 
 mod batches;
+pub mod laws;
 mod stream;
 mod town;
 mod warm_up;

@@ -1,7 +1,7 @@
 //! The clients of a listener.
 ghost use Rattle.std.specs.Prelude.{◌≡◌, ◌≤◌, [], length, map, IsErrOf, IsOk};
 ghost use Rattle.streetmap_ledger.specs.State.{State};
-ghost use Rattle.streetmap_routes.specs.BaseView.{root_of};
+ghost use Rattle.streetmap_web.specs.Site.{site_value};
 ghost use Rattle.streetmap_connections.specs.AllClients.{clients_of, ended_of};
 ghost use Rattle.streetmap_connections.specs.SlotClients.{client_history};
 ghost use Rattle.streetmap_web.specs.StoreWatch.{IsOver};
@@ -13,6 +13,7 @@ use std::net::{Net, TcpListener};
 use std::time::Clock;
 use streetmap_connections::{Clients, ServeFault};
 use streetmap_ledger::Durable;
+use streetmap_tags::Tagged;
 use streetmap_web::{KeeperService, serve_clients};
 
 /// Serves the clients of a listener over a keeper, many at once, until `count` of them ended
@@ -23,7 +24,7 @@ use streetmap_web::{KeeperService, serve_clients};
 /// `Net` if no client can be accepted while none is served, or sockets cannot be waited for;
 /// `Memory` if memory runs out for what is waited for; `Over` once the store failed, if the
 /// service ends then.
-pub fn serve_town<R: Net + Clock, K: Durable, W: Write>(
+pub fn serve_town<R: Net + Clock, K: Durable + Tagged, W: Write>(
     rt: &R,
     listener: &TcpListener,
     count: u64,
@@ -33,7 +34,7 @@ pub fn serve_town<R: Net + Clock, K: Durable, W: Write>(
     requires { clients_of clients.old ≡ [] }
     ensures guarantee { K.model.is_clean service.new.keeper → (s : State) →
         K.model.represents service.old.keeper s →
-        GuaranteeOfTown K.holds (K.leaves service.new.keeper) (root_of service.old.base) s
+        GuaranteeOfTown K.holds (K.leaves service.new.keeper) (site_value service.old.site) s
         (map client_history (clients_of clients.new)) }
     ensures counted { IsOk result → count ≤ length (ended_of clients.new) }
     ensures few { length (clients_of clients.new) ≤ count }

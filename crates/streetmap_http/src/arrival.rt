@@ -125,7 +125,7 @@ pub fn arrival_of(bytes: &[u8]) -> Arrival
 
 /// What the bytes of one request say, as `arrival_of` finds them, and its body (nothing if they
 /// break a rule of framing). The spans are working memory, as for `frame_of`.
-pub fn split_request<'a>(bytes: &'a [u8], headers: &mut [HeaderSpan]) -> (Framed<'a>, &'a [u8])
+pub fn split_request<'a>(bytes: &'a [u8], headers: &'a mut [HeaderSpan]) -> (Framed<'a>, &'a [u8])
     requires room { length headers.old ≡ FIELD_LIMIT }
     requires answered { IsAnswered bytes.now }
     ensures { SplitsAs (framing_value result.0) result.1.now bytes.now }

@@ -15,6 +15,7 @@ use streetmap_ledger::{
     Batch, Durable, Fault, Keeper, KeepsBatches, KeptBatch, Outlined, Page, Reply, Summary,
 };
 use streetmap_query::Query;
+use streetmap_tags::Tagged;
 
 /// A keeper that answers pages and summaries of collections of another one by what it knows of the
 /// features, and reads few of them. It learns a collection when it is first read, and keeps what it
@@ -190,6 +191,28 @@ impl<K: Outlined> Keeper for IndexedKeeper<K> {
     fn collections(&mut self) -> Result<Vec<Summary>, Fault> {
         match self.collections_known() {
             Ok(summaries) => Ok(summaries),
+            Err(fault) => {
+                self.note_fault(fault);
+                Err(fault)
+            }
+        }
+    }
+}
+
+impl<K: Outlined + Tagged> Tagged for IndexedKeeper<K> {
+    fn tag(&mut self) -> Result<u64, Fault> {
+        match self.keeper.tag() {
+            Ok(tag) => Ok(tag),
+            Err(fault) => {
+                self.note_fault(fault);
+                Err(fault)
+            }
+        }
+    }
+
+    fn has_key(&mut self, key: &str) -> Result<bool, Fault> {
+        match self.keeper.has_key(key) {
+            Ok(used) => Ok(used),
             Err(fault) => {
                 self.note_fault(fault);
                 Err(fault)

@@ -13,6 +13,7 @@ use std::alloc::Global;
 use streetmap_geojson::Feature;
 use streetmap_ledger::{Batch, Durable, Fault, Keeper, KeepsBatches, Page, Reply, Summary};
 use streetmap_query::Query;
+use streetmap_tags::Tagged;
 
 /// A keeper that writes each batch that it accepts as a line of a journal, if any, after
 /// its commit and before its answer.
@@ -93,6 +94,16 @@ impl<K: KeepsBatches, W: JournalWriter> Keeper for JournaledKeeper<K, W> {
 
     fn collections(&mut self) -> Result<Vec<Summary>, Fault> {
         self.keeper.collections()
+    }
+}
+
+impl<K: KeepsBatches + Tagged, W: JournalWriter> Tagged for JournaledKeeper<K, W> {
+    fn tag(&mut self) -> Result<u64, Fault> {
+        self.keeper.tag()
+    }
+
+    fn has_key(&mut self, key: &str) -> Result<bool, Fault> {
+        self.keeper.has_key(key)
     }
 }
 

@@ -11,6 +11,7 @@ ghost use Rattle.streetmap_batch.specs.BatchText.{batch_text};
 ghost use Rattle.streetmap_batch.specs.BatchView.{batch_value};
 ghost use Rattle.streetmap_ledger.specs.Kept.{batch_count, batch_in, AreNext};
 ghost use Rattle.streetmap_ledger.specs.KeptView.{keyed_batch, keyed_batches};
+ghost use Rattle.streetmap_tags.specs.Keys.{is_used};
 ghost use Rattle.streetmap_memory.specs.Slots.{map_of};
 ghost use Rattle.streetmap_geojson.specs.FeatureValue.{FeatureValue};
 ghost use Rattle.streetmap_ledger.specs.Pages.{page_in, feature_in, run_in};
@@ -37,6 +38,7 @@ use streetmap_ledger::{
     Counts, Fault, FeatureOutline, Keeper, KeepsBatches, Outlined, Page, Refusal, Reply, Summary,
 };
 use streetmap_query::Query;
+use streetmap_tags::Tagged;
 
 /// How many batches may be accepted.
 const MOST_BATCHES: usize = (1 << 63) - 1;
@@ -197,6 +199,12 @@ impl PlainKeeper {
         self.keys.len() as u64
     }
 
+    fn has_key_of(&self, key: &str) -> bool
+        ensures { result ≡ is_used (plain_state self.now) key.now }
+    {
+        self.keys.get(key).is_some()
+    }
+
     fn batch_of(&self, serial: u64) -> Result<Option<streetmap_ledger::KeptBatch>, AllocError>
         ensures { IfOk result (λ batch.
             option_map keyed_batch batch ≡ batch_in (plain_state self.now) serial) }
@@ -312,6 +320,16 @@ impl Outlined for PlainKeeper {
             Ok(outlines) => Ok(outlines),
             Err(_) => Err(Fault::Memory),
         }
+    }
+}
+
+impl Tagged for PlainKeeper {
+    fn tag(&mut self) -> Result<u64, Fault> {
+        Ok(self.count_of())
+    }
+
+    fn has_key(&mut self, key: &str) -> Result<bool, Fault> {
+        Ok(self.has_key_of(key))
     }
 }
 

@@ -9,7 +9,7 @@ use std::test::Fail;
 use streetmap_memory::PlainKeeper;
 use streetmap_routes::Base;
 use streetmap_text_lines::Flush;
-use streetmap_web::serve;
+use streetmap_web::{Site, serve};
 
 /// A batch, requests for all collections and for one, and one for a page of it.
 const STREAM: &[u8] =
@@ -83,13 +83,14 @@ fn refused_memory_is_answered_or_not_seen(rt: HostRuntime) -> Result<(), Fail> {
     let Ok(Some(base)) = Base::new(rt.alloc(), "http://localhost/") else {
         return Ok(());
     };
+    let site = Site { base, tags: false };
     let mut keeper = PlainKeeper::new(rt.alloc());
     let mut reader = STREAM;
     let mut writer = Fixed {
         bytes: [0; 2048],
         len: 0,
     };
-    let served = serve(rt.alloc(), &mut keeper, &base, &mut reader, &mut writer);
+    let served = serve(rt.alloc(), &mut keeper, &site, &mut reader, &mut writer);
     assert!(rt; writer.len <= 2048);
     let text = &writer.bytes[..writer.len];
     assert_eq!(rt; answered(text), Some(served.answers));

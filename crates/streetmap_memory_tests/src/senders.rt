@@ -5,7 +5,7 @@ use std::test::Fail;
 use streetmap_http::{Sent, send};
 use streetmap_memory::PlainKeeper;
 use streetmap_routes::Base;
-use streetmap_web::{End, serve};
+use streetmap_web::{End, Site, serve};
 
 /// The result of sending an answer to a writer with this much room, and whether it took the prefix
 /// that fits.
@@ -47,6 +47,7 @@ fn a_failed_flush_ends_a_stream(rt: HostRuntime) -> Result<(), Fail> {
     let Ok(Some(base)) = Base::new(rt.alloc(), "http://localhost/") else {
         return Ok(());
     };
+    let site = Site { base, tags: false };
     let sink = Sink {
         taken: [0; 8],
         len: 0,
@@ -59,7 +60,7 @@ fn a_failed_flush_ends_a_stream(rt: HostRuntime) -> Result<(), Fail> {
     };
     let mut keeper = PlainKeeper::new(rt.alloc());
     let mut reader = STREAM;
-    let served = serve(rt.alloc(), &mut keeper, &base, &mut reader, &mut writer);
+    let served = serve(rt.alloc(), &mut keeper, &site, &mut reader, &mut writer);
     assert_eq!(rt; served.answers, 1);
     assert!(rt; served.end == End::FlushFailed);
     Ok(())

@@ -24,6 +24,7 @@ ghost use Rattle.streetmap_store.specs.CallResults.{error_in};
 ghost use Rattle.streetmap_store.specs.CallResults.{count_after, shut_by, fault_by};
 ghost use Rattle.streetmap_store.specs.TableModel.{LeavesStates};
 
+use crate::keys::is_key_used;
 use json::Scratch;
 use sqlite::{Alter, Connection, Error};
 use std::alloc::Global;
@@ -39,6 +40,7 @@ use streetmap_reading::{
 };
 use streetmap_rows::{ReadFault, Shut, Stop, settle};
 use streetmap_tables::{CreateFault, OpenFault, apply_batch, make_tables, open_tables};
+use streetmap_tags::Tagged;
 
 /// A keeper over the tables of a connection, between whose calls no transaction is open.
 #[derive(Drop)]
@@ -427,6 +429,23 @@ impl<S: Alter> Outlined for TableKeeper<S> {
         }
         let outlines = outlines_of(self.alloc, &mut self.conn, collection);
         answer(&mut self.conn, &mut self.shut, outlines)
+    }
+}
+
+impl<S: Alter> Tagged for TableKeeper<S> {
+    fn tag(&mut self) -> Result<u64, Fault> {
+        if !self.is_open() {
+            return Err(Fault::Reopen);
+        }
+        Ok(self.count)
+    }
+
+    fn has_key(&mut self, key: &str) -> Result<bool, Fault> {
+        if !self.is_open() {
+            return Err(Fault::Reopen);
+        }
+        let used = is_key_used(&mut self.conn, key);
+        answer(&mut self.conn, &mut self.shut, used)
     }
 }
 

@@ -3,14 +3,21 @@ use std::alloc::Global;
 use std::io::BufWriter;
 use streetmap_ledger::{Keeper, read_batch};
 use streetmap_routes::Base;
-use streetmap_web::serve;
+use streetmap_tags::Tagged;
+use streetmap_web::{Site, serve};
 
-/// A keeper's answers to requests; none if memory runs out.
-pub(crate) fn answers<K: Keeper>(alloc: Global, keeper: &mut K, requests: &str) -> Option<Vec<u8>> {
+/// A keeper's answers to requests, of a service with tags or without; none if memory runs out.
+pub(crate) fn answers<K: Tagged>(
+    alloc: Global,
+    keeper: &mut K,
+    tags: bool,
+    requests: &str,
+) -> Option<Vec<u8>> {
     let base = Base::new(alloc, "http://localhost/").ok()??;
+    let site = Site { base, tags };
     let mut reader = requests.as_bytes();
     let mut writer = BufWriter::new(alloc, Vec::new(alloc)).ok()?;
-    let _served = serve(alloc, keeper, &base, &mut reader, &mut writer);
+    let _served = serve(alloc, keeper, &site, &mut reader, &mut writer);
     writer.into_inner().ok()
 }
 

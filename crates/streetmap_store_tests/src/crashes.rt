@@ -8,7 +8,7 @@ use sqlite::{Alter, Connection};
 use sqlite_disk::Files;
 use std::alloc::Global;
 use std::test::Fail;
-use streetmap_ledger::Keeper;
+use streetmap_tags::Tagged;
 
 /// More calls than any run makes.
 const MOST_CALLS: u64 = 10_000;
@@ -35,7 +35,7 @@ struct ActOnAll;
 impl Task for ActOnAll {
     type Output = usize;
 
-    fn run<K: Keeper>(self, alloc: Global, keeper: &mut K) -> usize {
+    fn run<K: Tagged>(self, alloc: Global, keeper: &mut K) -> usize {
         act(alloc, keeper)
     }
 }
@@ -131,7 +131,7 @@ struct Nothing;
 impl Task for Nothing {
     type Output = ();
 
-    fn run<K: Keeper>(self, _: Global, _: &mut K) {}
+    fn run<K: Tagged>(self, _: Global, _: &mut K) {}
 }
 
 /// Opens copies of files of format 1 that take this number of calls. Returns whether they were

@@ -3,25 +3,26 @@
 use crate::answers::answers;
 use crate::files::{Visit, output_of_new};
 use crate::keepers::{Outcome, OverNew, Task};
-use crate::rows::{COUNT, ROWS};
+use crate::rows::{CONDITIONAL_COUNT, CONDITIONAL_ROWS, COUNT, ROWS};
 use serde_json::Value;
 use sqlite::{Alter, Connection};
 use std::alloc::{AllocError, Global};
 use std::test::Fail;
 use streetmap_index::IndexedKeeper;
-use streetmap_ledger::Keeper;
 use streetmap_memory::PlainKeeper;
 use streetmap_store::TableKeeper;
+use streetmap_tags::Tagged;
 
-/// The rows, a line each.
-fn rows() -> &'static str {
-    ROWS
+/// The rows of a service with tags or without, a line each.
+fn rows(tags: bool) -> &'static str {
+    if tags { CONDITIONAL_ROWS } else { ROWS }
 }
 
 /// What is sent to a new keeper: first what makes the state, and then the requests with their
-/// answers.
+/// answers, of a service with tags or without.
 #[derive(Clone, Copy)]
 struct Row<'a> {
+    tags: bool,
     first: &'a str,
     sent: &'a str,
     written: &'a str,
@@ -53,9 +54,9 @@ fn push_before(alloc: Global, requests: &mut String, row: &Value) -> Result<(), 
 }
 
 /// Whether a new keeper gives these answers to the requests of a row.
-fn is_answered_so<K: Keeper>(alloc: Global, keeper: &mut K, row: Row<'_>) -> bool {
-    answers(alloc, keeper, row.first).is_some()
-        && answers(alloc, keeper, row.sent).is_some_and(|text| text.as_slice()
+fn is_answered_so<K: Tagged>(alloc: Global, keeper: &mut K, row: Row<'_>) -> bool {
+    answers(alloc, keeper, row.tags, row.first).is_some()
+        && answers(alloc, keeper, row.tags, row.sent).is_some_and(|text| text.as_slice()
             == row.written.as_bytes())
 }
 
@@ -63,7 +64,7 @@ impl Task for Row<'_> {
     type Output = bool;
 
     /// Whether a new keeper gives these answers to the requests of the row.
-    fn run<K: Keeper>(self, alloc: Global, keeper: &mut K) -> bool {
+    fn run<K: Tagged>(self, alloc: Global, keeper: &mut K) -> bool {
         is_answered_so(alloc, keeper, self)
     }
 }
@@ -105,11 +106,12 @@ fn differing(alloc: Global, row: Row<'_>) -> Option<&'static str> {
 }
 
 /// The same for the row of a line.
-fn differing_at(alloc: Global, line: &str) -> Result<Option<&'static str>, Fail> {
+fn differing_at(alloc: Global, tags: bool, line: &str) -> Result<Option<&'static str>, Fail> {
     let row = Value::from_str(alloc, line)?;
     let mut first = String::new(alloc);
     push_before(alloc, &mut first, &row)?;
     let row = Row {
+        tags,
         first: first.as_str(),
         sent: text(&row, "sent"),
         written: text(&row, "written"),
@@ -120,11 +122,23 @@ fn differing_at(alloc: Global, line: &str) -> Result<Option<&'static str>, Fail>
 #[test]
 fn each_keeper_answers_the_rows(rt: HostRuntime) -> Result<(), Fail> {
     let mut count = 0u64;
-    for line in rows().lines() {
-        let differing = differing_at(rt.alloc(), line)?;
+    for line in rows(false).lines() {
+        let differing = differing_at(rt.alloc(), false, line)?;
         assert_eq!(rt; differing, None, "{line}");
         count = count.saturating_add(1);
     }
     assert_eq!(rt; count, COUNT);
+    Ok(())
+}
+
+#[test]
+fn each_keeper_answers_the_rows_with_tags(rt: HostRuntime) -> Result<(), Fail> {
+    let mut count = 0u64;
+    for line in rows(true).lines() {
+        let differing = differing_at(rt.alloc(), true, line)?;
+        assert_eq!(rt; differing, None, "{line}");
+        count = count.saturating_add(1);
+    }
+    assert_eq!(rt; count, CONDITIONAL_COUNT);
     Ok(())
 }

@@ -4,9 +4,9 @@ ghost use Rattle.std.specs.Prelude.{◌≡◌};
 use crate::files::Visit;
 use sqlite::{Alter, Connection};
 use std::alloc::Global;
-use streetmap_ledger::Keeper;
 use streetmap_store::TableKeeper;
 use streetmap_tables::OpenFault;
+use streetmap_tags::Tagged;
 
 /// What is done over a keeper, whatever it is.
 pub(crate) trait Task {
@@ -14,7 +14,7 @@ pub(crate) trait Task {
     type Output;
 
     /// Does it.
-    fn run<K: Keeper>(self, alloc: Global, keeper: &mut K) -> Self::Output;
+    fn run<K: Tagged>(self, alloc: Global, keeper: &mut K) -> Self::Output;
 }
 
 /// The result of a task over tables.

@@ -8,6 +8,7 @@ use std::alloc::Global;
 use std::test::Fail;
 use streetmap_ledger::Keeper;
 use streetmap_memory::PlainKeeper;
+use streetmap_tags::Tagged;
 
 /// Points, features without a geometry, and features with a time.
 const BATCHES: [&str; COUNT] = [
@@ -38,12 +39,12 @@ pub(crate) fn act<K: Keeper>(alloc: Global, keeper: &mut K) -> usize {
 }
 
 /// Appends what is seen of a keeper.
-fn push_state<K: Keeper>(
+fn push_state<K: Tagged>(
     alloc: Global,
     keeper: &mut K,
     states: &mut Vec<Vec<u8>>,
 ) -> Result<(), Fail> {
-    match answers(alloc, keeper, LOOKS) {
+    match answers(alloc, keeper, false, LOOKS) {
         Some(text) => Ok(states.push(text)?),
         None => Err(Fail::from("nothing was answered")),
     }
@@ -73,13 +74,13 @@ pub(crate) enum Seen {
 }
 
 /// How many batches a keeper's state is after; none if it is in no such state.
-fn place<K: Keeper>(alloc: Global, keeper: &mut K, states: &[Vec<u8>]) -> Option<usize> {
-    let text = answers(alloc, keeper, LOOKS)?;
+fn place<K: Tagged>(alloc: Global, keeper: &mut K, states: &[Vec<u8>]) -> Option<usize> {
+    let text = answers(alloc, keeper, false, LOOKS)?;
     states.iter().position(|state| *state == text)
 }
 
 /// Whether a keeper is after all batches once all have acted again.
-fn acts_again<K: Keeper>(alloc: Global, keeper: &mut K, states: &[Vec<u8>]) -> bool {
+fn acts_again<K: Tagged>(alloc: Global, keeper: &mut K, states: &[Vec<u8>]) -> bool {
     act(alloc, keeper) == COUNT && place(alloc, keeper, states) == Some(COUNT)
 }
 
@@ -94,7 +95,7 @@ impl Task for Lookup<'_> {
     type Output = Seen;
 
     /// What is seen of a keeper.
-    fn run<K: Keeper>(self, alloc: Global, keeper: &mut K) -> Seen {
+    fn run<K: Tagged>(self, alloc: Global, keeper: &mut K) -> Seen {
         match place(alloc, keeper, self.states) {
             Some(count) if !self.acts_again || acts_again(alloc, keeper, self.states) => {
                 Seen::After(count)

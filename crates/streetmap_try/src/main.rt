@@ -11,7 +11,7 @@ use std::process::ExitCode;
 use streetmap_connections::{Clients, Limits, ServeFault};
 use streetmap_memory::PlainKeeper;
 use streetmap_routes::Base;
-use streetmap_web::{KeeperService, Watch, serve_clients};
+use streetmap_web::{KeeperService, Site, Watch, serve_clients};
 
 /// How many clients are served at once.
 const MOST_CLIENTS: usize = 16;
@@ -85,7 +85,7 @@ fn run(rt: &HostRuntime) -> Result<(), TryFault> {
     let mut service = KeeperService {
         alloc: rt.alloc(),
         keeper: PlainKeeper::new(rt.alloc()),
-        base,
+        site: Site { base, tags: false },
         log: false.then(|| rt.stderr()),
         watch: Watch::new(rt.stderr(), true),
     };

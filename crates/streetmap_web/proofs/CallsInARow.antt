@@ -1,9 +1,13 @@
 -- What calls of a keeper, one after the other, keep.
-use Rattle.std.specs.Prelude.{Result}
+use Rattle.std.proofs.Common.{refl}
+use Rattle.std.specs.Prelude.{Option, None, Some, Result}
+use Rattle.streetmap_http.specs.Preconditions.{PreconditionsValue}
 use Rattle.streetmap_ledger.specs.Model.{Model}
 use Rattle.streetmap_ledger.specs.Keep.{IsCall}
 use Rattle.streetmap_ledger.specs.declared.reply.Fault.{Fault}
+use Rattle.streetmap_ledger.specs.declared.reply.Fault.TheVariants.{Memory}
 use Rattle.streetmap_web.specs.Conditions.{ByCalls}
+use Rattle.streetmap_web.specs.Responds.{IsUncalled, MayFail}
 
 module _ {K : Type 0} (model : Model K) where
   pub no_calls : (k : K) → ByCalls model k k
@@ -18,3 +22,12 @@ module _ {K : Type 0} (model : Model K) where
 -- one call
 pub by_call : {K T : Type 0} {model : Model K} {old new : K} {r : Result T Fault} → IsCall model old new r → ByCalls model old new
 by_call call = record { preserved = call.preserved; began_clean = call.began_clean }
+
+-- `apply` was not called if no call was made
+pub uncalled_itself : {K : Type 0} (model : Model K) (conditions : Option PreconditionsValue) (k : K) → IsUncalled model conditions k k
+uncalled_itself model None k = refl
+uncalled_itself model (Some p) k = no_calls model k
+
+pub memory_may_fail : (conditions : Option PreconditionsValue) → MayFail conditions Memory
+memory_may_fail None = refl
+memory_may_fail (Some p) = tt

@@ -7,6 +7,7 @@ use Rattle.std.proofs.lemmas.List.{take-append-drop, length-drop}
 use Rattle.std.proofs.lemmas.List.Elements.{All-nil, All-cons}
 use Rattle.streetmap_batch.specs.Text.{Text}
 use Rattle.streetmap_connections.specs.History.{Exchange, LeavesOpen, requests_of, texts_of}
+use Rattle.streetmap_web.specs.Site.{SiteValue}
 use Rattle.streetmap_web.specs.Conditions.{Condition}
 use Rattle.streetmap_web.specs.StreamEnds.{EndsSo}
 use Rattle.streetmap_web.specs.Turns.{end_of}
@@ -21,15 +22,15 @@ use Rattle.streetmap_web.specs.declared.turns.Turn.{Turn}
 use Rattle.streetmap_web.specs.declared.turns.Turn.TheVariants.{Open, Closed, Ended, Truncated, ReadFailed, WriteFailed, FlushFailed}
 
 -- a request of the web with its answer, as bytes
-abbrev pub exchange_at : Text → Condition → HttpExchange → Exchange
-exchange_at root x w = record { request = w.bytes; text = web.answer_bytes root x w; closes = web.closes root x w }
+abbrev pub exchange_at : SiteValue → Condition → HttpExchange → Exchange
+exchange_at site x w = record { request = w.bytes; text = web.answer_bytes site x w; closes = web.closes site x w }
 
-abbrev pub exchanges_at : Text → Condition → List HttpExchange → List Exchange
-exchanges_at root x [] = []
-exchanges_at root x (w ∷ ws) = exchange_at root x w ∷ exchanges_at root (web.condition_after x w) ws
+abbrev pub exchanges_at : SiteValue → Condition → List HttpExchange → List Exchange
+exchanges_at site x [] = []
+exchanges_at site x (w ∷ ws) = exchange_at site x w ∷ exchanges_at site (web.condition_after x w) ws
 
-pub is_answer : (root : Text) (x : Condition) (w : HttpExchange) → IsExchange x w → IsAnswerTo root x (exchange_at root x w) w
-is_answer root x w is = record { is = is; request = refl; text = refl; closes = refl }
+pub is_answer : (site : SiteValue) (x : Condition) (w : HttpExchange) → IsExchange site.tags x w → IsAnswerTo site x (exchange_at site x w) w
+is_answer site x w is = record { is = is; request = refl; text = refl; closes = refl }
 
 kept_appends : (a b : Option Text) → Keeps a b → Appends a b []
 kept_appends None b h = tt
@@ -42,43 +43,43 @@ more_left n text less none =
     let zero : length (drop n text) ≡ 0 = ap length none in
     omega (arith, less, left, zero)
 
-abbrev pub closes_last : Text → Condition → List HttpExchange → Bool
-closes_last root y [] = false
-closes_last root y (w ∷ ws) = web.closes root y w
+abbrev pub closes_last : SiteValue → Condition → List HttpExchange → Bool
+closes_last site y [] = false
+closes_last site y (w ∷ ws) = web.closes site y w
 
 -- what the last turn did, with the request that it answered, if it did
-pub record IsLast (root : Text) (y : Condition) (a : Around) (end : End) (last : List HttpExchange) : Type 0 where
-  pub answered : AnsweredInTurn root y (exchanges_at root y last) last
+pub record IsLast (site : SiteValue) (y : Condition) (a : Around) (end : End) (last : List HttpExchange) : Type 0 where
+  pub answered : AnsweredInTurn site y (exchanges_at site y last) last
   pub left : Option Text
-  pub read : Consumes a.input_before left (requests_of (exchanges_at root y last))
+  pub read : Consumes a.input_before left (requests_of (exchanges_at site y last))
   pub part : Text
   pub unsent : Text
   pub written : Appends a.output_before a.output_after part
-  pub parts : texts_of (exchanges_at root y last) ≡ part ++ unsent
-  pub stays : closes_last root y last ≡ false → All LeavesOpen (exchanges_at root y last)
+  pub parts : texts_of (exchanges_at site y last) ≡ part ++ unsent
+  pub stays : closes_last site y last ≡ false → All LeavesOpen (exchanges_at site y last)
   pub closed :
-      (before : List Exchange) → All LeavesOpen before → closes_last root y last ≡ true
-      → (front : List Exchange) × (e : Exchange) × (before ++ exchanges_at root y last ≡ front ++ e ∷ []) × All LeavesOpen front
-  pub ends : EndsSo end (closes_last root y last) unsent left a.input_after
+      (before : List Exchange) → All LeavesOpen before → closes_last site y last ≡ true
+      → (front : List Exchange) × (e : Exchange) × (before ++ exchanges_at site y last ≡ front ++ e ∷ []) × All LeavesOpen front
+  pub ends : EndsSo end (closes_last site y last) unsent left a.input_after
 
-module _ (root : Text) (y : Condition) (a : Around) where
-  one : (end : End) (w : HttpExchange) → IsExchange y w → Consumes a.input_before a.input_after w.bytes → (part unsent : Text)
+module _ (site : SiteValue) (y : Condition) (a : Around) where
+  one : (end : End) (w : HttpExchange) → IsExchange site.tags y w → Consumes a.input_before a.input_after w.bytes → (part unsent : Text)
       → Appends a.output_before a.output_after part
-      → web.answer_bytes root y w ≡ part ++ unsent → EndsSo end (web.closes root y w) unsent a.input_after a.input_after → IsLast root y a end (w ∷ [])
+      → web.answer_bytes site y w ≡ part ++ unsent → EndsSo end (web.closes site y w) unsent a.input_after a.input_after → IsLast site y a end (w ∷ [])
   one end w is read part unsent written parts ends = record {
-    answered = (is_answer root y w is, tt);
+    answered = (is_answer site y w is, tt);
     left = a.input_after;
     read = subst (Consumes a.input_before a.input_after) (sym (append-nil w.bytes)) read;
     part = part;
     unsent = unsent;
     written = written;
-    parts = append-nil (web.answer_bytes root y w) ∙ parts;
-    stays = λ stays. All-cons LeavesOpen (exchange_at root y w) [] stays (All-nil LeavesOpen);
-    closed = λ before all closes. (before, exchange_at root y w, refl, all);
+    parts = append-nil (web.answer_bytes site y w) ∙ parts;
+    stays = λ stays. All-cons LeavesOpen (exchange_at site y w) [] stays (All-nil LeavesOpen);
+    closed = λ before all closes. (before, exchange_at site y w, refl, all);
     ends = ends;
   }
 
-  none : (end : End) → Keeps a.output_before a.output_after → EndsSo end false [] a.input_before a.input_after → IsLast root y a end []
+  none : (end : End) → Keeps a.output_before a.output_after → EndsSo end false [] a.input_before a.input_after → IsLast site y a end []
   none end kept ends = record {
     answered = tt;
     left = a.input_before;
@@ -92,18 +93,18 @@ module _ (root : Text) (y : Condition) (a : Around) where
     ends = ends;
   }
 
-  pub is_last : {K : Type 0} (model : Model K) (new : K) (turn : Turn) (says : TurnSays model turn root y a new) → turn ≢ Open
-      → IsLast root y a (end_of turn) (last_of model turn root y a new says)
+  pub is_last : {K : Type 0} (model : Model K) (new : K) (turn : Turn) (says : TurnSays model turn site y a new) → turn ≢ Open
+      → IsLast site y a (end_of turn) (last_of model turn site y a new says)
   is_last model new Open says shut = absurd (shut refl)
   is_last model new Closed says shut =
-      one variants.Ended says.0 says.1.is says.1.read (web.answer_bytes root y says.0) [] says.2 (sym (append-nil (web.answer_bytes root y says.0)))
+      one variants.Ended says.0 says.1.is says.1.read (web.answer_bytes site y says.0) [] says.2 (sym (append-nil (web.answer_bytes site y says.0)))
       (refl, inl (says.3, refl))
   is_last model new (WriteFailed begun) says shut =
-      let text = web.answer_bytes root y says.0 in
+      let text = web.answer_bytes site y says.0 in
       one variants.WriteFailed says.0 says.1.is says.1.read (take says.2 text) (drop says.2 text) says.5 (sym (take-append-drop says.2 text))
       (more_left says.2 text says.3, refl)
   is_last model new FlushFailed says shut =
-      one variants.FlushFailed says.0 says.1.is says.1.read (web.answer_bytes root y says.0) [] says.2 (sym (append-nil (web.answer_bytes root y says.0)))
+      one variants.FlushFailed says.0 says.1.is says.1.read (web.answer_bytes site y says.0) [] says.2 (sym (append-nil (web.answer_bytes site y says.0)))
       (refl, refl)
   is_last model new Ended says shut = none variants.Ended says.0.written (refl, inr (says.1, says.2, says.3, says.4))
   is_last model new Truncated says shut = none variants.Truncated says.0.written (refl, (says.1, says.2, says.3, says.4))

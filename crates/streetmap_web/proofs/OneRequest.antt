@@ -8,6 +8,7 @@ use Rattle.streetmap_http.specs.Streams.{Request, request, stops, refused}
 use Rattle.streetmap_http.specs.declared.fault.FramingFault.{FramingFault}
 use Rattle.streetmap_http.proofs.Fronts.{front_unique}
 use Rattle.streetmap_batch.specs.Text.{Text}
+use Rattle.streetmap_web.specs.Site.{SiteValue}
 use Rattle.streetmap_web.specs.Response.{AnswerSent, request_of, broken_request, sent_so}
 use Rattle.streetmap_ledger.specs.Model.{Model}
 use Rattle.streetmap_web.specs.Conditions.{Condition, IsInCondition}
@@ -18,13 +19,13 @@ use Rattle.streetmap_web.specs.Transitions.{AnswersRequest}
 use Rattle.streetmap_web.proofs.CallsInARow.{no_calls}
 use Rattle.streetmap_web.proofs.Transitions.{refused_comes}
 
-module _ {K : Type 0} (model : Model K) (root : Text) (x : Condition) where
+module _ {K : Type 0} (model : Model K) (site : SiteValue) (x : Condition) where
   -- a whole request
   whole_answered : (h : HeadValue) (bytes body : Text) (sent : AnswerSent) (old new : K) → IsRequest bytes h body
-      → AnswersOperation model root x (request_of h body) sent old new
-      → AnswersRequest model root x bytes sent old new
+      → AnswersOperation model site x (request_of site.tags h body) sent old new
+      → AnswersRequest model site x bytes sent old new
   whole_answered h bytes body sent old new is (outcome, one) = record {
-    exchange = record { bytes = bytes; request = request_of h body; outcome = outcome };
+    exchange = record { bytes = bytes; request = request_of site.tags h body; outcome = outcome };
     bytes_are = refl;
     has_request = whole h body is refl;
     comes_out = one;
@@ -32,9 +33,9 @@ module _ {K : Type 0} (model : Model K) (root : Text) (x : Condition) where
 
   -- one that breaks a rule of framing
   broken_answered : (bytes text : Text) (bare : Bool) (fault : FramingFault) (k : K) → Breaks bytes bare fault → RefusesBy text bare fault → IsInCondition model k x
-      → AnswersRequest model root x bytes (sent_so text true) k k
+      → AnswersRequest model site x bytes (sent_so text true) k k
   broken_answered bytes text bare fault k breaks refuses h =
-      let (outcome, one) = refused_comes model root x text bare fault k refuses h in
+      let (outcome, one) = refused_comes model site x text bare fault k refuses h in
       record {
         exchange = record { bytes = bytes; request = broken_request bare fault; outcome = outcome };
         bytes_are = refl;
@@ -69,20 +70,20 @@ said_of bytes h k a b P one other says =
 
 -- ---- what holds of one request
 
-module _ {K : Type 0} (model : Model K) (root : Text) where
+module _ {K : Type 0} (model : Model K) (site : SiteValue) where
   pub whole_answers : (h : HeadValue) (bytes body : Text) (sent : AnswerSent) (old new : K) → IsRequest bytes h body
-      → Answers model root (request_of h body) sent old new → AnswersOne model root old bytes sent new
+      → Answers model site (request_of site.tags h body) sent old new → AnswersOne model site old bytes sent new
   whole_answers h bytes body sent old new is says = record {
     calls = says.calls;
-    answered = λ clean x in_condition. whole_answered model root x h bytes body sent old new is (says.answered clean x in_condition);
-    batch_answered = λ k a one. said_of bytes k h a body (λ k a. AnswersBatch model (request_of k a) sent old new) one is says.batch_answered;
+    answered = λ clean x in_condition. whole_answered model site x h bytes body sent old new is (says.answered clean x in_condition);
+    batch_answered = λ k a one. said_of bytes k h a body (λ k a. AnswersBatch model (request_of site.tags k a) sent old new) one is says.batch_answered;
   }
 
   pub broken_answers : (bytes text : Text) (bare : Bool) (fault : FramingFault) (k : K) → Breaks bytes bare fault → RefusesBy text bare fault
-      → AnswersOne model root k bytes (sent_so text true) k
+      → AnswersOne model site k bytes (sent_so text true) k
   broken_answers bytes text bare fault k breaks refuses = record {
     calls = no_calls model k;
-    answered = λ clean x in_condition. broken_answered model root x bytes text bare fault k breaks refuses in_condition;
+    answered = λ clean x in_condition. broken_answered model site x bytes text bare fault k breaks refuses in_condition;
     batch_answered = λ h body is. absurd (not_broken bytes body h bare fault is breaks);
   }
 

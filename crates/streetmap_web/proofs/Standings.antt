@@ -7,12 +7,12 @@ use Rattle.streetmap_ledger.specs.declared.reply.Cause.{Cause}
 use Rattle.streetmap_ledger.specs.declared.reply.Cause.TheVariants as causes
 use Rattle.streetmap_ledger.specs.declared.reply.Fault.{Fault}
 use Rattle.streetmap_ledger.specs.declared.reply.Fault.TheVariants as faults
-use Rattle.streetmap_routes.specs.Operations.{OperationValue}
-use Rattle.streetmap_web.specs.Response.{ResponseValue, RequestValue, needs_state, fault_response, closes_with, response_text, sent_so, sent_as}
+use Rattle.streetmap_web.specs.Site.{SiteValue}
+use Rattle.streetmap_web.specs.Response.{ResponseValue, RequestValue, Wanted, needs_state, fault_response, closes_with, response_text, sent_so, sent_as}
 use Rattle.streetmap_web.specs.Conditions.{Condition, of_state, shut, unknown, as_requested, no_memory, device_failed, of_keeper, IsInCondition}
-use Rattle.streetmap_web.specs.Responds.{AnswersOperation, Answers, Responds, Sends, IsResponse, response_value, AnswersBatch, by_reply, by_fault, by_none}
+use Rattle.streetmap_web.specs.Responds.{AnswersOperation, Answers, Responds, Sends, IsResponse, response_value, AnswersBatch, by_reply, by_fault, by_none, by_condition}
 use Rattle.streetmap_web.specs.declared.response.Response.{Response}
-use Rattle.streetmap_web.proofs.Statuses.{never_500, starved_well}
+use Rattle.streetmap_web.proofs.Statuses.{wanted_never_500, starved_well}
 use Rattle.streetmap_connections.specs.Answers.{answer_text}
 use Rattle.streetmap_connections.specs.declared.service.Answer.{Answer}
 use Rattle.streetmap_bodies.specs.declared.request_fault.RequestFault.TheVariants.{Keeper}
@@ -54,19 +54,19 @@ is_shut cause why e = subst (λ (o : Option Cause). IsSome o) (sym e) refl
 
 -- ---- the response with its head
 
-module _ {K : Type 0} (model : Model K) (root : Text) (request : RequestValue) (old new : K) where
+module _ {K : Type 0} (model : Model K) (site : SiteValue) (request : RequestValue) (old new : K) where
   -- what is wanted is what the request wants
-  same_operation : {A : Type 0} (at : Text) (operation : OperationValue) (Is : A → ResponseValue → Type 0) (result : Result A Fault) → at ≡ root → operation ≡ request.operation
-      → Responds model at operation Is old new result → Responds model root request.operation Is old new result
-  same_operation at operation Is result roots has_request says =
-      subst (λ (a : OperationValue). Responds model root a Is old new result) has_request (subst (λ (r : Text). Responds model r operation Is old new result) roots says)
+  same_operation : {A : Type 0} (at : Text) (wanted : Wanted) (Is : A → ResponseValue → Type 0) (result : Result A Fault) → at ≡ site.root → wanted ≡ request.wanted
+      → Responds model at wanted Is old new result → Responds model site.root request.wanted Is old new result
+  same_operation at wanted Is result roots has_request says =
+      subst (λ (a : Wanted). Responds model site.root a Is old new result) has_request (subst (λ (r : Text). Responds model r wanted Is old new result) roots says)
 
-  pub response_sent : (at : Text) (operation : OperationValue) (response : Response) (r : Answer × Bool) → at ≡ root → operation ≡ request.operation
-      → Responds model at operation IsResponse old new (Ok response)
+  pub response_sent : (at : Text) (wanted : Wanted) (response : Response) (r : Answer × Bool) → at ≡ site.root → wanted ≡ request.wanted
+      → Responds model at wanted IsResponse old new (Ok response)
       → r.1 ≡ closes_with request.closes (response_value response) → answer_text r.0 ≡ response_text r.1 request.bare (response_value response)
-      → Sends model root request old new (Ok r)
-  response_sent at operation response r roots has_request says closes text =
-      let it = same_operation at operation IsResponse (Ok response) roots has_request says in
+      → Sends model site.root request old new (Ok r)
+  response_sent at wanted response r roots has_request says closes text =
+      let it = same_operation at wanted IsResponse (Ok response) roots has_request says in
       let sent : sent_so (answer_text r.0) r.1 ≡ sent_as request (response_value response) = sent_of request (response_value response) (answer_text r.0) r.1 closes text in
       record {
         calls = it.calls;
@@ -77,37 +77,39 @@ module _ {K : Type 0} (model : Model K) (root : Text) (request : RequestValue) (
             let said = it.shut why e in
             (sent ∙ ap (sent_as request) said.0, said.1, said.2);
         any = (it.any.0, it.any.1, sent ∙ ap (sent_as request) it.any.2);
-        to_batch = λ b e.
-            let said = it.to_batch b e in
-            (said.0, said.1, sent ∙ ap (sent_as request) said.2);
+        to_batch = λ b e. elim (it.to_batch b e) [
+          | inl said ↦ inl (said.0, said.1, said.2, said.3, sent ∙ ap (sent_as request) said.4)
+          | inr said ↦ inr (said.0, said.1, sent ∙ ap (sent_as request) said.2)
+        ];
       }
 
   -- a fault that is still to be answered
-  pub fault_unsent : (at : Text) (operation : OperationValue) (fault : Fault) → at ≡ root → operation ≡ request.operation → Responds model at operation IsResponse old new (Err fault)
-      → Sends model root request old new (Err fault)
-  fault_unsent at operation fault roots has_request says =
-      let it = same_operation at operation IsResponse (Err fault) roots has_request says in
+  pub fault_unsent : (at : Text) (wanted : Wanted) (fault : Fault) → at ≡ site.root → wanted ≡ request.wanted → Responds model at wanted IsResponse old new (Err fault)
+      → Sends model site.root request old new (Err fault)
+  fault_unsent at wanted fault roots has_request says =
+      let it = same_operation at wanted IsResponse (Err fault) roots has_request says in
       record { calls = it.calls; in_state = it.in_state; shut = it.shut; any = it.any; to_batch = it.to_batch }
 
   -- ---- the answer by the keeper's condition
 
-  ok_batch : (r : Answer × Bool) → Sends model root request old new (Ok r) → AnswersBatch model request (sent_so (answer_text r.0) r.1) old new
-  ok_batch r says b e =
-      let (reply, applied, sent) = says.to_batch b e in
-      by_reply reply applied sent
+  ok_batch : (r : Answer × Bool) → Sends model site.root request old new (Ok r) → AnswersBatch model request (sent_so (answer_text r.0) r.1) old new
+  ok_batch r says b e = elim (says.to_batch b e) [
+    | inl said ↦ by_reply said.0 said.1 said.2 said.3 said.4
+    | inr said ↦ by_condition said.0 said.1 said.2
+  ]
 
   module _ (fault : Fault) (text : Text) (is : text ≡ response_text true request.bare (fault_response (Keeper fault))) where
-    err_batch : Sends model root request old new (Err fault) → AnswersBatch model request (sent_so text true) old new
+    err_batch : Sends model site.root request old new (Err fault) → AnswersBatch model request (sent_so text true) old new
     err_batch says b e =
         let sent = fault_sent request fault text is in
         elim (says.to_batch b e) [
           | inl applied ↦ by_fault fault applied sent
-          | inr uncalled ↦ by_none uncalled.0 (sent ∙ ap (λ f. sent_as request (fault_response (Keeper f))) uncalled.1)
+          | inr uncalled ↦ by_none fault uncalled.0 uncalled.1 sent
         ]
 
     -- a fault of a keeper of which nothing is known
-    fault_shown : (needs_state request.operation ≡ true) × IsSome (model.cause new) → Sends model root request old new (Err fault)
-        → AnswersOperation model root unknown request (sent_so text true) old new
+    fault_shown : (needs_state request.wanted.operation ≡ true) × IsSome (model.cause new) → Sends model site.root request old new (Err fault)
+        → AnswersOperation model site unknown request (sent_so text true) old new
     fault_shown any says = (
       of_keeper (fault_response (Keeper fault)),
       record {
@@ -121,8 +123,8 @@ module _ {K : Type 0} (model : Model K) (root : Text) (request : RequestValue) (
       },
     )
 
-  ok_shown : (b : Bool) (r : Answer × Bool) → needs_state request.operation ≡ b → Sends model root request old new (Ok r)
-      → AnswersOperation model root unknown request (sent_so (answer_text r.0) r.1) old new
+  ok_shown : (b : Bool) (r : Answer × Bool) → needs_state request.wanted.operation ≡ b → Sends model site.root request old new (Ok r)
+      → AnswersOperation model site unknown request (sent_so (answer_text r.0) r.1) old new
   ok_shown false r plain says = (
     as_requested,
     record {
@@ -148,8 +150,8 @@ module _ {K : Type 0} (model : Model K) (root : Text) (request : RequestValue) (
     },
   )
 
-  ok_answers : (x : Condition) (r : Answer × Bool) → Sends model root request old new (Ok r) → model.is_clean new → IsInCondition model old x
-      → AnswersOperation model root x request (sent_so (answer_text r.0) r.1) old new
+  ok_answers : (x : Condition) (r : Answer × Bool) → Sends model site.root request old new (Ok r) → model.is_clean new → IsInCondition model old x
+      → AnswersOperation model site x request (sent_so (answer_text r.0) r.1) old new
   ok_answers (of_state s) r says clean h =
       let t = says.in_state clean s h in (
         as_requested,
@@ -160,7 +162,7 @@ module _ {K : Type 0} (model : Model K) (root : Text) (request : RequestValue) (
           leaves = tt;
           batch_answered = ok_batch r says;
           device = λ e. absurd (as_requested_is_no_failure e);
-          shuts = λ has_request e. absurd (never_500 root s request.operation has_request e);
+          shuts = λ has_request e. absurd (wanted_never_500 site.root s request.wanted has_request e);
         },
       )
   ok_answers (shut why) r says clean h =
@@ -176,10 +178,10 @@ module _ {K : Type 0} (model : Model K) (root : Text) (request : RequestValue) (
           shuts = λ has_request e. is_shut (model.cause new) why t.1;
         },
       )
-  ok_answers unknown r says clean h = ok_shown (needs_state request.operation) r refl says
+  ok_answers unknown r says clean h = ok_shown (needs_state request.wanted.operation) r refl says
 
-  err_answers : (x : Condition) (fault : Fault) (text : Text) → Sends model root request old new (Err fault) → model.is_clean new → IsInCondition model old x
-      → text ≡ response_text true request.bare (fault_response (Keeper fault)) → AnswersOperation model root x request (sent_so text true) old new
+  err_answers : (x : Condition) (fault : Fault) (text : Text) → Sends model site.root request old new (Err fault) → model.is_clean new → IsInCondition model old x
+      → text ≡ response_text true request.bare (fault_response (Keeper fault)) → AnswersOperation model site x request (sent_so text true) old new
   err_answers (of_state s) faults.Memory text says clean h is = (
     no_memory,
     record {
@@ -251,16 +253,16 @@ module _ {K : Type 0} (model : Model K) (root : Text) (request : RequestValue) (
   err_answers unknown faults.Damaged text says clean h is = fault_shown faults.Damaged text is says.any says
   err_answers unknown faults.Reopen text says clean h is = fault_shown faults.Reopen text is says.any says
 
-  pub ok_answered : (r : Answer × Bool) → Sends model root request old new (Ok r) → Answers model root request (sent_so (answer_text r.0) r.1) old new
+  pub ok_answered : (r : Answer × Bool) → Sends model site.root request old new (Ok r) → Answers model site request (sent_so (answer_text r.0) r.1) old new
   ok_answered r says = record {
     calls = says.calls;
     answered = λ clean x h. ok_answers x r says clean h;
     batch_answered = ok_batch r says;
   }
 
-  pub err_answered : (fault : Fault) (text : Text) → Sends model root request old new (Err fault)
+  pub err_answered : (fault : Fault) (text : Text) → Sends model site.root request old new (Err fault)
       → text ≡ response_text true request.bare (fault_response (Keeper fault))
-      → Answers model root request (sent_so text true) old new
+      → Answers model site request (sent_so text true) old new
   err_answered fault text says is = record {
     calls = says.calls;
     answered = λ clean x h. err_answers x fault text says clean h is;

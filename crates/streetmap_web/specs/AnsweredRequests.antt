@@ -3,6 +3,7 @@ use Rattle.streetmap_batch.specs.Text.{Text}
 use Rattle.streetmap_http.specs.Framing.{HeadValue, IsRequest}
 use Rattle.streetmap_ledger.specs.Model.{Model}
 use Rattle.streetmap_web.specs.Conditions.{Condition, IsInCondition, ByCalls}
+use Rattle.streetmap_web.specs.Site.{SiteValue}
 use Rattle.streetmap_web.specs.Response.{AnswerSent, request_of}
 use Rattle.streetmap_web.specs.Transitions.{AnswersRequest}
 use Rattle.streetmap_web.specs.Responds.{AnswersBatch}
@@ -12,10 +13,10 @@ use Rattle.streetmap_web.specs.Responds.{AnswersBatch}
 -- with it: after a 503 for lack of memory the state is as it was, and after a 500 the keeper is
 -- shut. A batch is answered as the keeper answered it, whatever the reply is; 503 is sent if the
 -- keeper answered so, or was never called.
-pub record AnswersOne {K : Type 0} (model : Model K) (root : Text) (old : K) (bytes : Text)
+pub record AnswersOne {K : Type 0} (model : Model K) (site : SiteValue) (old : K) (bytes : Text)
     (sent : AnswerSent) (new : K) : Type 0 where
   pub calls : ByCalls model old new
   pub answered : model.is_clean new → (x : Condition) → IsInCondition model old x
-      → AnswersRequest model root x bytes sent old new
+      → AnswersRequest model site x bytes sent old new
   pub batch_answered : (h : HeadValue) (body : Text) → IsRequest bytes h body
-      → AnswersBatch model (request_of h body) sent old new
+      → AnswersBatch model (request_of site.tags h body) sent old new

@@ -1,5 +1,6 @@
 -- Requests of a stream with their answers.
-use Rattle.std.specs.Prelude.{◌≡◌, ◌++◌, List, [], ◌∷◌, Bool, false, ⊤}
+use Rattle.std.specs.Prelude.{◌≡◌, ◌++◌, List, [], ◌∷◌, Bool, true, false, ⊤, Option, None, Some}
+use Rattle.std.specs.Prelude.{if◌then◌else◌}
 use Rattle.std.specs.List.{flat_map}
 use Rattle.streetmap_http.specs.Head.{IsHead}
 use Rattle.streetmap_http.specs.Framing.{HeadValue, sized, Frames, Breaks, IsRequest}
@@ -7,9 +8,16 @@ use Rattle.streetmap_http.specs.declared.fault.FramingFault.{FramingFault}
 use Rattle.streetmap_batch.specs.Text.{Text}
 use Rattle.streetmap_batch.specs.BatchValue.{BatchValue}
 use Rattle.streetmap_ledger.specs.Batches.{after_all}
+use Rattle.streetmap_ledger.specs.State.{State}
+use Rattle.streetmap_ledger.specs.Kept.{batch_count}
 use Rattle.streetmap_routes.specs.Operations.{OperationValue, batch}
+use Rattle.streetmap_web.specs.declared.verdict.Verdict.{Verdict}
+use Rattle.streetmap_web.specs.declared.verdict.Verdict.TheVariants.{Holds}
+use Rattle.streetmap_web.specs.Site.{SiteValue}
 use Rattle.streetmap_web.specs.Response.{ResponseValue, RequestValue, request_of, broken_request}
-use Rattle.streetmap_web.specs.Response.{AnswerSent, sent_as, closes_with, response_text}
+use Rattle.streetmap_web.specs.Response.{AnswerSent, Wanted, sent_as, closes_with}
+use Rattle.streetmap_web.specs.Response.{response_text, verdict_on}
+use Rattle.streetmap_http.specs.Preconditions.{PreconditionsValue}
 use Rattle.streetmap_web.specs.Conditions.{Condition, RequestOutcome, as_requested, no_memory}
 use Rattle.streetmap_web.specs.Conditions.{device_failed, of_keeper}
 use Rattle.streetmap_web.specs.Conditions.{CanBe, answer_by, after, of_state, shut, unknown}
@@ -22,53 +30,53 @@ pub record HttpExchange : Type 0 where
 
 -- the bytes are this request: a head with its body, or bytes that break a rule of framing; if
 -- memory ran out for the body, they are only the head
-pub data HasRequest (e : HttpExchange) : Type 0 where
-  whole : (h : HeadValue) (body : Text) → IsRequest e.bytes h body → e.request ≡ request_of h body
-      → HasRequest e
+pub data HasRequest (tags : Bool) (e : HttpExchange) : Type 0 where
+  whole : (h : HeadValue) (body : Text) → IsRequest e.bytes h body
+      → e.request ≡ request_of tags h body → HasRequest tags e
   broken : (bare : Bool) (fault : FramingFault) → Breaks e.bytes bare fault
-      → e.request ≡ broken_request bare fault → HasRequest e
+      → e.request ≡ broken_request bare fault → HasRequest tags e
   no_room : (h : HeadValue) → IsHead e.bytes → Frames e.bytes (sized h)
-      → e.request ≡ request_of h [] → e.outcome ≡ no_memory → HasRequest e
+      → e.request ≡ request_of tags h [] → e.outcome ≡ no_memory → HasRequest tags e
 
 -- the answer of a keeper in this condition
-abbrev pub response : Text → Condition → HttpExchange → ResponseValue
-response root x e = answer_by root x e.request.operation e.outcome
+abbrev pub response : SiteValue → Condition → HttpExchange → ResponseValue
+response site x e = answer_by site x e.request.wanted e.outcome
 
 -- whether the connection closes after it
-abbrev pub closes : Text → Condition → HttpExchange → Bool
-closes root x e = closes_with e.request.closes (response root x e)
+abbrev pub closes : SiteValue → Condition → HttpExchange → Bool
+closes site x e = closes_with e.request.closes (response site x e)
 
 -- the bytes of the answer
-abbrev pub answer_bytes : Text → Condition → HttpExchange → Text
-answer_bytes root x e = response_text (closes root x e) e.request.bare (response root x e)
+abbrev pub answer_bytes : SiteValue → Condition → HttpExchange → Text
+answer_bytes site x e = response_text (closes site x e) e.request.bare (response site x e)
 
 -- both as they are sent
-abbrev pub sent_for : Text → Condition → HttpExchange → AnswerSent
-sent_for root x e = sent_as e.request (response root x e)
+abbrev pub sent_for : SiteValue → Condition → HttpExchange → AnswerSent
+sent_for site x e = sent_as e.request (response site x e)
 
 -- the keeper's condition afterwards
 abbrev pub condition_after : Condition → HttpExchange → Condition
-condition_after x e = after x e.request.operation e.outcome
+condition_after x e = after x e.request.wanted e.outcome
 
 -- the request is one of the stream, and has a possible outcome
-pub record IsExchange (x : Condition) (e : HttpExchange) : Type 0 where
-  pub has_request : HasRequest e
-  pub can : CanBe x e.request.operation e.outcome
+pub record IsExchange (tags : Bool) (x : Condition) (e : HttpExchange) : Type 0 where
+  pub has_request : HasRequest tags e
+  pub can : CanBe x e.request.wanted e.outcome
 
 -- exchanges in a row, each of which leaves the connection open
-abbrev pub GoOn : Text → Condition → List HttpExchange → Type 0
-GoOn root x [] = ⊤
-GoOn root x (e ∷ es) = IsExchange x e × (closes root x e ≡ false)
-    × GoOn root (condition_after x e) es
+abbrev pub GoOn : SiteValue → Condition → List HttpExchange → Type 0
+GoOn site x [] = ⊤
+GoOn site x (e ∷ es) = IsExchange site.tags x e × (closes site x e ≡ false)
+    × GoOn site (condition_after x e) es
 
 -- the bytes of the requests
 abbrev pub all_requests : List HttpExchange → Text
 all_requests es = flat_map (λ e. e.bytes) es
 
 -- the bytes of the answers
-abbrev pub all_answers : Text → Condition → List HttpExchange → Text
-all_answers root x [] = []
-all_answers root x (e ∷ es) = answer_bytes root x e ++ all_answers root (condition_after x e) es
+abbrev pub all_answers : SiteValue → Condition → List HttpExchange → Text
+all_answers site x [] = []
+all_answers site x (e ∷ es) = answer_bytes site x e ++ all_answers site (condition_after x e) es
 
 -- the keeper's condition after them
 abbrev pub condition_after_all : Condition → List HttpExchange → Condition
@@ -80,17 +88,37 @@ abbrev pub with_batch : OperationValue → List BatchValue → List BatchValue
 with_batch (batch b) others = b ∷ others
 with_batch _ others = others
 
--- the same, if it was answered as requested
-abbrev pub with_answered : OperationValue → RequestOutcome → List BatchValue → List BatchValue
-with_answered operation as_requested others = with_batch operation others
-with_answered operation no_memory others = others
-with_answered operation device_failed others = others
-with_answered operation (of_keeper shown) others = others
+-- whether a verdict lets a batch act
+abbrev pub lets_act : Verdict → Bool
+lets_act Holds = true
+lets_act _ = false
 
--- the batches that the keeper answered without a fault, in order
-abbrev pub batches_of : List HttpExchange → List BatchValue
-batches_of [] = []
-batches_of (e ∷ es) = with_answered e.request.operation e.outcome (batches_of es)
+-- whether the conditions let a batch act on the state
+abbrev pub may_act : State → OperationValue → Option PreconditionsValue → Bool
+may_act s operation None = true
+may_act s operation (Some p) = lets_act (verdict_on (batch_count s) p operation)
+
+-- a batch before others, if its conditions let it act
+abbrev pub with_acting : Condition → Wanted → List BatchValue → List BatchValue
+with_acting (of_state s) wanted others =
+    if may_act s wanted.operation wanted.conditions then with_batch wanted.operation others
+    else others
+with_acting (shut why) wanted others = with_batch wanted.operation others
+with_acting unknown wanted others = with_batch wanted.operation others
+
+-- the same, if it was answered as requested
+abbrev pub with_answered : Condition → Wanted → RequestOutcome → List BatchValue → List BatchValue
+with_answered x wanted as_requested others = with_acting x wanted others
+with_answered x wanted no_memory others = others
+with_answered x wanted device_failed others = others
+with_answered x wanted (of_keeper shown) others = others
+
+-- the batches that the keeper answered without a fault, in order, but for those that their
+-- conditions did not let act
+abbrev pub batches_of : Condition → List HttpExchange → List BatchValue
+batches_of x [] = []
+batches_of x (e ∷ es) = with_answered x e.request.wanted e.outcome
+    (batches_of (condition_after x e) es)
 
 -- the keeper's condition after batches
 abbrev pub after_batches : Condition → List BatchValue → Condition

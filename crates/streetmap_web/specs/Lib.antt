@@ -1,6 +1,9 @@
+pub mod Site
 pub mod Response
 pub mod Conditions
 pub mod Responds
+pub mod Judging
+pub mod Wants
 pub mod Turns
 pub mod StreamEnds
 pub mod Exchanges

@@ -1,6 +1,6 @@
 -- The results of the functions that answer.
-use Rattle.std.specs.Prelude.{◌≡◌, ◌≢◌, ◌⊎◌, Bool, true, false, Option, Some, IsSome, Result, Ok}
-use Rattle.std.specs.Prelude.{Err}
+use Rattle.std.specs.Prelude.{◌≡◌, ◌≢◌, ◌⊎◌, ℕ, Bool, true, false, Option, None, Some, IsSome}
+use Rattle.std.specs.Prelude.{Result, Ok, Err}
 use Rattle.std.specs.Prelude.{string_bytes, ⊤}
 use Rattle.streetmap_batch.specs.Text.{Text}
 use Rattle.streetmap_batch.specs.BatchValue.{BatchValue}
@@ -12,10 +12,14 @@ use Rattle.streetmap_ledger.specs.declared.reply.Cause.TheVariants as causes
 use Rattle.streetmap_ledger.specs.declared.reply.Fault.{Fault}
 use Rattle.streetmap_ledger.specs.declared.reply.Fault.TheVariants as faults
 use Rattle.streetmap_ledger.specs.declared.reply.Reply.{Reply}
+use Rattle.streetmap_ledger.specs.declared.reply.Reply.TheVariants.{Accepted, Repeated, Refused}
 use Rattle.streetmap_routes.specs.Operations.{OperationValue, batch}
-use Rattle.streetmap_web.specs.Response.{ResponseValue, response_in, response_shut, state_in}
-use Rattle.streetmap_web.specs.Response.{needs_state, fault_response, response_text}
-use Rattle.streetmap_web.specs.Response.{replied, RequestValue, AnswerSent, sent_as, sent_so}
+use Rattle.streetmap_http.specs.Preconditions.{PreconditionsValue}
+use Rattle.streetmap_web.specs.Site.{SiteValue}
+use Rattle.streetmap_web.specs.Response.{ResponseValue, Wanted, response_to, response_shut}
+use Rattle.streetmap_web.specs.Response.{state_to, needs_state, fault_response, response_text}
+use Rattle.streetmap_web.specs.Response.{replied, tagged, changed, RequestValue, AnswerSent}
+use Rattle.streetmap_web.specs.Response.{sent_as, sent_so}
 use Rattle.streetmap_web.specs.Conditions.{Condition, RequestOutcome, device_failed, answer_by}
 use Rattle.streetmap_web.specs.Conditions.{after}
 use Rattle.streetmap_web.specs.Conditions.{CanBe, Leaves, ByCalls, IsInCondition}
@@ -31,9 +35,9 @@ abbrev pub response_value : Response → ResponseValue
 response_value b = record {
   status = b.status;
   kind = b.kind;
+  tag = b.tag;
   allow = b.allow;
-  body = string_bytes
-      b.body;
+  body = string_bytes b.body;
 }
 
 -- the response has this value
@@ -49,22 +53,22 @@ IsSentFor request r p = sent_so (answer_text r.0) r.1 ≡ sent_as request p
 
 -- a fault of a keeper that represented a state: memory ran out and it still does; or the store
 -- failed and shut it, and a crash leaves the state before the request or the one after it
-abbrev pub FaultsIn : {K : Type 0} → Model K → State → OperationValue → (old new : K) → Fault
-    → Type 0
-FaultsIn model s operation old new faults.Memory = model.represents new s
-FaultsIn model s operation old new faults.Device = (needs_state operation ≡ true)
+abbrev pub FaultsIn : {K : Type 0} → Model K → State → OperationValue → (next : State)
+    → (old new : K) → Fault → Type 0
+FaultsIn model s operation next old new faults.Memory = model.represents new s
+FaultsIn model s operation next old new faults.Device = (needs_state operation ≡ true)
     × (model.cause new ≡ Some causes.Device) × model.fails old new
-    × LeavesEither (model.may_leave new) (Some s) (Some (state_in s operation))
-FaultsIn model s operation old new faults.Damaged = ⊥
-FaultsIn model s operation old new faults.Reopen = ⊥
+    × LeavesEither (model.may_leave new) (Some s) (Some next)
+FaultsIn model s operation next old new faults.Damaged = ⊥
+FaultsIn model s operation next old new faults.Reopen = ⊥
 
--- of a keeper that represented a state: the response of the state, or the fault that is to be
--- answered
-abbrev pub RespondsIn : {K A : Type 0} → Model K → Text → State → OperationValue
-    → (A → ResponseValue → Type 0) → (old new : K) → Result A Fault → Type 0
-RespondsIn model root s operation Is old new (Ok r) =
-    Is r (response_in root s operation) × model.represents new (state_in s operation)
-RespondsIn model root s operation Is old new (Err fault) = FaultsIn model s operation old new fault
+-- of a keeper that represented a state: this response, and the keeper represents the next state;
+-- or the fault that is to be answered
+abbrev pub RespondsIn : {K A : Type 0} → Model K → State → OperationValue → ResponseValue
+    → (next : State) → (A → ResponseValue → Type 0) → (old new : K) → Result A Fault → Type 0
+RespondsIn model s operation answer next Is old new (Ok r) = Is r answer × model.represents new next
+RespondsIn model s operation answer next Is old new (Err fault) =
+    FaultsIn model s operation next old new fault
 
 -- a fault with a shut keeper: memory ran out, or it is the response
 abbrev pub FaultsShut : Text → OperationValue → Fault → Type 0
@@ -101,57 +105,102 @@ RespondsAny root operation Is (Ok r) cause =
     (shown : ResponseValue) × IsShown root operation shown × Is r shown
 RespondsAny root operation Is (Err fault) cause = FaultsAny operation fault cause
 
+-- ---- batches
+
+-- `apply` led from the first keeper to the second with this result, after reads if there are
+-- conditions
+abbrev pub AppliesBy : {K : Type 0} → Model K → Option PreconditionsValue → (old : K) → BatchValue
+    → Result Reply Fault → (new : K) → Type 0
+AppliesBy model None old b r new = model.applies old b r new
+AppliesBy {K} model (Some p) old b r new = (mid : K) × ByCalls model old mid
+    × model.applies mid b r new
+
+-- `apply` was not called: no call was made, or reads if there are conditions
+abbrev pub IsUncalled : {K : Type 0} → Model K → Option PreconditionsValue → (old new : K) → Type 0
+IsUncalled model None old new = new ≡ old
+IsUncalled model (Some p) old new = ByCalls model old new
+
+-- the number of a tag is the serial of a batch that was accepted
+abbrev pub IsSerialOf : Reply → ℕ → Type 0
+IsSerialOf (Accepted counts serial) n = n ≡ serial
+IsSerialOf (Repeated counts serial) n = ⊤
+IsSerialOf (Refused refusal place) n = ⊤
+
+-- the answer with this reply to the batch of this key, with a tag if there are conditions
+abbrev pub IsReplied : Option PreconditionsValue → Text → Reply → ResponseValue → Type 0
+IsReplied None key reply p = p ≡ replied key reply
+IsReplied (Some conditions) key reply p = (n : ℕ) × IsSerialOf reply n
+    × (p ≡ tagged n (replied key reply))
+
+-- a fault without a call of `apply`: memory ran out, or a read failed if there are conditions
+abbrev pub MayFail : Option PreconditionsValue → Fault → Type 0
+MayFail None fault = fault ≡ faults.Memory
+MayFail (Some conditions) fault = ⊤
+
 -- a batch by what the keeper returned: its reply is the response, and its fault is to be answered;
--- `uncalled` says that the keeper was never called, and then memory ran out
-abbrev pub RespondsToBatch : {A : Type 0} → Text → (A → ResponseValue → Type 0) → Result A Fault
-    → (applies : Result Reply Fault → Type 0) → (uncalled : Type 0) → Type 0
-RespondsToBatch key Is (Ok r) applies uncalled =
-    (reply : Reply) × applies (Ok reply) × Is r (replied key reply)
-RespondsToBatch key Is (Err fault) applies uncalled =
-    applies (Err fault) ⊎ (uncalled × (fault ≡ faults.Memory))
+-- `uncalled` says that `apply` was not called, and then there is such a fault, or a condition does
+-- not hold
+abbrev pub RespondsToBatch : {A : Type 0} → Text → Option PreconditionsValue
+    → (A → ResponseValue → Type 0) → Result A Fault → (applies : Result Reply Fault → Type 0)
+    → (uncalled : Type 0) → Type 0
+RespondsToBatch key conditions Is (Ok r) applies uncalled =
+    ((reply : Reply) × (p : ResponseValue) × applies (Ok reply) × IsReplied conditions key reply p
+    × Is r p)
+    ⊎ (IsSome conditions × uncalled × Is r changed)
+RespondsToBatch key conditions Is (Err fault) applies uncalled =
+    applies (Err fault) ⊎ (uncalled × MayFail conditions fault)
 
 -- A request was responded to between two keepers, or this fault is to be answered: by the condition
 -- of the first, by the result of `apply` if it is a batch, and over a shut keeper with what a crash
 -- could leave before. `Is` says which value the result has.
-pub record Responds {K A : Type 0} (model : Model K) (root : Text) (operation : OperationValue)
+pub record Responds {K A : Type 0} (model : Model K) (root : Text) (wanted : Wanted)
     (Is : A → ResponseValue → Type 0) (old new : K) (result : Result A Fault) : Type 0 where
   pub calls : ByCalls model old new
   pub in_state : model.is_clean new → (s : State) → model.represents old s
-      → RespondsIn model root s operation Is old new result
-  pub shut : (why : Cause) → model.cause old ≡ Some why → RespondsShut root operation Is result
+      → RespondsIn model s wanted.operation (response_to root s wanted) (state_to s wanted) Is
+      old new result
+  pub shut : (why : Cause) → model.cause old ≡ Some why
+      → RespondsShut root wanted.operation Is result
       × (model.cause new ≡ Some why) × LeavesSame (model.may_leave old) (model.may_leave new)
-  pub any : RespondsAny root operation Is result (model.cause new)
-  pub to_batch : (b : BatchValue) → operation ≡ batch b
-      → RespondsToBatch b.key Is result (λ r. model.applies old b r new) (new ≡ old)
+  pub any : RespondsAny root wanted.operation Is result (model.cause new)
+  pub to_batch : (b : BatchValue) → wanted.operation ≡ batch b
+      → RespondsToBatch b.key wanted.conditions Is result
+      (λ r. AppliesBy model wanted.conditions old b r new)
+      (IsUncalled model wanted.conditions old new)
 
 -- the same of a request whose answer has its head
 abbrev pub Sends : {K : Type 0} → Model K → Text → RequestValue → (old new : K)
     → Result (Answer × Bool) Fault → Type 0
 Sends model root request old new result =
-    Responds model root request.operation (IsSentFor request) old new result
+    Responds model root request.wanted (IsSentFor request) old new result
 
--- ---- batches
-
--- The answer to a batch: the reply of the keeper, whatever it is, or its fault; or that memory ran
--- out, if the keeper was never called. The connection closes after a fault, by its status.
+-- The answer to a batch: the reply of the keeper, whatever it is, or its fault; or, if `apply` was
+-- not called, that memory ran out, that a read failed or that a condition does not hold. The
+-- connection closes after a fault, by its status.
 pub data BatchAnswers (key : Text) (request : RequestValue) (sent : AnswerSent)
     (applies : Result Reply Fault → Type 0) (uncalled : Type 0) : Type 0 where
-  by_reply : (reply : Reply) → applies (Ok reply) → sent ≡ sent_as request (replied key reply)
+  by_reply : (reply : Reply) (p : ResponseValue) → applies (Ok reply)
+      → IsReplied request.wanted.conditions key reply p → sent ≡ sent_as request p
       → BatchAnswers key request sent applies uncalled
   by_fault : (fault : Fault) → applies (Err fault)
       → sent ≡ sent_as request (fault_response (Keeper fault))
       → BatchAnswers key request sent applies uncalled
-  by_none : uncalled → sent ≡ sent_as request (fault_response (Keeper faults.Memory))
+  by_none : (fault : Fault) → uncalled → MayFail request.wanted.conditions fault
+      → sent ≡ sent_as request (fault_response (Keeper fault))
+      → BatchAnswers key request sent applies uncalled
+  by_condition : IsSome request.wanted.conditions → uncalled → sent ≡ sent_as request changed
       → BatchAnswers key request sent applies uncalled
 
 -- if the request is a batch: it is answered as the first keeper answered it, and the second is the
--- keeper after that; or the keeper was never called, is as it was, and memory ran out
+-- keeper after that; or `apply` was not called
 abbrev pub AnswersBatch :
     {K : Type 0} (model : Model K) (request : RequestValue) (sent : AnswerSent) (old new : K)
     → Type 0
 AnswersBatch model request sent old new =
-    (b : BatchValue) → request.operation ≡ batch b
-    → BatchAnswers b.key request sent (λ r. model.applies old b r new) (new ≡ old)
+    (b : BatchValue) → request.wanted.operation ≡ batch b
+    → BatchAnswers b.key request sent
+    (λ r. AppliesBy model request.wanted.conditions old b r new)
+    (IsUncalled model request.wanted.conditions old new)
 
 -- ---- a request
 
@@ -160,34 +209,33 @@ AnswersBatch model request sent old new =
 -- `Leaves` allows. A batch was answered by the result of `apply` between them, or the keeper was
 -- never called and is as it was. If the answer is that the device failed, the store failed; and if
 -- a request that needs the state is answered with status 500, the second keeper is shut.
-pub record ComesOut {K : Type 0} (model : Model K) (root : Text) (x : Condition)
+pub record ComesOut {K : Type 0} (model : Model K) (site : SiteValue) (x : Condition)
     (request : RequestValue) (outcome : RequestOutcome) (sent : AnswerSent) (old new : K)
     : Type 0 where
-  pub can : CanBe x request.operation outcome
-  pub sent_is : sent ≡ sent_as request (answer_by root x request.operation outcome)
-  pub condition : IsInCondition model new (after x request.operation outcome)
-  pub leaves : Leaves x request.operation outcome (model.may_leave old) (model.may_leave new)
+  pub can : CanBe x request.wanted outcome
+  pub sent_is : sent ≡ sent_as request (answer_by site x request.wanted outcome)
+  pub condition : IsInCondition model new (after x request.wanted outcome)
+  pub leaves : Leaves x request.wanted outcome (model.may_leave old) (model.may_leave new)
   pub batch_answered : AnswersBatch model request sent old new
   pub device : outcome ≡ device_failed → model.fails old new
   pub shuts :
-      needs_state request.operation ≡ true → (answer_by root x request.operation outcome).status ≡
-      500
-      → IsSome (model.cause new)
+      needs_state request.wanted.operation ≡ true
+      → (answer_by site x request.wanted outcome).status ≡ 500 → IsSome (model.cause new)
 
 -- the request was answered, with some outcome
 abbrev pub AnswersOperation :
-    {K : Type 0} (model : Model K) (root : Text) (x : Condition) (request : RequestValue)
+    {K : Type 0} (model : Model K) (site : SiteValue) (x : Condition) (request : RequestValue)
     (sent : AnswerSent) (old new : K) → Type 0
-AnswersOperation model root x request sent old new =
-    (outcome : RequestOutcome) × ComesOut model root x request outcome sent old new
+AnswersOperation model site x request sent old new =
+    (outcome : RequestOutcome) × ComesOut model site x request outcome sent old new
 
 -- a request was answered by the first keeper, this was sent for it, and the second is the keeper
 -- after it
-pub record Answers {K : Type 0} (model : Model K) (root : Text) (request : RequestValue)
+pub record Answers {K : Type 0} (model : Model K) (site : SiteValue) (request : RequestValue)
     (sent : AnswerSent) (old new : K) : Type 0 where
   pub calls : ByCalls model old new
   pub answered : model.is_clean new → (x : Condition) → IsInCondition model old x
-      → AnswersOperation model root x request sent old new
+      → AnswersOperation model site x request sent old new
   pub batch_answered : AnswersBatch model request sent old new
 
 -- ---- broken rules

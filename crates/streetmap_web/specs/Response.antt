@@ -1,6 +1,6 @@
 -- The answer to a request, and the state after it.
 use Rattle.std.specs.Prelude.{ℕ, ◌++◌, [], Bool, true, false, ◌||◌, Option, None, Some}
-use Rattle.std.specs.Prelude.{if◌then◌else◌, length, ◌==◌}
+use Rattle.std.specs.Prelude.{if◌then◌else◌, length, ◌==◌, ◌&&◌, not}
 use Rattle.serde_json.specs.Written.{compact_text}
 use Rattle.streetmap_http.specs.AnswerHead.{head_text}
 use Rattle.streetmap_http.specs.declared.answer_head.AnswerHead.{AnswerHead}
@@ -9,11 +9,18 @@ use Rattle.streetmap_http.specs.declared.answer_head.MediaType.TheVariants.{Json
 use Rattle.streetmap_http.specs.declared.answer_head.Methods.{Methods}
 use Rattle.streetmap_http.specs.declared.fault.FramingFault.{FramingFault}
 use Rattle.streetmap_http.specs.Framing.{HeadValue, is_bare}
+use Rattle.streetmap_http.specs.Preconditions.{PreconditionsValue, if_match_of, if_none_match_of}
+use Rattle.streetmap_http.specs.Preconditions.{are_readable}
+use Rattle.streetmap_http.specs.declared.matching.Matching.{Matching}
+use Rattle.streetmap_http.specs.declared.matching.Matching.TheVariants.{Matches, Differs}
 use Rattle.streetmap_geojson.specs.FeatureValue.{FeatureValue}
 use Rattle.streetmap_query.specs.QueryValue.{QueryValue}
 use Rattle.streetmap_batch.specs.Text.{Text}
+use Rattle.streetmap_batch.specs.BatchValue.{BatchValue}
 use Rattle.streetmap_ledger.specs.State.{State}
 use Rattle.streetmap_ledger.specs.Batches.{act}
+use Rattle.streetmap_ledger.specs.Kept.{batch_count}
+use Rattle.streetmap_tags.specs.Keys.{is_used}
 use Rattle.streetmap_ledger.specs.Pages.{PageValue, page_in, feature_in}
 use Rattle.streetmap_ledger.specs.Summaries.{SummaryValue, summary_in, summaries_in}
 use Rattle.streetmap_ledger.specs.declared.reply.Reply.{Reply}
@@ -30,11 +37,14 @@ use Rattle.streetmap_bodies.specs.Replies.{reply_body}
 use Rattle.streetmap_bodies.specs.RequestFaults.{status_of, allow_of, fault_body}
 use Rattle.streetmap_bodies.specs.declared.request_fault.RequestFault.{RequestFault}
 use Rattle.streetmap_bodies.specs.declared.request_fault.RequestFault.TheVariants as faults
+use Rattle.streetmap_web.specs.declared.verdict.Verdict.{Verdict}
+use Rattle.streetmap_web.specs.declared.verdict.Verdict.TheVariants.{Holds, NotModified, Changed}
 
 -- an answer without its head
 pub record ResponseValue : Type 0 where
   pub status : ℕ
   pub kind : MediaType
+  pub tag : Option ℕ
   pub allow : Option Methods
   pub body : Text
 
@@ -43,14 +53,14 @@ unfoldable pub fault_response : RequestFault → ResponseValue
 fault_response fault = record {
   status = status_of fault;
   kind = Json;
+  tag = None;
   allow = allow_of fault;
-  body
-      = compact_text (fault_body fault);
+  body = compact_text (fault_body fault);
 }
 
 -- a resource that exists
 abbrev pub found : MediaType → Text → ResponseValue
-found kind body = record { status = 200; kind = kind; allow = None; body = body }
+found kind body = record { status = 200; kind = kind; tag = None; allow = None; body = body }
 
 -- no such resource exists
 abbrev pub not_found : ResponseValue
@@ -82,9 +92,9 @@ abbrev pub replied : Text → Reply → ResponseValue
 replied key reply = record {
   status = reply_status reply;
   kind = Json;
+  tag = None;
   allow = None;
-  body
-      = compact_text (reply_body key reply);
+  body = compact_text (reply_body key reply);
 }
 
 -- the answer in a state; root is the base of links without its last slash
@@ -130,6 +140,96 @@ abbrev pub state_in : State → OperationValue → State
 state_in s (batch b) = (act s b).state
 state_in s _ = s
 
+-- ---- under conditions
+
+-- what a request wants: an operation, and, if the service gives tags, its conditions
+pub record Wanted : Type 0 where
+  pub operation : OperationValue
+  pub conditions : Option PreconditionsValue
+
+-- an operation, of a service that gives no tags
+abbrev pub plainly : OperationValue → Wanted
+plainly operation = record { operation = operation; conditions = None }
+
+-- an answer of status 200, with the tag of this number
+abbrev pub tagged : ℕ → ResponseValue → ResponseValue
+tagged n p = if p.status == 200 then record p { tag = Some n } else p
+
+-- in place of an answer of status 200
+abbrev pub instead : ResponseValue → ResponseValue → ResponseValue
+instead p other = if other.status == 200 then p else other
+
+-- the client has what would be answered; RFC 9110, section 15.4.5
+abbrev pub not_modified : ℕ → ResponseValue
+not_modified n = record { status = 304; kind = Json; tag = Some n; allow = None; body = [] }
+
+-- a condition does not hold; RFC 9110, section 15.5.13
+abbrev pub changed : ResponseValue
+changed = fault_response faults.Changed
+
+-- whether the operation is a batch
+abbrev pub is_batch : OperationValue → Bool
+is_batch (batch b) = true
+is_batch _ = false
+
+-- by what `If-Match` and then `If-None-Match` say of the state's tag; RFC 9110, section 13.2.2
+abbrev pub verdict_by : (one other : Matching) → (acts : Bool) → Verdict
+verdict_by Differs other acts = Changed
+verdict_by _ Matches true = Changed
+verdict_by _ Matches false = NotModified
+verdict_by _ _ acts = Holds
+
+-- the verdict on a state of this tag
+abbrev pub verdict_on : ℕ → PreconditionsValue → OperationValue → Verdict
+verdict_on n p operation =
+    verdict_by (if_match_of n p) (if_none_match_of n p) (is_batch operation)
+
+-- what is answered to a read, by the verdict on this tag
+abbrev pub read_judged : ℕ → ResponseValue → Verdict → ResponseValue
+read_judged n p Holds = tagged n p
+read_judged n p NotModified = instead (not_modified n) p
+read_judged n p Changed = instead changed p
+
+-- What is answered to a batch, by the verdict. One whose key is used is answered as ever, since it
+-- changes nothing; otherwise one whose condition does not hold is not acted on.
+abbrev pub batch_judged : State → BatchValue → Verdict → ResponseValue
+batch_judged s b Holds = tagged (batch_count (act s b).state) (replied b.key (act s b).reply)
+batch_judged s b _ =
+    if is_used s b.key then tagged (batch_count s) (replied b.key (act s b).reply) else changed
+
+-- the answer in a state, by the verdict
+abbrev pub judged : Text → State → OperationValue → Verdict → ResponseValue
+judged root s (batch b) verdict = batch_judged s b verdict
+judged root s operation verdict =
+    read_judged (batch_count s) (response_in root s operation) verdict
+
+-- the state afterwards
+abbrev pub state_by : State → OperationValue → Verdict → State
+state_by s operation Holds = state_in s operation
+state_by s operation _ = s
+
+-- the answer in a state, under conditions if the service gives tags
+abbrev pub response_under : Text → State → OperationValue → Option PreconditionsValue
+    → ResponseValue
+response_under root s operation None = response_in root s operation
+response_under root s operation (Some p) =
+    if needs_state operation then judged root s operation (verdict_on (batch_count s) p operation)
+    else response_in root s operation
+
+-- and the state afterwards
+abbrev pub state_under : State → OperationValue → Option PreconditionsValue → State
+state_under s operation None = state_in s operation
+state_under s operation (Some p) =
+    state_by s operation (verdict_on (batch_count s) p operation)
+
+-- what is answered to what is wanted
+abbrev pub response_to : Text → State → Wanted → ResponseValue
+response_to root s wanted = response_under root s wanted.operation wanted.conditions
+
+-- and the state afterwards
+abbrev pub state_to : State → Wanted → State
+state_to s wanted = state_under s wanted.operation wanted.conditions
+
 -- whether the connection closes after an answer; the flag says whether the request closes it
 abbrev pub closes_with : Bool → ResponseValue → Bool
 closes_with requested p = requested || (p.status == 500 || p.status == 503)
@@ -140,6 +240,7 @@ head_of closes p = record {
   status = p.status;
   kind = p.kind;
   len = length p.body;
+  tag = p.tag;
   allow = p.allow;
   closes = closes;
 }
@@ -157,23 +258,32 @@ response_text closes bare p = head_text (head_of closes p) ++ body_of bare p.bod
 -- a request: what it wants, whether it wants the connection closed, and whether its answer has
 -- no body
 pub record RequestValue : Type 0 where
-  pub operation : OperationValue
+  pub wanted : Wanted
   pub closes : Bool
   pub bare : Bool
 
--- that of a head and a body
-abbrev pub request_of : HeadValue → Text → RequestValue
-request_of h body = record {
-  operation = operation_of h.method h.target body;
+-- under conditions that can be read, if the operation needs the state
+abbrev pub readable_under : PreconditionsValue → OperationValue → Wanted
+readable_under p operation =
+    if needs_state operation && not (are_readable p) then plainly (faulty faults.BadCondition)
+    else record { operation = operation; conditions = Some p }
+
+-- under conditions, if the service gives tags
+abbrev pub wanted_of : (tags : Bool) → PreconditionsValue → OperationValue → Wanted
+wanted_of tags p operation = if tags then readable_under p operation else plainly operation
+
+-- that of a head and a body, of a service that gives tags or not
+abbrev pub request_of : (tags : Bool) → HeadValue → Text → RequestValue
+request_of tags h body = record {
+  wanted = wanted_of tags h.preconditions (operation_of h.method h.target body);
   closes = h.closes;
-  bare = is_bare
-      h.method;
+  bare = is_bare h.method;
 }
 
 -- one that breaks a rule of framing; the connection closes after its answer
 abbrev pub broken_request : Bool → FramingFault → RequestValue
 broken_request bare fault = record {
-  operation = faulty (faults.Framing fault);
+  wanted = plainly (faulty (faults.Framing fault));
   closes = true;
   bare = bare;
 }

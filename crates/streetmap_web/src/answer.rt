@@ -5,27 +5,40 @@ ghost use Rattle.streetmap_connections.specs.Answers.{answer_text};
 ghost use Rattle.streetmap_http.specs.AnswerHead.{head_text};
 ghost use Rattle.streetmap_routes.specs.BaseView.{root_of};
 ghost use Rattle.streetmap_http.specs.FramingView.{head_value};
+ghost use Rattle.streetmap_web.specs.Site.{site_value};
 ghost use Rattle.streetmap_web.specs.Response.{response_text, head_of, fault_response};
-ghost use Rattle.streetmap_web.specs.Response.{request_of, sent_so};
+ghost use Rattle.streetmap_web.specs.Response.{request_of, sent_so, body_of};
 ghost use Rattle.streetmap_web.specs.Responds.{response_value, Sends, Answers, RefusesBy};
 ghost use Rattle.streetmap_bodies.specs.declared.request_fault.RequestFault.TheVariants.{Framing};
 ghost use Rattle.streetmap_bodies.specs.declared.request_fault.RequestFault.TheVariants as faults;
 
-use crate::respond::{faulty, respond_to};
+use crate::conditional::{respond, wanted_of};
+use crate::respond::faulty;
 use crate::response::Response;
+use crate::site::Site;
 use http::StatusCode;
 use std::alloc::{AllocError, Global};
 use streetmap_bodies::RequestFault;
 use streetmap_connections::Answer;
 use streetmap_http::{AnswerHead, FramingFault, RequestHead, is_bare, push_head};
-use streetmap_ledger::{Fault, Keeper};
-use streetmap_routes::Base;
+use streetmap_ledger::Fault;
+use streetmap_tags::Tagged;
 
 /// The room that is allocated for the head of an answer.
 const HEAD_ROOM: usize = 256;
 
+/// The body that is sent: none if the answer is bare.
+fn sent_body(body: String, bare: bool) -> String
+    ensures { string_bytes result ≡ body_of bare (string_bytes body) }
+{
+    let mut body = body;
+    if bare {
+        body.clear();
+    }
+    body
+}
+
 /// Puts the head before a body, in room that was allocated before.
-#[tactic(auto, unfolding(crate::specs::Response::response_text))]
 fn finish(room: String, response: Response, closes: bool, bare: bool) -> Answer
     requires room { 256 ≤ string_capacity room }
     requires blank { string_bytes room ≡ [] }
@@ -36,24 +49,22 @@ fn finish(room: String, response: Response, closes: bool, bare: bool) -> Answer
     let Response {
         status,
         kind,
+        tag,
         allow,
         body,
     } = response;
-    let mut body = body;
     push_head(
         &mut head,
         AnswerHead {
             status,
             kind,
             len: body.len() as u64,
+            tag,
             allow,
             closes,
         },
     );
-    if bare {
-        body.clear();
-    }
-    Answer::Made(head, body)
+    Answer::Made(head, sent_body(body, bare))
 }
 
 /// The head of the answer with a keeper's fault.
@@ -99,54 +110,62 @@ pub(crate) fn fixed(fault: Fault, bare: bool) -> Answer
 }
 
 /// Whether a status closes the connection.
-fn closes(status: StatusCode) -> bool
+fn is_closing(status: StatusCode) -> bool
     ensures { result ≡ (status == 500 || status == 503) }
 {
     status.as_u16() == 500 || status.as_u16() == 503
 }
 
+/// Whether the connection closes after an answer, by what the request wants and by the status.
+fn closes(requested: bool, status: StatusCode) -> bool
+    ensures { result ≡ (requested || (status == 500 || status == 503)) }
+{
+    requested || is_closing(status)
+}
+
 /// Answers a request, unless a fault prevents it.
-fn try_answer<K: Keeper>(
+fn try_answer<K: Tagged>(
     alloc: Global,
     keeper: &mut K,
-    base: &Base,
+    site: &Site,
     request: RequestHead,
     body: &[u8],
 ) -> Result<(Answer, bool), Fault>
-    ensures { Sends K.model (root_of base.now)
-        (request_of (head_value request.entry) body.now) keeper.old keeper.new result }
+    ensures { Sends K.model (root_of site.now.base)
+        (request_of site.now.tags (head_value request.entry) body.now)
+        keeper.old keeper.new result }
 {
     let Ok(room) = String::with_capacity(alloc, HEAD_ROOM) else {
         return Err(Fault::Memory);
     };
+    let base = &site.base;
     let Ok(operation) = base.operation(alloc, request.method, request.target, body) else {
         return Err(Fault::Memory);
     };
-    match respond_to(alloc, keeper, base.root(), &operation) {
+    let wanted = wanted_of(site.tags, request.preconditions, operation);
+    match respond(alloc, keeper, base.root(), &wanted) {
         Ok(response) => {
-            let closes = request.closes || closes(response.status);
-            Ok((
-                finish(room, response, closes, is_bare(request.method)),
-                closes,
-            ))
+            let closing = closes(request.closes, response.status);
+            let bare = is_bare(request.method);
+            Ok((finish(room, response, closing, bare), closing))
         }
         Err(fault) => Err(fault),
     }
 }
 
 /// Answers a request. Returns the bytes, and whether the connection closes.
-pub(crate) fn answer_to<K: Keeper>(
+pub(crate) fn answer_to<K: Tagged>(
     alloc: Global,
     keeper: &mut K,
-    base: &Base,
+    site: &Site,
     request: RequestHead,
     body: &[u8],
 ) -> (Answer, bool)
-    ensures { Answers K.model (root_of base.now)
-        (request_of (head_value request.entry) body.now)
+    ensures { Answers K.model (site_value site.now)
+        (request_of site.now.tags (head_value request.entry) body.now)
         (sent_so (answer_text result.0) result.1) keeper.old keeper.new }
 {
-    match try_answer(alloc, keeper, base, request, body) {
+    match try_answer(alloc, keeper, site, request, body) {
         Ok(answer) => answer,
         Err(fault) => (fixed(fault, is_bare(request.method)), true),
     }

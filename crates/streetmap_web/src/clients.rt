@@ -1,6 +1,6 @@
 //! Many clients over a listener.
 ghost use Rattle.std.specs.Prelude.{◌≡◌, ◌≤◌, length, IsErrOf, IsOk};
-ghost use Rattle.streetmap_routes.specs.BaseView.{root_of};
+ghost use Rattle.streetmap_web.specs.Site.{site_value};
 ghost use Rattle.streetmap_web.specs.Conditions.{Condition, IsInCondition, ByCalls};
 ghost use Rattle.streetmap_connections.specs.Served.{ended_of, slots_of, LetsInUpTo};
 ghost use Rattle.streetmap_web.specs.ServedClients.{ServesClients, ServesInRow};
@@ -12,7 +12,7 @@ use std::io::Write;
 use std::net::{Net, TcpListener};
 use std::time::Clock;
 use streetmap_connections::{Clients, Limits, ServeFault, serve_connections};
-use streetmap_ledger::Keeper;
+use streetmap_tags::Tagged;
 
 /// Serves clients of a listener over a keeper, many at once, until `count` of them ended.
 ///
@@ -24,7 +24,7 @@ use streetmap_ledger::Keeper;
 ///
 /// `Net` if no client can be accepted while none is served, or sockets cannot be waited for, and
 /// `Memory` if memory runs out for what is waited for.
-pub fn serve_clients<R: Net + Clock, K: Keeper, W: Write>(
+pub fn serve_clients<R: Net + Clock, K: Tagged, W: Write>(
     rt: &R,
     listener: &TcpListener,
     count: u64,
@@ -36,11 +36,11 @@ pub fn serve_clients<R: Net + Clock, K: Keeper, W: Write>(
     // its end before the next was answered at all.
     ensures serves { K.model.is_clean service.new.keeper → (x : Condition) →
         IsInCondition K.model service.old.keeper x →
-        ServesClients K.model (root_of service.old.base) x service.old.keeper service.new.keeper
+        ServesClients K.model (site_value service.old.site) x service.old.keeper service.new.keeper
         (slots_of clients.old) (slots_of clients.new) }
     // All else that the store has is kept.
     ensures calls { ByCalls K.model service.old.keeper service.new.keeper }
-    ensures base { service.new.base ≡ service.old.base }
+    ensures site { service.new.site ≡ service.old.site }
     ensures counted { IsOk result → count ≤ length (ended_of clients.new) }
     // No more are admitted.
     ensures few { LetsInUpTo count clients.old clients.new }
@@ -57,7 +57,7 @@ pub fn serve_clients<R: Net + Clock, K: Keeper, W: Write>(
 /// # Errors
 ///
 /// As `serve_clients`, and `Memory` if memory runs out for a client.
-pub fn serve_count<R: Net + Clock, K: Keeper, W: Write>(
+pub fn serve_count<R: Net + Clock, K: Tagged, W: Write>(
     rt: &R,
     listener: &TcpListener,
     count: u64,
@@ -66,11 +66,11 @@ pub fn serve_count<R: Net + Clock, K: Keeper, W: Write>(
     // If the store was clean: the requests of the clients, one client after the other.
     ensures serves { K.model.is_clean service.new.keeper → (x : Condition) →
         IsInCondition K.model service.old.keeper x →
-        ServesInRow K.model (root_of service.old.base) x service.old.keeper service.new.keeper
+        ServesInRow K.model (site_value service.old.site) x service.old.keeper service.new.keeper
         count (IsOk result) }
     // All else that the store has is kept.
     ensures calls { ByCalls K.model service.old.keeper service.new.keeper }
-    ensures base { service.new.base ≡ service.old.base }
+    ensures site { service.new.site ≡ service.old.site }
 {
     let mut clients = Clients::new(service.alloc, Limits::in_turn())?;
     serve_clients(rt, listener, count, &mut clients, service)

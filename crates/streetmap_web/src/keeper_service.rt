@@ -2,7 +2,7 @@
 ghost use Rattle.std.specs.Prelude.{◌≡◌, ◌≤◌, length, take};
 ghost use Rattle.streetmap_connections.specs.Cuts.{IfWhole, IfWaits, HasNone, HasNoneBefore};
 ghost use Rattle.streetmap_http.specs.Arrivals.{IsAnswered};
-ghost use Rattle.streetmap_routes.specs.BaseView.{root_of};
+ghost use Rattle.streetmap_web.specs.Site.{site_value};
 ghost use Rattle.streetmap_web.specs.Response.{sent_so};
 ghost use Rattle.streetmap_web.specs.AnsweredRequests.{AnswersOne};
 ghost use Rattle.streetmap_web.specs.Refusals.{IsFrontBare, IsRefusal};
@@ -11,22 +11,23 @@ ghost use Rattle.streetmap_web.specs.StoreWatch.{IsOver};
 use crate::answer::fixed;
 use crate::log::log_request;
 use crate::requests::answer_request;
+use crate::site::Site;
 use crate::watch::Watch;
 use httparse::spans::EMPTY_HEADER_SPAN;
 use std::alloc::Global;
 use std::io::Write;
 use streetmap_connections::{Answer, Cut, Service};
 use streetmap_http::{Arrival, FIELD_LIMIT, Framed, HeadScan, arrival_of, frame_of, is_bare};
-use streetmap_ledger::{Fault, Keeper};
-use streetmap_routes::Base;
+use streetmap_ledger::Fault;
+use streetmap_tags::Tagged;
 
-/// A keeper, the base of the links in its answers, the writer of a line for each answer, if any,
+/// A keeper, what its service is on the web, the writer of a line for each answer, if any,
 /// and what is done once the keeper's store has failed.
 #[derive(Drop)]
 pub struct KeeperService<K, W> {
     pub alloc: Global,
     pub keeper: K,
-    pub base: Base,
+    pub site: Site,
     pub log: Option<W>,
     pub watch: Watch<W>,
 }
@@ -59,11 +60,11 @@ fn is_front_bare(input: &[u8]) -> bool
     }
 }
 
-impl<K: Keeper, W: Write> Service for KeeperService<K, W> {
+impl<K: Tagged, W: Write> Service for KeeperService<K, W> {
     ghost is_request = { IsAnswered };
 
-    ghost answers = { λ old request text closes new. (new.base ≡ old.base)
-        × AnswersOne K.model (root_of old.base) old.keeper request (sent_so text closes)
+    ghost answers = { λ old request text closes new. (new.site ≡ old.site)
+        × AnswersOne K.model (site_value old.site) old.keeper request (sent_so text closes)
         new.keeper };
 
     ghost refuses = { IsRefusal };
@@ -75,7 +76,7 @@ impl<K: Keeper, W: Write> Service for KeeperService<K, W> {
     }
 
     fn answer(&mut self, request: &[u8]) -> (Answer, bool) {
-        let (answer, closes) = answer_request(self.alloc, &mut self.keeper, &self.base, request);
+        let (answer, closes) = answer_request(self.alloc, &mut self.keeper, &self.site, request);
         log_request(self.alloc, &mut self.log, request, &answer);
         self.watch.note(&answer);
         (answer, closes)

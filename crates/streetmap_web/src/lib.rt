@@ -13,23 +13,31 @@
 //! serves the clients of a listener in this way: many at once, or one after the other, as
 //! `serve_count` does.
 //!
-//! Modules, in the order of reading: `response`, `respond` (the answer in a state), `answer` (with
-//! its head), `requests` (the bytes of one), `turns` (a stream); `log`, `watch`, `keeper_service`
-//! (a request of a client), `clients`.
+//! A service may give tags (`Site`): then an answer that needs the state has the tag of it, and a
+//! request may have conditions on the tag (`specs/Response`, `response_to`).
+//!
+//! Modules, in the order of reading: `site`, `response`, `respond` (the answer in a state),
+//! `verdict` and `conditional` (the same under conditions), `answer` (with its head), `requests`
+//! (the bytes of one), `turns` (a stream); `log`, `watch`, `keeper_service` (a request of a
+//! client), `clients`.
 #![tactic(auto)]
 
 mod answer;
 mod clients;
+mod conditional;
 mod keeper_service;
 mod log;
 mod requests;
 mod respond;
 mod response;
+mod site;
 mod turns;
+mod verdict;
 mod watch;
 
 pub use clients::{serve_clients, serve_count};
 pub use keeper_service::KeeperService;
 pub use requests::answer_request;
+pub use site::Site;
 pub use turns::{End, Served, serve};
 pub use watch::Watch;

@@ -10,7 +10,7 @@ ghost use Rattle.streetmap_ledger.specs.PageView.{page_value};
 ghost use Rattle.streetmap_ledger.specs.SummaryView.{summary_value, summary_values};
 ghost use Rattle.streetmap_routes.specs.Operations as spec;
 ghost use Rattle.streetmap_web.specs.Response as spec_response;
-ghost use Rattle.streetmap_web.specs.Response.{fault_response, found};
+ghost use Rattle.streetmap_web.specs.Response.{fault_response, found, plainly};
 ghost use Rattle.streetmap_bodies.specs.Bodies as spec_bodies;
 ghost use Rattle.streetmap_routes.specs.OperationView.{operation_value};
 ghost use Rattle.streetmap_web.specs.Responds.{response_value, IsResponse, Responds};
@@ -33,7 +33,7 @@ use streetmap_routes::Operation;
 
 /// The room that is allocated for the body of the answer to a batch before the batch is applied.
 /// With that of the head, 256 bytes, it is 1,024.
-const BODY_ROOM: usize = 768;
+pub(crate) const BODY_ROOM: usize = 768;
 
 /// An answer with a body.
 fn found(kind: MediaType, body: String) -> Response
@@ -42,6 +42,7 @@ fn found(kind: MediaType, body: String) -> Response
     Response {
         status: StatusCode::OK,
         kind,
+        tag: None,
         allow: None,
         body,
     }
@@ -60,6 +61,7 @@ fn faulty_in(body: String, fault: RequestFault) -> Response
     Response {
         status: fault.status(),
         kind: MediaType::Json,
+        tag: None,
         allow: fault.allow(),
         body,
     }
@@ -74,7 +76,7 @@ pub(crate) fn faulty(alloc: Global, fault: RequestFault) -> Result<Response, All
 }
 
 /// The same, with lack of memory as the fault that is to be answered.
-fn or_starved(response: Result<Response, AllocError>) -> Result<Response, Fault>
+pub(crate) fn or_starved(response: Result<Response, AllocError>) -> Result<Response, Fault>
     ensures ok { IfOk response (λ b. result ≡ Ok b) }
     ensures err { OnErr response (result ≡ Err Fault.Memory) }
 {
@@ -96,7 +98,7 @@ fn reply_status(reply: Reply) -> StatusCode
 
 /// The answer to a batch that the keeper answered without a fault, in room that was allocated
 /// before: every reply has an answer, and no memory is allocated for it.
-fn replied(body: String, batch: &Batch, reply: Reply) -> Response
+pub(crate) fn replied(body: String, batch: &Batch, reply: Reply) -> Response
     requires room { 320 ≤ string_capacity body }
     requires blank { string_bytes body ≡ [] }
     requires blank_len { string_len body ≡ 0 }
@@ -107,6 +109,7 @@ fn replied(body: String, batch: &Batch, reply: Reply) -> Response
     Response {
         status: reply_status(reply),
         kind: MediaType::Json,
+        tag: None,
         allow: None,
         body,
     }
@@ -114,7 +117,8 @@ fn replied(body: String, batch: &Batch, reply: Reply) -> Response
 
 /// Applies a batch. Once it was applied no memory is allocated: the keeper's reply is the answer.
 fn respond_batch<K: Keeper>(alloc: Global, keeper: &mut K, batch: &Batch) -> Result<Response, Fault>
-    ensures { (root : Text) → Responds K.model root (spec.batch (batch_value batch.now)) IsResponse
+    ensures { (root : Text) → Responds K.model root
+        (plainly (spec.batch (batch_value batch.now))) IsResponse
         keeper.old keeper.new result }
 {
     let Ok(body) = String::with_capacity(alloc, BODY_ROOM) else {
@@ -154,8 +158,8 @@ fn respond_page<K: Keeper>(
     name: &str,
     query: &Query,
 ) -> Result<Response, Fault>
-    ensures { Responds K.model root.now (spec.page name.now (query_value query.now)) IsResponse
-        keeper.old keeper.new result }
+    ensures { Responds K.model root.now (plainly (spec.page name.now (query_value query.now)))
+        IsResponse keeper.old keeper.new result }
 {
     match keeper.page(name, query) {
         Ok(page) => or_starved(found_page(alloc, root, name, query, &page)),
@@ -190,7 +194,7 @@ fn respond_feature<K: Keeper>(
     name: &str,
     id: &str,
 ) -> Result<Response, Fault>
-    ensures { Responds K.model root.now (spec.feature name.now id.now) IsResponse
+    ensures { Responds K.model root.now (plainly (spec.feature name.now id.now)) IsResponse
         keeper.old keeper.new result }
 {
     match keeper.feature(name, id) {
@@ -215,13 +219,13 @@ fn found_collection(
 }
 
 /// Reads a collection.
-fn respond_collection<K: Keeper>(
+pub(crate) fn respond_collection<K: Keeper>(
     alloc: Global,
     keeper: &mut K,
     root: &str,
     name: &str,
 ) -> Result<Response, Fault>
-    ensures { Responds K.model root.now (spec.one_collection name.now) IsResponse
+    ensures { Responds K.model root.now (plainly (spec.one_collection name.now)) IsResponse
         keeper.old keeper.new result }
 {
     match keeper.collection(name) {
@@ -249,7 +253,7 @@ fn respond_collections<K: Keeper>(
     keeper: &mut K,
     root: &str,
 ) -> Result<Response, Fault>
-    ensures { Responds K.model root.now spec.all_collections IsResponse
+    ensures { Responds K.model root.now (plainly spec.all_collections) IsResponse
         keeper.old keeper.new result }
 {
     match keeper.collections() {
@@ -299,7 +303,7 @@ pub(crate) fn respond_to<K: Keeper>(
     root: &str,
     operation: &Operation,
 ) -> Result<Response, Fault>
-    ensures { Responds K.model root.now (operation_value operation.now) IsResponse
+    ensures { Responds K.model root.now (plainly (operation_value operation.now)) IsResponse
         keeper.old keeper.new result }
 {
     match operation {

@@ -7,6 +7,8 @@ use streetmap_http::{MediaType, Methods};
 pub struct Response {
     pub status: StatusCode,
     pub kind: MediaType,
+    /// The number of the tag, if what is there has one.
+    pub tag: Option<u64>,
     /// The methods of the path, if the request has another.
     pub allow: Option<Methods>,
     pub body: String,

@@ -6,7 +6,7 @@ ghost use Rattle.streetmap_http.specs.Head.{IsHead};
 ghost use Rattle.streetmap_http.specs.Framing.{Frames, sized};
 ghost use Rattle.streetmap_http.specs.FramingView.{head_value};
 ghost use Rattle.streetmap_batch.specs.Text.{Text};
-ghost use Rattle.streetmap_routes.specs.BaseView.{root_of};
+ghost use Rattle.streetmap_web.specs.Site.{site_value};
 ghost use Rattle.streetmap_connections.specs.Answers.{answer_text};
 ghost use Rattle.streetmap_web.specs.Conditions.{Condition, IsInCondition, ByCalls};
 ghost use Rattle.streetmap_web.specs.ServedStream.{around, TurnComes, ServesExchanges};
@@ -14,6 +14,7 @@ ghost use Rattle.streetmap_web.specs.Turns.{turn_after, end_of, begun_in, FillSa
 ghost use Rattle.streetmap_web.specs.Turns.{WriteSays, HandsOn, IsHandedOn};
 
 use crate::answer::{answer_to, fixed, refused};
+use crate::site::Site;
 use httparse::spans::EMPTY_HEADER_SPAN;
 use std::alloc::{AllocError, Global};
 use std::io::{BufRead, Read};
@@ -22,8 +23,8 @@ use streetmap_http::{
     BodyEnd, FIELD_LIMIT, Framed, FramingFault, HEAD_LIMIT, HeadEnd, RequestHead, Sent, frame_of,
     is_bare, read_body, read_head, send,
 };
-use streetmap_ledger::{Fault, Keeper};
-use streetmap_routes::Base;
+use streetmap_ledger::Fault;
+use streetmap_tags::Tagged;
 use streetmap_text_lines::Flush;
 
 /// What one turn of the loop did.
@@ -171,10 +172,10 @@ fn read_all<R: Read>(reader: &mut R, room: Vec<u8>) -> (BodyEnd, Vec<u8>)
 }
 
 /// Answers a request whose head was read.
-fn answer_turn<K: Keeper, R: Read, W: Flush>(
+fn answer_turn<K: Tagged, R: Read, W: Flush>(
     alloc: Global,
     keeper: &mut K,
-    base: &Base,
+    site: &Site,
     head: RequestHead,
     reader: &mut R,
     writer: &mut W,
@@ -184,7 +185,7 @@ fn answer_turn<K: Keeper, R: Read, W: Flush>(
         (bytes : Text) (left : Option Text) (x : Condition) →
         IsHead bytes → Frames bytes (sized (head_value head.entry)) →
         Consumes left (R.remaining reader.old) bytes → IsInCondition K.model keeper.old x →
-        TurnComes K.model result (root_of base.now) x
+        TurnComes K.model result (site_value site.now) x
         (around left (R.remaining reader.new) (W.contents writer.old) (W.contents writer.new))
         keeper.old keeper.new }
     ensures flushed { HandsOn result (W.is_flushed writer.old) (W.is_flushed writer.new) }
@@ -199,15 +200,15 @@ fn answer_turn<K: Keeper, R: Read, W: Flush>(
         BodyEnd::Truncated => return Turn::Truncated,
         BodyEnd::Failed => return Turn::ReadFailed,
     }
-    let (answer, closes) = answer_to(alloc, keeper, base, head, body.as_slice());
+    let (answer, closes) = answer_to(alloc, keeper, site, head, body.as_slice());
     write_answer(writer, &answer, closes)
 }
 
 /// One turn: a request is read and answered.
-fn take_turn<K: Keeper, R: Read, W: Flush>(
+fn take_turn<K: Tagged, R: Read, W: Flush>(
     alloc: Global,
     keeper: &mut K,
-    base: &Base,
+    site: &Site,
     reader: &mut R,
     writer: &mut W,
     buf: &mut [u8],
@@ -216,7 +217,7 @@ fn take_turn<K: Keeper, R: Read, W: Flush>(
     ensures calls { ByCalls K.model keeper.old keeper.new }
     ensures says { K.model.is_clean keeper.new → (x : Condition)
         → IsInCondition K.model keeper.old x →
-        TurnComes K.model result (root_of base.now) x
+        TurnComes K.model result (site_value site.now) x
         (around (R.remaining reader.old) (R.remaining reader.new)
         (W.contents writer.old) (W.contents writer.new)) keeper.old keeper.new }
     // What was written is handed on before the next request is read.
@@ -235,7 +236,7 @@ fn take_turn<K: Keeper, R: Read, W: Flush>(
     let mut headers = [EMPTY_HEADER_SPAN; FIELD_LIMIT];
     match frame_of(&buf[..len], &mut headers) {
         Framed::Broken(bare, fault) => refuse_turn(alloc, writer, fault, bare),
-        Framed::Request(head) => answer_turn(alloc, keeper, base, head, reader, writer),
+        Framed::Request(head) => answer_turn(alloc, keeper, site, head, reader, writer),
     }
 }
 
@@ -246,10 +247,10 @@ fn take_turn<K: Keeper, R: Read, W: Flush>(
 /// It ends if an answer closed the connection or the input ended (`Ended`), if the input ended
 /// within a request (`Truncated`), or if a read, a write or a flush failed; of a request that did
 /// not arrive whole nothing is applied.
-pub fn serve<K: Keeper, R: BufRead, W: Flush>(
+pub fn serve<K: Tagged, R: BufRead, W: Flush>(
     alloc: Global,
     keeper: &mut K,
-    base: &Base,
+    site: &Site,
     reader: &mut R,
     writer: &mut W,
 ) -> Served
@@ -263,7 +264,7 @@ pub fn serve<K: Keeper, R: BufRead, W: Flush>(
     // else the keeper represents a state still, and a crash leaves that.
     ensures serves { K.model.is_clean keeper.new → (x : Condition) →
         IsInCondition K.model keeper.old x →
-        ServesExchanges K.model (root_of base.now) result.end result.answers x
+        ServesExchanges K.model (site_value site.now) result.end result.answers x
         (around (R.remaining reader.old) (R.remaining reader.new)
         (W.contents writer.old) (W.contents writer.new)) keeper.old keeper.new }
     // All else that the store has is kept.
@@ -274,7 +275,7 @@ pub fn serve<K: Keeper, R: BufRead, W: Flush>(
 {
     let mut buf = [0u8; HEAD_LIMIT];
     for answers in 0..u64::MAX {
-        let turn = take_turn(alloc, keeper, base, reader, writer, &mut buf);
+        let turn = take_turn(alloc, keeper, site, reader, writer, &mut buf);
         match turn {
             Turn::Open => {}
             _ => {

@@ -1,5 +1,5 @@
 use Rattle.std.proofs.Common.{length, map, refl, ap}
-use Rattle.streetmap_routes.specs.BaseView.{root_of}
+use Rattle.streetmap_web.specs.Site.{site_value}
 use Rattle.streetmap_connections.specs.SlotClients.{client_history}
 use Rattle.streetmap.proofs.Counts.{as_many, as_few, none_at_all}
 use Rattle.streetmap.proofs.Nobody.{nobody_came}
@@ -13,7 +13,7 @@ returns-in_err-listener-clause-guarantee g c clean s represented =
     let kept = c.in_err-listener.ensures.kept in
     let old = c.args.service.now.keeper.keeper in
     let new = c.prepare.new.keeper.keeper in
-    nobody_came g.K.Durable.holds (g.K.Durable.leaves new) (root_of c.args.service.now.base) s (model.may_leave new)
+    nobody_came g.K.Durable.holds (g.K.Durable.leaves new) (site_value c.args.service.now.site) s (model.may_leave new)
     (λ image left. g.met.K.Durable.images_hold_states old new s image represented kept.preserved clean left) (kept.leaves clean s represented)
     _ (ap (map client_history) c.requires)
 

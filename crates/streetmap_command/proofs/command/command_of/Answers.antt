@@ -42,6 +42,13 @@ returns-in-import-clause-found c =
     (named (λ b. (out-SubCommand (box_value b)).name.now) (λ b. rows_of (found_of (out-SubCommand (box_value b)).matches)) (out-ArgMatches c.args.matches.now).subcommand c.in-Some.name.now rows c.in-Some.ensures.name c.in-Some.ensures.rows)
     c.in-import.is c.read_import.ensures.found
 
+pub returns-in-export-clause-found : goal.returns-in-export-clause-found
+returns-in-export-clause-found c =
+    let rows = rows_of (found_of c.in-Some.found.now) in
+    is_named c.read_export.result _ c.in-Some.name.now _ rows
+    (named (λ b. (out-SubCommand (box_value b)).name.now) (λ b. rows_of (found_of (out-SubCommand (box_value b)).matches)) (out-ArgMatches c.args.matches.now).subcommand c.in-Some.name.now rows c.in-Some.ensures.name c.in-Some.ensures.rows)
+    c.in-export.is c.read_export.ensures.found
+
 pub returns-in-serve-clause-refused : goal.returns-in-serve-clause-refused
 returns-in-serve-clause-refused c =
     let rows = rows_of (found_of c.in-Some.found.now) in

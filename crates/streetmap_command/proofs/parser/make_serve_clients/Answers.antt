@@ -8,7 +8,8 @@ returns-clause-app c =
     let four = c.with_argument-command-3.ensures.app _ _ three c.option_arg-2.ensures.rule c.option_arg-2.ensures.local in
     let five = c.with_argument-command-4.ensures.app _ _ four c.flag_arg.ensures.rule c.flag_arg.ensures.local in
     let six = c.with_argument-command-5.ensures.app _ _ five c.option_arg-3.ensures.rule c.option_arg-3.ensures.local in
-    c.with_argument.ensures.app _ _ six c.flag_arg-2.ensures.rule c.flag_arg-2.ensures.local
+    let seven = c.with_argument-command-6.ensures.app _ _ six c.flag_arg-2.ensures.rule c.flag_arg-2.ensures.local in
+    c.with_argument.ensures.app _ _ seven c.flag_arg-3.ensures.rule c.flag_arg-3.ensures.local
 
 pub returns-clause-local : goal.returns-clause-local
 returns-clause-local c =
@@ -18,4 +19,5 @@ returns-clause-local c =
     let four = c.with_argument-command-3.ensures.local three c.option_arg-2.ensures.local in
     let five = c.with_argument-command-4.ensures.local four c.flag_arg.ensures.local in
     let six = c.with_argument-command-5.ensures.local five c.option_arg-3.ensures.local in
-    c.with_argument.ensures.local six c.flag_arg-2.ensures.local
+    let seven = c.with_argument-command-6.ensures.local six c.flag_arg-2.ensures.local in
+    c.with_argument.ensures.local seven c.flag_arg-3.ensures.local

@@ -1,5 +1,5 @@
 use Rattle.streetmap_connections.specs.Served.{slots_of}
-use Rattle.streetmap_web.proofs.RequestsInTurn.{base_kept, all_calls, serves_clients}
+use Rattle.streetmap_web.proofs.RequestsInTurn.{site_kept, all_calls, serves_clients}
 use Rattle.streetmap_web.proofs.clients.serve_clients.Goals as goal
 
 pub returns-clause-serves : goal.returns-clause-serves
@@ -12,7 +12,7 @@ returns-clause-calls g c =
     let said = c.serve_connections in
     all_calls g.K.Keeper.model c.args.service.now said.new.service said.ensures.serves.exchanges said.ensures.serves.leads
 
-pub returns-clause-base : goal.returns-clause-base
-returns-clause-base g c =
+pub returns-clause-site : goal.returns-clause-site
+returns-clause-site g c =
     let said = c.serve_connections in
-    base_kept g.K.Keeper.model c.args.service.now said.new.service said.ensures.serves.exchanges said.ensures.serves.leads
+    site_kept g.K.Keeper.model c.args.service.now said.new.service said.ensures.serves.exchanges said.ensures.serves.leads

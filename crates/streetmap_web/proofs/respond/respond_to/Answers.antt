@@ -1,6 +1,7 @@
 use Rattle.std.proofs.Common.{sym, subst, ap}
 use Rattle.streetmap_routes.specs.Operations.{OperationValue}
 use Rattle.streetmap_routes.specs.OperationView.{operation_value}
+use Rattle.streetmap_web.specs.Response.{plainly}
 use Rattle.streetmap_web.specs.Responds.{Responds, IsResponse}
 use Rattle.streetmap_web.proofs.ReadResponses.{plain_responds, faulty_plain, landing_plain, api_plain, conformance_plain}
 use Rattle.streetmap_web.proofs.respond.respond_to.Goals as goal
@@ -27,5 +28,5 @@ returns-in-ConformanceClasses g c =
 
 pub returns-in-Batch : goal.returns-in-Batch
 returns-in-Batch g c =
-    subst (λ (a : OperationValue). Responds g.K.Keeper.model c.args.root.now a IsResponse c.args.keeper.now c.respond_batch.new.keeper c.respond_batch.result)
+    subst (λ (a : OperationValue). Responds g.K.Keeper.model c.args.root.now (plainly a) IsResponse c.args.keeper.now c.respond_batch.new.keeper c.respond_batch.result)
     (sym (ap operation_value c.in-Batch.is)) (c.respond_batch.ensures c.args.root.now)

@@ -4,7 +4,7 @@ use Rattle.streetmap_http.specs.Head.{IsHead, HeadSays}
 use Rattle.streetmap_http.specs.declared.head.HeadEnd.{HeadEnd}
 use Rattle.streetmap_http.specs.declared.head.HeadEnd.TheVariants.{Whole, TooLarge, Ended, Truncated}
 use Rattle.streetmap_http.specs.Framing.{no_end, rule}
-use Rattle.streetmap_routes.specs.BaseView.{root_of}
+use Rattle.streetmap_web.specs.Site.{site_value}
 use Rattle.streetmap_http.specs.Streams.{in_head}
 use Rattle.streetmap_web.proofs.OneTurn.{ended_turn, truncated_turn, unread_turn, refuse_says}
 use Rattle.streetmap_web.proofs.turns.take_turn.Goals as goal
@@ -18,34 +18,34 @@ returns-in-Ended-clause-says g c = λ clean x h.
     let model = g.K.Keeper.model in
     let bytes : List ℕ = take c.read_head-end.result.1 c.read_head-end.new.buf in
     let (blank, end) = known _ Ended bytes _ c.in-Ended.is c.read_head-end.ensures.says in
-    ended_turn model (root_of c.args.base.now) x _ _ c.args.keeper.now h bytes _ blank c.read_head-end.ensures.read end
+    ended_turn model (site_value c.args.site.now) x _ _ c.args.keeper.now h bytes _ blank c.read_head-end.ensures.read end
 
 pub returns-in-Truncated-clause-says : goal.returns-in-Truncated-clause-says
 returns-in-Truncated-clause-says g c = λ clean x h.
     let model = g.K.Keeper.model in
     let bytes : List ℕ = take c.read_head-end.result.1 c.read_head-end.new.buf in
     let (short, none, text, end) = known _ Truncated bytes _ c.in-Truncated.is c.read_head-end.ensures.says in
-    truncated_turn model (root_of c.args.base.now) x _ _ c.args.keeper.now h bytes _ (in_head short none text) c.read_head-end.ensures.read end
+    truncated_turn model (site_value c.args.site.now) x _ _ c.args.keeper.now h bytes _ (in_head short none text) c.read_head-end.ensures.read end
 
 pub returns-in-TooLarge-clause-says : goal.returns-in-TooLarge-clause-says
 returns-in-TooLarge-clause-says g c = λ clean x h.
     let model = g.K.Keeper.model in
     let bytes : List ℕ = take c.read_head-end.result.1 c.read_head-end.new.buf in
     let (long, none) = known _ TooLarge bytes _ c.in-TooLarge.is c.read_head-end.ensures.says in
-    refuse_says model (root_of c.args.base.now) x _ _ c.args.keeper.now h bytes _ _ _ _ _ (no_end long none refl refl) c.read_head-end.ensures.read
+    refuse_says model (site_value c.args.site.now) x _ _ c.args.keeper.now h bytes _ _ _ _ _ (no_end long none refl refl) c.read_head-end.ensures.read
     c.refuse_turn.ensures.says
 
 pub returns-in-Failed-clause-says : goal.returns-in-Failed-clause-says
 returns-in-Failed-clause-says g c = λ clean x h.
     let model = g.K.Keeper.model in
-    unread_turn model (root_of c.args.base.now) x _ _ c.args.keeper.now h _
+    unread_turn model (site_value c.args.site.now) x _ _ c.args.keeper.now h _
 
 pub returns-in-Broken-clause-says : goal.returns-in-Broken-clause-says
 returns-in-Broken-clause-says g c = λ clean x h.
     let model = g.K.Keeper.model in
     let bytes : List ℕ = take c.read_head-end.result.1 c.read_head-end.new.buf in
     let cut : IsHead bytes = known _ Whole bytes _ c.in-Whole.is c.read_head-end.ensures.says in
-    refuse_says model (root_of c.args.base.now) x _ _ c.args.keeper.now h bytes _ _ _ _ _ (rule cut c.in-Broken.ensures) c.read_head-end.ensures.read
+    refuse_says model (site_value c.args.site.now) x _ _ c.args.keeper.now h bytes _ _ _ _ _ (rule cut c.in-Broken.ensures) c.read_head-end.ensures.read
     c.refuse_turn-in-Broken.ensures.says
 
 pub returns-in-Request-clause-says : goal.returns-in-Request-clause-says

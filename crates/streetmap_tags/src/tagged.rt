@@ -1,0 +1,16 @@
+//! A keeper whose state has a tag.
+ghost use Rattle.streetmap_ledger.specs.Keep.{IsRead, IsBatchCount};
+ghost use Rattle.streetmap_tags.specs.Keys.{IsKeyUsed};
+
+use streetmap_ledger::{Fault, Keeper};
+
+/// A keeper whose state has a tag.
+pub trait Tagged: Keeper {
+    /// The tag of the state: how many batches it has accepted.
+    fn tag(&mut self) -> Result<u64, Fault>
+        ensures { IsRead Self.model self.old self.new result IsBatchCount };
+
+    /// Whether a batch was accepted under a key.
+    fn has_key(&mut self, key: &str) -> Result<bool, Fault>
+        ensures { IsRead Self.model self.old self.new result (IsKeyUsed key.now) };
+}

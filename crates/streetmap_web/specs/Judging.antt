@@ -1,0 +1,55 @@
+-- Answers to a request under conditions, once the state's tag is known.
+use Rattle.std.specs.Prelude.{◌≡◌, ℕ, Option, Some, Result}
+use Rattle.streetmap_http.specs.Preconditions.{PreconditionsValue}
+use Rattle.streetmap_batch.specs.Text.{Text}
+use Rattle.streetmap_batch.specs.BatchValue.{BatchValue}
+use Rattle.streetmap_ledger.specs.State.{State}
+use Rattle.streetmap_ledger.specs.Kept.{batch_count}
+use Rattle.streetmap_ledger.specs.Model.{Model}
+use Rattle.streetmap_ledger.specs.Keep.{LeavesSame}
+use Rattle.streetmap_ledger.specs.declared.reply.Cause.{Cause}
+use Rattle.streetmap_ledger.specs.declared.reply.Fault.{Fault}
+use Rattle.streetmap_ledger.specs.declared.reply.Reply.{Reply}
+use Rattle.streetmap_ledger.specs.declared.reply.Reply.TheVariants.{Accepted, Repeated, Refused}
+use Rattle.streetmap_routes.specs.Operations.{OperationValue, page, one_collection, batch}
+use Rattle.streetmap_web.specs.Response.{ResponseValue, judged, state_by, not_modified, changed}
+use Rattle.streetmap_web.specs.Conditions.{ByCalls}
+use Rattle.streetmap_web.specs.Responds.{RespondsIn, RespondsShut, RespondsAny, RespondsToBatch}
+use Rattle.streetmap_web.specs.Responds.{AppliesBy, IsUncalled}
+use Rattle.streetmap_web.specs.declared.verdict.Verdict.{Verdict}
+use Rattle.streetmap_web.specs.declared.verdict.Verdict.TheVariants.{Holds, NotModified, Changed}
+
+-- the tag after a batch, from the one before: the serial, if it was accepted
+abbrev pub tag_after : ℕ → Reply → ℕ
+tag_after n (Accepted counts serial) = serial
+tag_after n (Repeated counts serial) = n
+tag_after n (Refused refusal place) = n
+
+-- what is answered in place of status 200 if the conditions do not hold
+abbrev pub in_place_by : ℕ → Verdict → ResponseValue
+in_place_by n Holds = changed
+in_place_by n NotModified = not_modified n
+in_place_by n Changed = changed
+
+-- a read that has the same status, and takes less: for a page its collection
+abbrev pub probe : OperationValue → OperationValue
+probe (page name q) = one_collection name
+probe operation = operation
+
+-- A request was responded to between two keepers, by a verdict on the state's tag: if the first
+-- represented a state with this tag, the result is that of the verdict. Otherwise it is what it is
+-- without conditions.
+pub record RespondsBy {K A : Type 0} (model : Model K) (root : Text) (operation : OperationValue)
+    (verdict : Verdict) (n : ℕ) (p : PreconditionsValue) (Is : A → ResponseValue → Type 0)
+    (old new : K) (result : Result A Fault) : Type 0 where
+  pub calls : ByCalls model old new
+  pub in_state : model.is_clean new → (s : State) → model.represents old s → n ≡ batch_count s
+      → RespondsIn model s operation (judged root s operation verdict)
+      (state_by s operation verdict) Is old new result
+  pub shut : (why : Cause) → model.cause old ≡ Some why
+      → RespondsShut root operation Is result
+      × (model.cause new ≡ Some why) × LeavesSame (model.may_leave old) (model.may_leave new)
+  pub any : RespondsAny root operation Is result (model.cause new)
+  pub to_batch : (b : BatchValue) → operation ≡ batch b
+      → RespondsToBatch b.key (Some p) Is result (λ r. AppliesBy model (Some p) old b r new)
+      (IsUncalled model (Some p) old new)

@@ -1,0 +1,11 @@
+//! A service on the web.
+use streetmap_routes::Base;
+
+/// What a service is on the web.
+#[derive(Drop)]
+pub struct Site {
+    /// The base of its links.
+    pub base: Base,
+    /// Whether its answers have tags, and its requests conditions.
+    pub tags: bool,
+}
