@@ -9,12 +9,13 @@ from starlette.middleware import Middleware
 from starlette.middleware.cors import CORSMiddleware
 from starlette.routing import BaseRoute
 
-from . import edits, reading
+from . import edits, patching, reading
 from .access_log import AccessLog
 from .gateway import Gateway
 from .mirror.routes import FILTER_ROUTES, TILE_ROUTES
 from .origins import OwnOrigin
 from .problems import Problem, answer_failure, answer_http_fault, answer_problem
+from .representation import Unchanged, answer_unchanged
 
 # What a page of another origin may do, and the headers that it may read beside those of all pages.
 READING = ["GET", "HEAD"]
@@ -33,6 +34,7 @@ def make_app(gateway: Gateway) -> Starlette:
         routes=routes_of(gateway),
         exception_handlers={
             Problem: answer_problem,
+            Unchanged: answer_unchanged,
             HTTPException: answer_http_fault,
             Exception: answer_failure,
         },
@@ -47,7 +49,7 @@ def make_app(gateway: Gateway) -> Starlette:
 def routes_of(gateway: Gateway) -> list[BaseRoute]:
     """The paths that the settings select."""
     settings = gateway.settings
-    found = reading.ROUTES + (edits.ROUTES if settings.writers else [])
+    found = reading.ROUTES + (edits.ROUTES + patching.ROUTES if settings.writers else [])
     if settings.mirror is not None:
         found = found + FILTER_ROUTES + (TILE_ROUTES if settings.mirror.tiles else [])
     return found

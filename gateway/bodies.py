@@ -15,6 +15,7 @@ from typing import Any
 
 from .geojson import NumberText, compact, positions_of
 from .grid import STEPS, decimal_of, nearest_step
+from .patches import patched
 from .problems import Problem
 from .systems import System, Systems
 
@@ -28,7 +29,7 @@ MOST_POSITIONS, MOST_LEVELS = 100_000, 64
 class Sent:
     """A request that inserts or replaces a feature: the key of its batch, the URI of the reference
     system of its body, and the id for a feature that has none. One that replaces has to have that
-    id."""
+    id. The body is a patch if there is a text of the feature that it patches."""
 
     op: str
     collection: str
@@ -36,6 +37,12 @@ class Sent:
     key: str
     system: str
     body: bytes
+    patches: bytes | None = None
+
+    @property
+    def size(self) -> int:
+        """How many bytes have to be read."""
+        return len(self.body) + len(self.patches or b"")
 
 
 @dataclass(frozen=True)
@@ -49,6 +56,8 @@ class Batch:
 def batch_of(sent: Sent, systems: Systems, fractions: str) -> Batch:
     """The batch of a request; a Problem if its body is refused."""
     feature = grid_feature(read_body(sent.body), systems.by_uri[sent.system], fractions)
+    if sent.patches is not None:
+        feature = patched(json.loads(sent.patches), feature)
     identity = sent.feature
     if isinstance(feature, dict):
         identity = str(feature.setdefault("id", sent.feature))

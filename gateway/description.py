@@ -13,8 +13,11 @@ from .settings import Settings
 from .systems import Systems
 
 FOLDER = Path(__file__).parent / "openapi"
-# The part that each gateway has, and the one of a gateway with writers.
-READING, EDITING = FOLDER / "reading.json", FOLDER / "editing.json"
+# The part that each gateway has, and those of a gateway with writers: its edits, and the one that
+# needs entity tags of the server.
+READING, EDITING, PATCHING = (
+    FOLDER / f"{name}.json" for name in ("reading", "editing", "patching")
+)
 # What a mirror adds, and its tiles.
 MIRROR, TILES = FOLDER / "mirror.json", FOLDER / "tiles.json"
 

@@ -19,31 +19,39 @@ from starlette.responses import Response
 from starlette.routing import BaseRoute, Route
 
 from .bodies import Batch, Sent, batch_text
-from .conditions import Conditions, failed, read_conditions
+from .conditions import Conditions, EntityTag, failed, read_conditions
+from .exactly import NO_STATE, Current, Target, apply_exactly
 from .gateway import Gateway, gateway_of
 from .links import GEOJSON, JSON
-from .problems import Problem, not_found
+from .problems import MERGE_PATCH, Problem, not_found
 from .query import read_parameters
 from .systems import CRS84, System, Systems
 
 # The most bytes of a body, which are the server's, and the time within which they come.
 LARGEST, BODY_SECONDS = 8_388_608, 300
-BODY_TYPES = (GEOJSON, JSON)
+BODY_TYPES = {"POST": (GEOJSON, JSON), "PUT": (GEOJSON, JSON), "PATCH": (MERGE_PATCH,)}
 COLLECTION = re.compile(r"[A-Za-z0-9][A-Za-z0-9._-]{0,63}")
 MADE_ID_DIGITS = 32
 
 
-def batch_key(request: Request, writer: str) -> str:
-    """The key of the batch that a request becomes: at most the 64 bytes that the server takes,
-    since a writer's name has at most 20."""
+def idempotency_key(request: Request) -> bytes | None:
+    """The field that makes a request act once, if it has one."""
     given = request.headers.getlist("idempotency-key")
     if not given:
-        now = datetime.now(timezone.utc).strftime("%Y%m%dT%H%M%SZ")
-        return f"{writer}:{now}:{secrets.token_hex(10)}"
+        return None
     if len(given) > 1 or not 1 <= len(given[0]) <= 255:
         detail = "There must be one Idempotency-Key of 1 to 255 characters."
         raise Problem(400, "bad_idempotency_key", detail)
-    digest = hashlib.sha256(given[0].encode("latin-1")).digest()
+    return given[0].encode("latin-1")
+
+
+def batch_key(writer: str, given: bytes | None) -> str:
+    """The key of the batch that a request becomes: at most the 64 bytes that the server takes,
+    since a writer's name has at most 20."""
+    if given is None:
+        now = datetime.now(timezone.utc).strftime("%Y%m%dT%H%M%SZ")
+        return f"{writer}:{now}:{secrets.token_hex(10)}"
+    digest = hashlib.sha256(given).digest()
     return f"{writer}:{base64.urlsafe_b64encode(digest).rstrip(b'=').decode()}"
 
 
@@ -59,13 +67,14 @@ def content_system(request: Request, systems: Systems) -> System:
 
 
 def check_content_type(request: Request) -> None:
-    """Refuses a body that does not say that it is GeoJSON or JSON. A form of a page cannot say so,
-    and a script of another origin only if the gateway agrees before."""
+    """Refuses a body that does not say that it is of a type that the method takes. A form of a page
+    cannot say so, and a script of another origin only if the gateway agrees before."""
+    taken = BODY_TYPES.get(request.method, ())
     given = [text.partition(";")[0] for text in request.headers.getlist("content-type")]
-    if len(given) != 1 or given[0].strip().lower() not in BODY_TYPES:
-        detail = f"The Content-Type of the body must be {' or '.join(BODY_TYPES)}."
-        headers = {"Accept": ", ".join(BODY_TYPES)}
-        raise Problem(415, "bad_content_type", detail, headers=headers)
+    if taken and (len(given) != 1 or given[0].strip().lower() not in taken):
+        detail = f"The Content-Type of the body must be {' or '.join(taken)}."
+        name = "Accept-Patch" if request.method == "PATCH" else "Accept"
+        raise Problem(415, "bad_content_type", detail, headers={name: ", ".join(taken)})
 
 
 async def body_of(request: Request) -> bytes:
@@ -86,69 +95,80 @@ async def body_of(request: Request) -> bytes:
 
 @dataclass(frozen=True)
 class Edit:
-    """An edit of one who may write: what it names, the key of its batch, and its conditions. An
-    edit of a collection names no feature."""
+    """An edit of one who may write: what it names, the field that makes it act once, and its
+    conditions. An edit of a collection names no feature."""
 
     gateway: Gateway
     request: Request
+    writer: str
     collection: str
     feature: str | None
-    key: str
+    once: bytes | None
     conditions: Conditions
 
     @classmethod
     async def begin(cls, request: Request, collection: str, feature: str | None) -> "Edit":
-        """The edit of a request; a Problem if it may not write, or has a parameter, or a condition
-        that does not hold."""
+        """The edit of a request; a Problem if it may not write, or has a parameter, or lacks a
+        condition that the settings want."""
         gateway = gateway_of(request)
         writer = await run_in_threadpool(gateway.access.writer, request)
         request.state.writer = writer
-        if request.method in ("POST", "PUT"):
-            check_content_type(request)
-        key = batch_key(request, writer)
+        check_content_type(request)
+        once = idempotency_key(request)
         read_parameters(request)
         if not COLLECTION.fullmatch(collection):
             raise not_found()
         if feature is not None and not is_feature_id(feature):
             raise not_found()
-        edit = cls(gateway, request, collection, feature, key, read_conditions(request))
-        if edit.conditions.is_not_there and await edit.is_there():
-            raise failed("There is something at this path.")
-        return edit
+        conditions = read_conditions(request.headers)
+        if gateway.settings.edits.require_if_match and feature and not conditions.match:
+            raise Problem(428, "no_condition", "An edit of a feature needs If-Match here.")
+        return cls(gateway, request, writer, collection, feature, once, conditions)
 
-    async def is_there(self) -> bool:
-        """Whether the server has what the request names."""
-        client = self.gateway.client
-        try:
-            if self.feature is None:
-                await client.collection(self.collection)
-            else:
-                await client.feature(self.collection, self.feature)
-        except Problem as problem:
-            if problem.status != 404:
-                raise
-            return False
-        return True
-
-    async def batch(self, op: str) -> Batch:
-        """The batch of the feature that the request sends."""
+    async def sent(self, op: str) -> Sent:
+        """The feature, or the patch, that the request sends."""
         system = content_system(self.request, self.gateway.systems)
-        name = made_id(self.key) if self.feature is None else self.feature
+        key = batch_key(self.writer, self.once)
+        name = made_id(key) if self.feature is None else self.feature
         body = await body_of(self.request)
-        sent = Sent(op, self.collection, name, self.key, system.uri, body)
-        return await self.gateway.workers.batch(sent)
+        return Sent(op, self.collection, name, key, system.uri, body)
 
-    async def apply(self, batch: bytes) -> None:
-        """Sends a batch. A feature or collection that is not there is a 404, or breaks the
-        condition that it is there."""
+    async def send(self, batch: bytes, under: EntityTag | None = None) -> bool:
+        """Whether a batch has acted, now or before; it has not if the server's state has another
+        tag. A feature or collection that is not there is a 404, or breaks the condition that it is
+        there."""
         try:
-            await self.gateway.client.apply(batch)
+            await self.gateway.client.apply(batch, under)
         except Problem as problem:
+            if under is not None and problem.code == "changed":
+                return False
             if problem.code in ("no_feature", "no_collection"):
-                if self.conditions.is_there:
+                if self.conditions.match is not None:
                     raise failed("There is nothing at this path.") from problem
                 problem.status = 404
             raise
+        return True
+
+    async def apply(self, batch: bytes) -> None:
+        """Sends a batch that is the same whatever the feature is."""
+
+        async def make(_current: Current) -> bytes:
+            return batch
+
+        async def has_acted() -> bool:
+            return await self.is_tagged_once() and await self.send(batch, NO_STATE)
+
+        conditions = self.conditions
+        if self.feature is not None and (conditions.need_tag or conditions.none_match):
+            target = Target(self.gateway, self.collection, self.feature, conditions)
+            await apply_exactly(target, make, self.send, has_acted)
+        else:
+            await self.send(batch)
+
+    async def is_tagged_once(self) -> bool:
+        """Whether the request acts once, and the server can say that it has acted: one without
+        tags would let it act again."""
+        return self.once is not None and await self.gateway.client.gives_tags(now=True)
 
 
 def is_feature_id(text: str) -> bool:
@@ -160,24 +180,46 @@ def is_feature_id(text: str) -> bool:
 async def create(request: Request) -> Response:
     collection = request.path_params["collectionId"]
     edit = await Edit.begin(request, collection, None)
-    batch = await edit.batch("insert")
+    await check_collection(edit)
+    batch = await edit.gateway.workers.batch(await edit.sent("insert"))
     await edit.apply(batch.text)
     location = gateway_of(request).links.location(collection, batch.feature)
     return Response(status_code=201, headers={"Location": location})
 
 
+async def check_collection(edit: Edit) -> None:
+    """Refuses conditions that do not hold of the features of a collection, whose tag is weak: so no
+    If-Match holds of it but `*`, which is judged by the batch."""
+    conditions = edit.conditions
+    if conditions.match is not None and not conditions.match.is_any:
+        raise failed("The features of a collection have no entity tag that If-Match can name.")
+    if conditions.none_match is not None and conditions.none_match.is_any:
+        try:
+            await edit.gateway.client.collection(edit.collection)
+        except Problem as problem:
+            if problem.status != 404:
+                raise
+        else:
+            raise failed("There is something at this path.")
+
+
 async def replace(request: Request) -> Response:
     edit = await Edit.begin(request, **named(request))
-    batch = await edit.batch("replace")
+    batch = await edit.gateway.workers.batch(await edit.sent("replace"))
     await edit.apply(batch.text)
     return Response(status_code=204)
 
 
 async def remove(request: Request) -> Response:
     edit = await Edit.begin(request, **named(request))
-    deleted = {"op": "delete", "collection": edit.collection, "id": edit.feature}
-    await edit.apply(batch_text(edit.key, deleted))
+    await edit.apply(deletion(edit, batch_key(edit.writer, edit.once)))
     return Response(status_code=204)
+
+
+def deletion(edit: Edit, key: str) -> bytes:
+    """The batch that deletes the feature of an edit."""
+    deleted = {"op": "delete", "collection": edit.collection, "id": edit.feature}
+    return batch_text(key, deleted)
 
 
 def named(request: Request) -> dict[str, str]:

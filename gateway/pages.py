@@ -9,7 +9,7 @@ from dataclasses import dataclass
 from functools import partial
 
 from .boxes import NOWHERE, Region
-from .client import ServerClient
+from .client import ServerReads
 from .features import Feature, transformed_page, transformed_texts
 from .meeting import meeting
 from .query import MOST, ItemsQuery
@@ -33,7 +33,7 @@ class Filled:
     serial: int | None = None
 
 
-async def fill(client: ServerClient, collection: str, query: ItemsQuery) -> Filled:
+async def fill(client: ServerReads, collection: str, query: ItemsQuery) -> Filled:
     """The page of a query."""
     region = await region_of(client, collection, query)
     if region is None or (region.is_exact and region.bounds is not None):
@@ -43,7 +43,7 @@ async def fill(client: ServerClient, collection: str, query: ItemsQuery) -> Fill
     return await tested_page(client, collection, query, region)
 
 
-async def region_of(client: ServerClient, collection: str, query: ItemsQuery) -> Region | None:
+async def region_of(client: ServerReads, collection: str, query: ItemsQuery) -> Region | None:
     """The part of the query's box that can select a feature that the collection has now; None
     without a box."""
     if query.box is None:
@@ -59,7 +59,7 @@ async def region_of(client: ServerClient, collection: str, query: ItemsQuery) ->
 
 
 async def exact_page(
-    client: ServerClient, collection: str, query: ItemsQuery, region: Region | None
+    client: ServerReads, collection: str, query: ItemsQuery, region: Region | None
 ) -> Filled:
     """The page of the server itself."""
     asked = server_query(query, region, query.limit, query.after)
@@ -67,14 +67,14 @@ async def exact_page(
     return Filled(page.text, page.count, page.last if page.goes_on else None, page.matched)
 
 
-async def empty_page(client: ServerClient, collection: str, query: ItemsQuery) -> Filled:
+async def empty_page(client: ServerReads, collection: str, query: ItemsQuery) -> Filled:
     """The page of a box beyond all features; the server judges the rest of the query."""
     await client.page(collection, server_query(query, None, 1, query.after))
     return Filled("", 0, None, 0)
 
 
 async def tested_page(
-    client: ServerClient, collection: str, query: ItemsQuery, region: Region
+    client: ServerReads, collection: str, query: ItemsQuery, region: Region
 ) -> Filled:
     """The features of the server's pages that meet the region, until they are enough. How many
     match is known if the first page has them all."""
@@ -85,7 +85,7 @@ async def tested_page(
 
 
 async def tested_features(
-    client: ServerClient, collection: str, query: ItemsQuery, region: Region
+    client: ServerReads, collection: str, query: ItemsQuery, region: Region
 ) -> tuple[list[Feature], str | None]:
     """These features, and the id after which the next page begins."""
     found: list[Feature] = []

@@ -11,6 +11,7 @@ from starlette.exceptions import HTTPException
 from starlette.routing import Match, Route
 
 MEDIA_TYPE = "application/problem+json"
+MERGE_PATCH = "application/merge-patch+json"
 # After these seconds a client may send its request again, if the server was away.
 RETRY_SECONDS = 5
 FILE_METHODS = {"GET", "HEAD"}
@@ -85,7 +86,7 @@ async def answer_http_fault(request: Request, fault: Exception) -> Response:
     edit."""
     assert isinstance(fault, HTTPException)
     if fault.status_code == 405:
-        headers = {"Allow": ", ".join(sorted(allowed(request)))}
+        headers = await allowed(request)
         if request.method == "OPTIONS":
             return Response(status_code=204, headers=headers)
         detail = "The method is not allowed here."
@@ -95,11 +96,16 @@ async def answer_http_fault(request: Request, fault: Exception) -> Response:
     return Problem(fault.status_code, "bad_request", str(fault.detail)).response()
 
 
-def allowed(request: Request) -> set[str]:
-    """The methods of all routes of a path. One without a route of its own is a file's."""
+async def allowed(request: Request) -> dict[str, str]:
+    """The methods of all routes of a path, and what PATCH takes. A path without a route of its own
+    is a file's. There is no PATCH if the server gives no entity tags."""
     routes = (
         route
         for route in request.app.routes
         if isinstance(route, Route) and route.matches(request.scope)[0] != Match.NONE
     )
-    return {method for route in routes for method in route.methods or ()} or FILE_METHODS
+    methods = {method for route in routes for method in route.methods or ()} or FILE_METHODS
+    if "PATCH" in methods and not await request.app.state.gateway.client.gives_tags():
+        methods.remove("PATCH")
+    patch = {"Accept-Patch": MERGE_PATCH} if "PATCH" in methods else {}
+    return {"Allow": ", ".join(sorted(methods)), **patch}

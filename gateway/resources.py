@@ -21,12 +21,14 @@ def landing(settings: Settings, links: list[Link]) -> Resource:
     return {"title": settings.title, "description": settings.description, "links": links}
 
 
-def conformance(settings: Settings, links: list[Link]) -> Resource:
-    """The classes that the gateway meets, and the draft's if somebody may write."""
+def conformance(settings: Settings, links: list[Link], has_tags: bool) -> Resource:
+    """The classes that the gateway meets, and the draft's if somebody may write. An edit is of the
+    very feature that has a tag if the server gives tags."""
     names = ("core", "geojson", "html", "oas30")
     classes = [*(PART1 + name for name in names), f"{PART2}crs"]
     if settings.writers:
         classes.append(f"{PART4}create-replace-delete")
+        classes += [f"{PART4}optimistic-locking-etags"] if has_tags else []
     classes += mirror_classes(settings.mirror)
     return {"links": links, "conformsTo": classes}
 

@@ -113,9 +113,10 @@ class Office(Table):
 
 class Edits(Table):
     """How a number within properties that is not whole is sent on: as it is, so that the server
-    refuses it, or as the text of its digits."""
+    refuses it, or as the text of its digits. And whether an edit of a feature needs If-Match."""
 
     fractions: Literal["refuse", "text"] = "refuse"
+    require_if_match: StrictBool = False
 
 
 class Cors(Table):

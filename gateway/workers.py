@@ -62,7 +62,7 @@ class Workers:
 
     async def batch(self, sent: Sent) -> Batch:
         """The batch of a request; a Problem if its body is refused."""
-        if len(sent.body) <= SMALL:
+        if sent.size <= SMALL:
             return batch_of(sent, self.systems, self.settings.edits.fractions)
         worker = await self.idle.get()
         try:

@@ -34,6 +34,7 @@ def check_resources(context: Context, gateway: Gateway) -> None:
     page = described["paths"][items]["get"]
     names = [named(described, each["$ref"])["name"] for each in page["parameters"]]
     wanted = ["bbox", "bbox-crs", "crs", "datetime", "limit", "after", "f"]
+    wanted += ["If-None-Match", "If-Match"]
     context.check("parameters of items", names, wanted)
     kinds = list(page["responses"]["200"]["content"])
     context.check("the kinds of a page", kinds, ["application/geo+json", "text/html"])

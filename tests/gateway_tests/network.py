@@ -214,6 +214,9 @@ def check_links(context: Context, base: str) -> None:
     _, fields, body = ask(f"{base}/api", Accept_Encoding="gzip")
     context.check("compressed", fields["Content-Encoding"], "gzip")
     context.check("OpenAPI", json.loads(gzip.decompress(body))["openapi"][:3], "3.0")
+    for path, wanted in (("?f=html", "gzip"), ("/L00000?f=html", None)):
+        _, fields, _ = ask(f"{base}{LAMPS}{path}", Accept_Encoding="gzip")
+        context.check(f"compressed: {path}", fields["Content-Encoding"], wanted)
     for path in ("static/style.css", "static/leaflet/leaflet.js"):
         context.check(path, ask(f"{base}/{path}")[0], 200)
     _, fields, _ = ask(f"{base}/collections", Accept="text/html")

@@ -111,25 +111,29 @@ def check_types(context: Context, asked: Gateway) -> None:
         context.check("deleted", asked.send("DELETE", ITEM).status_code, 204)
 
 
-TAGS = ('"stale"', 'W/"stale"', '"a", "b"', '"a", *', "stale", "", "**")
+TAGS = ('"stale"', 'W/"stale"', '"a", "b"', '"a,b",,"c"', "", ",")
+NO_TAGS = ('"a", *', "stale", "**", '"a" "b"', '"a', "'a'", 'w/"a"', 'W/ "a"', '"a b"', '"a";q=1')
 
 
 def check_conditions(context: Context, asked: Gateway) -> None:
-    """No feature has an entity tag, so no tag holds, and nothing acts. `*` holds of what is
-    there."""
+    """The server gives no tags, so no feature has one that If-Match can name, also not the tag that
+    it has, and nothing acts. `*` holds of what is there."""
     asked.send("POST", ITEMS, guarded())
-    for tag in TAGS:
+    own = asked.ask(ITEM).headers["etag"]
+    context.check("a weak tag", own[:3], 'W/"')
+    rows = [(tag, 412, "condition_failed") for tag in (*TAGS, own, own[2:])]
+    for tag, status, code in [*rows, *((tag, 400, "bad_condition") for tag in NO_TAGS)]:
         for method, path, body in (
             ("POST", ITEMS, feature("other", None)),
             ("PUT", ITEM, guarded(1)),
             ("DELETE", ITEM, None),
         ):
             answer = asked.send(method, path, body, If_Match=tag)
-            check_problem(context, answer, 412, "condition_failed")
+            check_problem(context, answer, status, code)
         context.check(f"{tag}: nothing acted", kept_number(asked), 0)
     two = [("If-Match", '"a"'), ("If-Match", "*"), ("Authorization", f"Bearer {TOKEN}")]
     answer = asked.client.request("DELETE", asked.url + ITEM, headers=two)
-    check_problem(context, answer, 412, "condition_failed")
+    check_problem(context, answer, 400, "bad_condition")
     context.check("nothing else", asked.ask(f"{ITEMS}/other").status_code, 404)
     put = asked.send("PUT", ITEM, guarded(2), If_Match="*")
     context.check("* of what is there", (put.status_code, kept_number(asked)), (204, 2))
@@ -143,15 +147,19 @@ def check_conditions(context: Context, asked: Gateway) -> None:
 
 
 def check_none_match(context: Context, asked: Gateway) -> None:
-    """`If-None-Match: *` breaks on what is there; a tag is that of nothing, so it holds."""
-    for text in ("*", '"a", *'):
+    """`If-None-Match` breaks on what is there by `*`, and by its tag; another tag holds."""
+    own = asked.ask(ITEM).headers["etag"]
+    rows = [("*", 412, "condition_failed"), (own, 412, "condition_failed")]
+    for text, status, code in (*rows, ('"a", *', 400, "bad_condition")):
         for method, path, body in (
             ("PUT", ITEM, guarded(3)),
             ("DELETE", ITEM, None),
             ("POST", ITEMS, feature("other", None)),
         ):
+            if text == own and path == ITEMS:
+                continue
             answer = asked.send(method, path, body, If_None_Match=text)
-            check_problem(context, answer, 412, "condition_failed")
+            check_problem(context, answer, status, code)
     context.check("nothing acted", kept_number(asked), 2)
     missing = asked.send("PUT", f"{ITEMS}/other", feature("other", None), If_None_Match="*")
     check_problem(context, missing, 404, "no_feature")

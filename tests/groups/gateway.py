@@ -1,7 +1,8 @@
 """The gateway in real reference systems: boxes, edits, faults, and QGIS, GDAL and OWSLib."""
 
 from gateway_tests import answers, boxes, clients, costs, doubles, edits, faults
-from gateway_tests import html_pages, network, orders, pages, round_trip, settings, texts, writing
+from gateway_tests import html_pages, network, orders, pages, round_trip, settings, tags, texts
+from gateway_tests import writing
 from gateway_tests.data import batches, collections
 from gateway_tests.service import gateway
 from harness import Context
@@ -64,4 +65,5 @@ def run(context: Context) -> None:
     pages.check_short_pages(context)
     html_pages.check_pages(context)
     edits.check_edits(context)
+    tags.check_tags(context)
     faults.check_faults(context)
