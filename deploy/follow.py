@@ -1,12 +1,19 @@
 """Posts the lines of a journal, in order, to another Streetmap: a follower, which answers pages.
 
-    python3 deploy/follow.py SOURCE URL [--town NAME] [--position FILE] [--journal F] [--once]
+    python3 deploy/follow.py SOURCE URL [--town NAME] [--login FILE] [--ca FILE]
+                             [--position FILE] [--journal F] [--once]
 
-SOURCE is the path of a journal, or a PostgreSQL with the table of journal_to_postgres.py, as
-`postgresql://..`, with the NAME of a town if that script has one. A path names all files of its
-journal, with the number of one of them or without it (journal_files.py): once a file has ended, the
-next one is read. URL is that of the follower, which nobody else sends batches to. It runs until it
-is stopped, at any time and in any way, and then goes on where the follower is.
+SOURCE is one of these. URL is that of the follower, which nobody else sends batches to. It runs
+until it is stopped, at any time and in any way, and then goes on where the follower is.
+
+- The path of a journal. It names all files of its journal, with the number of one of them or
+  without it (journal_files.py): once a file has ended, the next one is read.
+- A PostgreSQL with the table of journal_to_postgres.py, as `postgresql://..`, with the NAME of a
+  town if that script has one.
+- The changes of a server, as `https://HOST/changes` or `http://..` (journal_changes.py). It signs
+  in by the line USER:PASSWORD of the `--login` FILE, or of STREETMAP_SOURCE_LOGIN in the
+  environment. Certificates are checked by the system's, or by those of the `--ca` FILE. It asks
+  each 0.05 s while lines have come within 30 s, and then each 0.2 s.
 
 It goes on after a serial: that of the last whole line of F, the follower's own journal (`serve
 --journal F`), if one is given; else that in FILE, which it keeps there. Without both, or if they
@@ -32,9 +39,9 @@ with status 1 at what a person has to examine, and sends nothing after it:
     bad_line SERIAL           SOURCE has no line there, or a zero byte amid others;
                               line_too_long SERIAL likewise
     bad_position FILE         FILE has no position
-    bad_source CODE           the database refuses a query
+    bad_source CODE           the database refuses a query, or the server a request
 
-`position_not_written FILE` has status 3, and `usage` 2.
+`position_not_written FILE` has status 3; `usage`, `bad_login` and `bad_authority` have 2.
 """
 
 import argparse
@@ -49,6 +56,7 @@ from pathlib import Path
 from typing import Any
 from urllib.parse import urlsplit
 
+from journal_changes import Changes, is_address, login_of
 from journal_files import JournalFiles, last_line, replace_file
 from journal_lines import (
     MOST_OF_BODY,
@@ -401,13 +409,31 @@ def url(text: str) -> str:
     return text
 
 
-def source_of(text: str, town: str) -> Source:
-    """The source of an argument: a database, with its town, or a journal."""
+def source(text: str) -> str:
+    """An argument that is a source. An address has no user, since others see a command line, and no
+    query."""
+    if is_address(text):
+        parts = urlsplit(url(text))
+        if parts.username is not None or parts.query or parts.fragment:
+            raise ValueError(text)
+    return not_empty(text)
+
+
+def source_of(asked: argparse.Namespace) -> Source:
+    """The source of the arguments: a server, a database, with its town, or a journal."""
+    text: str = asked.source
+    if is_address(text):
+        return Changes(text, login_of(asked.login), asked.ca)
     if not text.startswith(("postgresql://", "postgres://")):
         return JournalFiles(Path(text))
     from journal_table import TableSource
 
-    return TableSource(text, town)
+    return TableSource(text, asked.town)
+
+
+def path_of(text: str) -> Path | None:
+    """An argument that is a path; none if it is empty, as a setting may be."""
+    return Path(text) if text else None
 
 
 def own_place(journal: Path) -> Place:
@@ -421,9 +447,11 @@ def own_place(journal: Path) -> Place:
 
 def arguments() -> argparse.Namespace:
     words = argparse.ArgumentParser(prog=NAME, description=(__doc__ or "").splitlines()[0])
-    words.add_argument("source", type=not_empty, help="a journal's path, or postgresql://..")
+    words.add_argument("source", type=source, help="a path, postgresql://.., https://../changes")
     words.add_argument("url", type=url, help="the follower's URL")
     words.add_argument("--town", type=town_of, default="", metavar="NAME", help="of several towns")
+    words.add_argument("--login", type=path_of, metavar="FILE", help="has USER:PASSWORD")
+    words.add_argument("--ca", type=path_of, metavar="FILE", help="certificates that are trusted")
     words.add_argument("--position", type=Path, help="the file that keeps the serial")
     words.add_argument("--journal", default="", help="the follower's own journal, if it has one")
     words.add_argument("--once", action="store_true", help="ends with the lines that are there")
@@ -436,8 +464,8 @@ def main() -> int:
         position = PositionFile(asked.position) if asked.position else None
         own = JournalFiles(Path(asked.journal)) if asked.journal else None
         place = own_place(own.path) if own else position.read() if position else Place()
-        source, follower = source_of(asked.source, asked.town), Follower(asked.url)
-        run(Following(source, follower, place, position, own), asked.once)
+        follower = Follower(asked.url)
+        run(Following(source_of(asked), follower, place, position, own), asked.once)
     except Fault as fault:
         return end(NAME, fault)
     return 0

@@ -122,10 +122,17 @@ class Script:
         self.context.check("a fault has a status", ended.returncode == 0, bool(ended.stdout))
         return ended.stdout, [line.partition(": ")[2] for line in ended.stderr.splitlines()]
 
-    def ends(self, *words: str | Path) -> tuple[int, list[str]]:
-        """Its exit status, and its lines but for that which says where it began."""
+    def ends(
+        self, *words: str | Path, added: dict[str, str] | None = None
+    ) -> tuple[int, list[str]]:
+        """Its exit status, and its lines but for that which says where it began. Some variables may
+        be added to its environment."""
         ended = subprocess.run(
-            self.command(*words), capture_output=True, text=True, timeout=self.context.seconds
+            self.command(*words),
+            env=os.environ | (added or {}),
+            capture_output=True,
+            text=True,
+            timeout=self.context.seconds,
         )
         lines = [line.partition(": ")[2] for line in ended.stderr.splitlines()]
         return ended.returncode, [

@@ -67,6 +67,7 @@ share/streetmap/deploy/audit.sh
 share/streetmap/deploy/dashboard.json
 share/streetmap/deploy/exporter.py
 share/streetmap/deploy/follow.py
+share/streetmap/deploy/journal_changes.py
 share/streetmap/deploy/journal_digest.py
 share/streetmap/deploy/journal_files.py
 share/streetmap/deploy/journal_lease.py
