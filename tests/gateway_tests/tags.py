@@ -1,7 +1,9 @@
 """Entity tags of what is read, over a server that gives tags of its states, and over one that gives
 none: which answers have which tag, what leaves it, and 304."""
 
-from collections.abc import Iterator
+import asyncio
+import sys
+from collections.abc import Iterator, Sequence
 from typing import Any
 
 import httpx
@@ -9,9 +11,15 @@ from conditional import Conditional, conditional
 from gateway_tests import guarded, patches, races
 from gateway_tests.answers import check_description, check_problem
 from gateway_tests.data import batches, feature, lamps, shape
-from gateway_tests.service import EPSG, OFFICE, SYSTEM, WRITER, Gateway, gateway
+from gateway_tests.service import EPSG, OFFICE, ROOT, SYSTEM, Gateway, gateway
 from harness import Context
 from messages import post
+
+sys.path.append(str(ROOT))
+
+from gateway.client import Answer, ServerClient  # noqa: E402
+from gateway.conditions import EntityTag  # noqa: E402
+from gateway.representation import StateReads, Unchanged  # noqa: E402
 
 COLLECTION = "/collections/lamps"
 ITEMS = f"{COLLECTION}/items"
@@ -49,6 +57,7 @@ def tags_of(asked: Gateway, paths: tuple[str, ...]) -> list[str]:
 
 def check_tags(context: Context) -> None:
     """All of this over a file of its own, and conditional edits of it."""
+    check_states(context)
     kept = {"lamps": lamps(30), "trees": [feature("T1", shape("Point", [1, 2]))]}
     file = context.new_file("tags.streetmap", *map(post, batches(kept)))
     with conditional(context, file, "--clients", "48") as server:
@@ -67,6 +76,46 @@ def check_tags(context: Context) -> None:
     file = context.new_file("untagged.streetmap", *map(post, batches(kept)))
     with context.serve(file, "--clients", "32") as plain, gateway(context, plain.url) as asked:
         check_untagged(context, asked)
+
+
+class Scripted(ServerClient):
+    """A client of a server whose state has these tags, request after request."""
+
+    def __init__(self, *tags: str) -> None:
+        super().__init__("http://localhost", 1)
+        self.tags = [EntityTag(tag) if tag else None for tag in tags]
+        self.named: list[list[str]] = []
+
+    async def shown(
+        self, target: str, known: Sequence[EntityTag] = (), method: str = "GET"
+    ) -> Answer:
+        self.named.append([tag.text for tag in known])
+        tag = self.tags.pop(0)
+        return Answer(304 if tag in known else 200, tag, b"{}")
+
+
+def check_states(context: Context) -> None:
+    """An answer of several requests has a tag if all of them showed one state. The first request
+    alone names what the client has."""
+    for tags, wanted in (
+        (("1",), 'W/"1.form"'),
+        (("1", "1"), 'W/"1.form"'),
+        (("1", "2"), "None"),
+        (("1", ""), "None"),
+        (("",), "None"),
+        (("7", "8"), 'W/"7.form" is known'),
+        (("1", "7"), "None"),
+    ):
+        client, known = Scripted(*tags), [EntityTag("7")]
+        reads = StateReads(client, "form", known)
+        try:
+            for _ in tags:
+                asyncio.run(reads.get("/collections"))
+            got = str(reads.tag)
+        except Unchanged as unchanged:
+            got = f"{unchanged.tag} is known"
+        context.check(f"states {tags}", got, wanted)
+        context.check(f"states {tags}: named", client.named[1:], [[]] * (len(client.named) - 1))
 
 
 def check_resources(context: Context, asked: Gateway) -> None:
