@@ -73,4 +73,6 @@ if [ -e deploy/nginx.conf ] && [ -e deploy/locations.conf ]; then
     settings /etc/nginx/streetmap/locations.conf deploy/locations.conf
     settings /etc/nginx/streetmap/nginx-followers.conf deploy/nginx-followers.conf
     settings /etc/nginx/streetmap/gateway.conf deploy/gateway.conf
+    settings /etc/nginx/streetmap/nginx-cache.conf deploy/nginx-cache.conf
+    settings /etc/nginx/streetmap/cache-locations.conf deploy/cache-locations.conf
 fi

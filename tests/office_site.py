@@ -35,7 +35,7 @@ def office(
     port."""
     kept = folder / "streetmap"
     kept.mkdir()
-    for name in ("locations.conf", "gateway.conf"):
+    for name in ("locations.conf", "gateway.conf", "nginx-cache.conf", "cache-locations.conf"):
         shutil.copy(DEPLOY / name, kept)
     words = "openssl req -x509 -newkey rsa:2048 -nodes -days 2 -subj /CN=localhost"
     made = [*words.split(), "-keyout", "key.pem", "-out", "certificate.pem"]

@@ -1,7 +1,7 @@
-"""A follower by `/changes`, with its faults and over TLS."""
+"""A follower by `/changes`, with its faults and over TLS; nginx that keeps pages by their tags."""
 
 from conditional import conditional
-from followers_tests import changes, fronted
+from followers_tests import caching, changes, fronted
 from harness import Context
 
 PACKAGES = ("libjs-leaflet", "nginx", "openssl")
@@ -11,3 +11,4 @@ def run(context: Context) -> None:
     changes.check_changes(context)
     with conditional(context, context.new_file("primary"), "--clients", "32") as server:
         fronted.check_followed(context, server)
+        caching.check_pages(context, server)
