@@ -123,6 +123,8 @@ def check_delays(front: Front, words: list[str | Path], follower: Served) -> Non
     filed = Process(context, "follow-file", Script(context, "follow.py").command(*by_file))
     for name, process in (("changes", changed), ("a file", filed)):
         with running(process):
+            begun = lambda: "going on" in process.log.read_text()
+            wait_until("it begins", begun, context.seconds)
             (found,) = delays(server.port, [follower.port], f"by {name}".replace(" ", "-"), PROBES)
         tell_delays(context, f"by {name}", found)
     wait_until("all lines", lambda: is_this(follower.journal, server.journal), context.seconds)

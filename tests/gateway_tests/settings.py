@@ -42,6 +42,9 @@ def check_settings(context: Context) -> None:
         context, "edits.fractions unexpected value", whole + '[edits]\nfractions = "round"\n'
     )
     check_refused(
+        context, "edits.require_if_match value", whole + '[edits]\nrequire_if_match = "yes"\n'
+    )
+    check_refused(
         context, "writers.0.name string does not match", whole.replace("crew-7", "crew 7")
     )
     check_refused(context, "has neither a token", whole.replace("token =", "# token ="))
