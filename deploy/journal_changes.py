@@ -1,8 +1,8 @@
 """The changes of another Streetmap as a source of lines: `GET /changes` of a server that has it
 (`serve --changes`), over HTTP or TLS.
 
-Who asks signs in by USER:PASSWORD, if the server wants it: of the environment, or of a file that
-its owner alone reads. It is sent over TLS, and over plain HTTP to this machine alone.
+A client signs in by USER:PASSWORD, if the server wants it: of the environment, or of a file that
+not any user may read. It is sent over TLS, and over plain HTTP to this machine alone.
 """
 
 import base64

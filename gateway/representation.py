@@ -14,7 +14,7 @@ from .conditions import Conditions, EntityTag, failed, read_conditions
 from .gateway import Gateway, gateway_of
 from .tags import of_state, states_of
 
-# The most tags of states that the server is asked about, of those that a client names.
+# The most tags of states that are passed on to the server, of those that a client names.
 MOST_KNOWN = 8
 # Whoever keeps an answer with a tag requests it again by that tag.
 AGAIN = "no-cache"
@@ -61,7 +61,7 @@ class StateReads(ServerReads):
 
 @dataclass(frozen=True)
 class Representation:
-    """What a request asks for: the form, what is read for it, and the conditions."""
+    """What a request wants: the form, what is read for it, and the conditions."""
 
     gateway: Gateway
     conditions: Conditions

@@ -134,7 +134,7 @@ class StandIn:
             return self.judged(request, found) if shows and found.status == 200 else found
 
     def judged(self, request: "Handler", shown: Answer) -> Answer:
-        """The answer to what asks the state, by the conditions of its request."""
+        """The answer to what reads the state, by the conditions of its request."""
         if shown.status != 200 or not self.gives_tags:
             return shown
         tag = f'"{self.journal.read()}"'
