@@ -5,7 +5,6 @@ import threading
 import time
 from collections.abc import Callable
 from concurrent.futures import ThreadPoolExecutor
-from pathlib import Path
 from typing import Any
 
 import httpx
@@ -56,16 +55,17 @@ def together(tasks: list[Callable[[], Any]]) -> list[Any]:
         return list(pool.map(begin, tasks))
 
 
-def check_races(context: Context, asked: Gateway, file: Path) -> None:
-    """Two clients add one to a property of a feature, again and again: one by PUT, one by PATCH.
-    A third changes another property by patches without a condition, and loses none."""
+def check_races(context: Context, asked: Gateway, other: Gateway) -> None:
+    """Two clients add one to a property of a feature, again and again: one by PUT, one by PATCH at
+    another gateway of the same server. A third changes another property by patches without a
+    condition, and loses none."""
     made = feature("counted", shape("Point", [9.98, 53.55]), {"count": 0, "free": 0})
     context.check("made", asked.send("POST", ITEMS, made).status_code, 201)
     rounds, url = SLOW_ROUNDS if context.slow else ROUNDS, asked.url + COUNTED
 
-    def adding(method: str) -> int:
+    def adding(at: Gateway, method: str) -> int:
         with httpx.Client(timeout=60) as client:
-            return sum(add(client, url, method) for _ in range(rounds))
+            return sum(add(client, at.url + COUNTED, method) for _ in range(rounds))
 
     def patching() -> int:
         with httpx.Client(timeout=60) as client:
@@ -73,7 +73,7 @@ def check_races(context: Context, asked: Gateway, file: Path) -> None:
             return sum(send(client, url, "PATCH", it).status_code == 204 for it in bodies)
 
     begun = time.monotonic()
-    tries = together([lambda: adding("PUT"), lambda: adding("PATCH"), patching])
+    tries = together([lambda: adding(asked, "PUT"), lambda: adding(other, "PATCH"), patching])
     seconds = time.monotonic() - begun
     shown = asked.ask(COUNTED).json()["properties"]
     wanted = {"count": 2 * rounds, "free": rounds // 4}

@@ -71,7 +71,8 @@ def check_tags(context: Context) -> None:
             guarded.check_repeats(context, asked, file)
             guarded.check_meanwhile(context, asked, server)
             patches.check_patches(context, asked)
-            races.check_races(context, asked, file)
+            with gateway(context, server.url, address=asked.url) as other:
+                races.check_races(context, asked, other)
         guarded.check_required(context, server)
     file = context.new_file("untagged.streetmap", *map(post, batches(kept)))
     with context.serve(file, "--clients", "32") as plain, gateway(context, plain.url) as asked:
