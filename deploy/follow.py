@@ -13,7 +13,7 @@ until it is stopped, at any time and in any way, and then goes on where the foll
 - The changes of a server, as `https://HOST/changes` or `http://..` (journal_changes.py). It signs
   in by the line USER:PASSWORD of the `--login` FILE, or of STREETMAP_SOURCE_LOGIN in the
   environment. Certificates are checked by the system's, or by those of the `--ca` FILE. Lines are
-  requested each 0.05 s while some have come within 30 s, and then each 0.2 s.
+  requested each 0.03 s while some have come within 30 s, and then each 0.2 s.
 
 It goes on after a serial: that of the last whole line of F, the follower's own journal (`serve
 --journal F`), if one is given; else that in FILE, which it keeps there. Without both, or if they

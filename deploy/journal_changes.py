@@ -25,7 +25,7 @@ LOGIN = "STREETMAP_SOURCE_LOGIN"
 # In seconds: for a connection, and for each part of an answer.
 CONNECT_SECONDS, ANSWER_SECONDS = 10, 60
 # In seconds: between two requests while lines have come of late, and then; how long "of late" is.
-QUICK_SECONDS, IDLE_SECONDS, LATE_SECONDS = 0.05, 0.2, 30
+QUICK_SECONDS, IDLE_SECONDS, LATE_SECONDS = 0.03, 0.2, 30
 # Lines that are requested at once, and the bytes of an answer, at most: the server sends about
 # 8 MiB, or one line.
 AT_ONCE, MOST_OF_ANSWER = 1000, (9 << 20) + MOST_OF_LINE

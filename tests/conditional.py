@@ -186,6 +186,8 @@ class Handler(BaseHTTPRequestHandler):
     """A connection to a stand-in. A server that is away cuts it, without an answer."""
 
     protocol_version = "HTTP/1.1"
+    # Head and body are two writes, the second of which would wait 40 ms.
+    disable_nagle_algorithm = True
     stand_in: StandIn
 
     def log_message(self, *_words: object) -> None:

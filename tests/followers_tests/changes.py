@@ -60,6 +60,7 @@ class Handler(BaseHTTPRequestHandler):
     """A connection to a source."""
 
     protocol_version = "HTTP/1.1"
+    disable_nagle_algorithm = True
     source: Source
 
     def log_message(self, *_words: object) -> None:
