@@ -1,125 +1,72 @@
 /**
- * @file What the page requests from the server. An answer counts if it is the server's own: JSON it
- * writes. What nginx answers in its place (502, 504, a page of HTML) is none.
+ * @file What the page requests from the server.
  *
  * @typedef {import("./feature.js").Feature} Feature
  * @typedef {import("./geometry.js").Box} Box
  * @typedef {{id: string, title: string, extent: Box | null}} Collection
- * @typedef {{features: Feature[], numberMatched: number, next: string | null}} Page
+ * @typedef {{features: Feature[], numberMatched: number, next: string | null,
+ *   serial: number | null}} Page a serial is that of the state that is shown, null if the server
+ *   does not say it
  */
 import { isPhone } from "./element.js";
 import { bare } from "./feature.js";
-import { readJson } from "./json.js";
+import { NoAnswer, READ_SECONDS, Refusal, fetched, fetchedJson, read } from "./request.js";
+import { condition } from "./serials.js";
 import { say } from "./words.js";
+
+export { NoAnswer, Refusal };
 
 /** How many features one page holds. */
 export const PAGE_LIMIT = 1000;
+
+const SEND_SECONDS = 300;
+/** The most characters that are read of what others changed. */
+const MOST_CHANGED = 1_000_000;
+/** The largest bound of a box that the server takes. */
+const FARTHEST = 2_000_000_000;
 
 /** @returns {number} how many features of a collection are shown */
 export function shownLimit() {
   return isPhone() ? 2000 : 5000;
 }
 
-const READ_SECONDS = 30;
-const SEND_SECONDS = 300;
-/** The largest bound of a box that the server takes. */
-const FARTHEST = 2_000_000_000;
-
-/** The server did not answer: no network, or something else answered in its place. */
-export class NoAnswer extends Error {
-  /**
-   * @param {string} text
-   * @param {number} [status] that of the answer in its place
-   */
-  constructor(text, status = 0) {
-    super(text);
-    this.name = "NoAnswer";
-    this.status = status;
-  }
-}
-
-/** The server answered that it does not do this. */
-export class Refusal extends Error {
-  /**
-   * @param {number} status
-   * @param {{code: string, description: string, place?: number, cause?: string}} body
-   */
-  constructor(status, body) {
-    super(body.description);
-    this.name = "Refusal";
-    this.status = status;
-    this.body = body;
-  }
-}
-
-/**
- * Fetches, and gives up after some seconds.
- * @param {string} target path and query
- * @param {RequestInit} options
- * @param {number} seconds
- * @returns {Promise<{status: number, json: any}>} json is null if the body is none of the
- *   server's
- */
-async function fetched(target, options, seconds) {
-  const late = new AbortController();
-  const timer = setTimeout(() => late.abort(), seconds * 1000);
-  const give = () => late.abort();
-  options.signal?.addEventListener("abort", give);
-  try {
-    /** @type {RequestInit} */
-    const settings = { cache: "no-store", redirect: "error", credentials: "same-origin" };
-    const response = await fetch(target, { ...options, ...settings, signal: late.signal });
-    return { status: response.status, json: ownJson(response, await response.text()) };
-  } catch (fault) {
-    if (options.signal?.aborted) throw new DOMException(say("The view moved on."), "AbortError");
-    throw new NoAnswer(late.signal.aborted ? say(
-      "The server is silent.",
-    ) : say("There is no network."));
-  } finally {
-    clearTimeout(timer);
-    options.signal?.removeEventListener("abort", give);
-  }
-}
-
-/**
- * @param {Response} response
- * @param {string} text
- * @returns {any} the object that the body is, if it says that it is JSON; else null
- */
-function ownJson(response, text) {
-  const type = response.headers.get("content-type") ?? "";
-  if (!/^application\/(geo\+)?json\b/.test(type)) return null;
-  try {
-    const value = readJson(text);
-    return value !== null && typeof value === "object" ? value : null;
-  } catch {
-    return null;
-  }
-}
-
-/**
- * @param {string} target path and query
- * @param {AbortSignal} [signal]
- * @returns {Promise<any>} the JSON of the answer 200
- */
-async function read(target, signal) {
-  const { status, json } = await fetched(target, { signal }, READ_SECONDS);
-  if (status === 200 && json) return json;
-  if (json && typeof json.code === "string") throw new Refusal(status, json);
-  throw new NoAnswer(say("The server did not answer ({status}).", { status }), status);
-}
-
 /**
  * @param {AbortSignal} [signal]
- * @returns {Promise<Collection[]>}
+ * @param {number | null} [shown] the serial of the state that is shown
+ * @returns {Promise<{collections: Collection[] | null, serial: number | null}>} null if that is
+ *   still the state
  */
-export async function readCollections(signal) {
-  const { collections } = await read("/collections", signal);
-  return collections.map(({ id, title, extent }) => {
+export async function readCollections(signal, shown = null) {
+  const { json, serial } = await read("/collections", signal, shown);
+  if (json === null) return { collections: null, serial };
+  const collections = json.collections.map(({ id, title, extent }) => {
     const bounds = extent?.spatial?.bbox?.[0];
     const box = bounds && { x0: bounds[0], y0: bounds[1], x1: bounds[2], y1: bounds[3] };
     return { id, title, extent: box ?? null };
   });
+  return { collections, serial };
+}
+
+/**
+ * Reads the batches that were accepted after a serial.
+ * @param {number} after
+ * @param {number} shown the serial of the state that is shown
+ * @param {number} limit the most batches
+ * @param {AbortSignal} [signal]
+ * @returns {Promise<{text: string, serial: number | null} | "same" | "absent" | null>} lines, and
+ *   the serial of the state now; `same` if it is the one that is shown, `absent` if the server does
+ *   not give them, null if they are too long
+ */
+export async function readChanges(after, shown, limit, signal) {
+  const query = new URLSearchParams({ after: String(after), limit: String(limit) });
+  const headers = condition("If-None-Match", shown);
+  const options = { signal, headers };
+  const answer = await fetched(`/changes?${query}`, options, READ_SECONDS, MOST_CHANGED);
+  const { status, text, serial } = answer;
+  if (status === 304) return "same";
+  if (status === 404 || status === 405) return "absent";
+  if (status === 200) return text === null ? null : { text, serial };
+  throw new NoAnswer(say("The server did not answer ({status}).", { status }), status);
 }
 
 /**
@@ -153,11 +100,12 @@ export function pageTarget(collection, box, datetime, limit = PAGE_LIMIT) {
  * @returns {Promise<Page>}
  */
 export async function readPage(target, signal) {
-  const { features, numberMatched, links } = await read(target, signal);
+  const { json, serial } = await read(target, signal);
+  const { features, numberMatched, links } = json;
   const href = links?.find((link) => link.rel === "next")?.href;
   const next = href && new URL(href, location.href);
   const following = next ? next.pathname + next.search : null;
-  return { features: features.map(bare), numberMatched, next: following };
+  return { features: features.map(bare), numberMatched, next: following, serial };
 }
 
 /**
@@ -192,13 +140,16 @@ export async function* readPages(collection, box, datetime, signal) {
 /**
  * @param {string} collection
  * @param {string} id
- * @returns {Promise<Feature | null>} null if it is not there
+ * @returns {Promise<{feature: Feature | null, serial: number | null}>} null if it is not there, or
+ *   if the server does not say which state that is
  */
 export async function readFeature(collection, id) {
   try {
-    return bare(await read(`${itemsPath(collection)}/${encodeURIComponent(id)}`));
+    const { json, serial } = await read(`${itemsPath(collection)}/${encodeURIComponent(id)}`);
+    return { feature: bare(json), serial };
   } catch (fault) {
-    if (fault instanceof Refusal && fault.status === 404) return null;
+    // An error has no tag.
+    if (fault instanceof Refusal && fault.status === 404) return { feature: null, serial: null };
     throw fault;
   }
 }
@@ -221,9 +172,10 @@ export async function knowsKey(key) {
 
 /**
  * @param {string} body the bytes of the batch
+ * @param {number | null} [compared] the serial of the only state that it may change
  * @returns {Promise<{status: number, json: any}>}
  */
-export function postBatch(body) {
-  const headers = { "Content-Type": "application/json" };
-  return fetched("/batches", { method: "POST", headers, body }, SEND_SECONDS);
+export function postBatch(body, compared) {
+  const headers = { "Content-Type": "application/json", ...condition("If-Match", compared) };
+  return fetchedJson("/batches", { method: "POST", headers, body }, SEND_SECONDS);
 }

@@ -122,7 +122,7 @@ export class Chosen {
     const known = this.#known(collection, id);
     if (known) return known;
     try {
-      const feature = await readFeature(collection, id);
+      const { feature } = await readFeature(collection, id);
       if (feature) await this.#seen.put(collection, [feature]);
       return feature;
     } catch (fault) {

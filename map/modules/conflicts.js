@@ -1,13 +1,18 @@
 /**
- * @file What others changed. The server has no preconditions, so each feature that a batch replaces
- * or deletes is read again before the first try of the batch and compared with the copy that was
- * edited. What only one side changed is merged (`merging.js`); the user is asked about the rest.
+ * @file What others changed. Each feature that a batch replaces or deletes is read again before the
+ * first try of the batch and compared with the copy that was edited. What only one side changed is
+ * merged (`merging.js`); the user is asked about the rest.
  *
- * A retry under the same key is not compared again: the lost answer may have been that the batch
- * was accepted, and then its own edits would appear as another's. So a first try is made only right
- * after a comparison that the server answered; without a network neither happens. Between the
- * comparison and the batch, and between a try whose answer was lost and its repetition, another may
- * write.
+ * If the server says which state it shows, all features are compared as they are in one state, and
+ * the batch is sent under the condition that this is still the state. If it is not, nothing was
+ * acted on, and the batch is compared again. A retry under the same key has the same condition: if
+ * the lost answer was that the batch was accepted, it is given again; if it was not, nobody is
+ * overwritten.
+ *
+ * A server without conditions compares nothing. Then a retry is not compared either, since its own
+ * edits might appear as another's. Between the comparison and the batch, and between a try whose
+ * answer was lost and its repetition, another may write. So a first try is made only right after a
+ * comparison that the server answered; without a network neither happens.
  *
  * @typedef {import("./basket.js").Edit} Edit
  * @typedef {import("./queue.js").Difference} Difference
@@ -15,26 +20,64 @@
 import { readFeature } from "./api.js";
 import { isSame } from "./feature.js";
 import { canMerge, merged } from "./merging.js";
+import { newestOf } from "./serials.js";
 
 const AT_ONCE = 6;
+/** How often features are read again because the state changed while they were read. */
+const MOST_ROUNDS = 4;
+
+/** While features were read, others got on all the time. */
+export class Overtaken extends Error {}
 
 /**
- * @param {Edit[]} edits
- * @returns {Promise<Difference[]>} the edits whose feature is not as the copy that was edited
+ * @typedef {{feature: import("./feature.js").Feature | null, serial: number | null}} Theirs
+ * @typedef {{edit: Edit, index: number}} Placed an edit and its place in the batch
+ * @typedef {(collection: string, id: string) => Promise<Theirs>} Read
  */
-export async function findDifferences(edits) {
-  const found = [];
-  const all = edits.map((edit, index) => ({ edit, index }));
-  const left = all.filter(({ edit }) => edit.op === "replace" || edit.op === "delete");
+
+/**
+ * Reads the features of edits.
+ * @param {Placed[]} edits
+ * @param {Map<number, Theirs>} found gets what is there, by the places of the edits
+ * @param {Read} read
+ */
+async function readAll(edits, found, read) {
+  const left = [...edits];
   const work = async () => {
     for (let next = left.shift(); next; next = left.shift()) {
       const { edit, index } = next;
-      const theirs = await readFeature(edit.collection, edit.id);
-      if (!isSame(theirs, edit.base)) found.push({ index, theirs });
+      found.set(index, await read(edit.collection, edit.id));
     }
   };
   await Promise.all(Array.from({ length: AT_ONCE }, work));
-  return found.sort((one, other) => one.index - other.index);
+}
+
+/**
+ * Compares a batch with what is there. It throws `Overtaken` if the features cannot be had as they
+ * are in one state.
+ * @param {Edit[]} edits
+ * @param {Read} [read]
+ * @returns {Promise<{differences: Difference[], serial: number | null}>} the edits whose feature is
+ *   not as the copy that was edited; and the serial of the state that was compared, null if the
+ *   server does not say it, or if nothing was compared
+ */
+export async function compared(edits, read = readFeature) {
+  const placed = edits.map((edit, index) => ({ edit, index }));
+  const all = placed.filter(({ edit }) => edit.op === "replace" || edit.op === "delete");
+  /** @type {Map<number, Theirs>} */
+  const found = new Map();
+  let [left, serial] = [all, /** @type {number | null} */ (null)];
+  for (let round = 0; left.length > 0; round += 1) {
+    if (round > MOST_ROUNDS) throw new Overtaken();
+    await readAll(left, found, read);
+    // A feature that is not there has no serial. It is a difference in any case.
+    serial = newestOf([...found.values()].map((it) => it.serial));
+    const isOld = ({ index }) => found.get(index).feature && found.get(index).serial !== serial;
+    left = all.filter(isOld);
+  }
+  const theirsOf = ({ index }) => ({ index, theirs: found.get(index).feature });
+  const isOther = ({ edit, index }) => !isSame(found.get(index).feature, edit.base);
+  return { differences: all.filter(isOther).map(theirsOf), serial };
 }
 
 /**

@@ -160,7 +160,7 @@ export class Page {
       const title = (collection) => [collection.id, collection.title];
       const titles = () => JSON.stringify(this.view.collections.map(title));
       const before = titles();
-      const collections = await readCollections();
+      const { collections } = await readCollections();
       await this.view.setCollections(collections);
       if (titles() !== before) this.#recolour();
       this.collectionsPanel.show();

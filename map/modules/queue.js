@@ -24,17 +24,16 @@
  * @property {boolean} [isDoubtful] whether the server may be of another town
  * @property {Refused | null} refusal
  * @property {Difference[]} differences what others changed since the copies were taken
+ * @property {number | null} [compared] the serial of the state that it was compared with before its
+ *   first try, and of the only state that it may change; null if the server gives none
+ * @property {number} [overtaken] how often others came first since, one after the other
  */
+import { note } from "./answers.js";
 import { forgetSteps, putInto } from "./basket.js";
 import { batchText, cut, newKey } from "./batch.js";
 import { changed } from "./channel.js";
 import { nameOf } from "./feature.js";
-import { readAll, readSetting, result, transact, writeSetting } from "./store.js";
-
-/** How many records of what became of batches are kept, with their edits. */
-const ANSWERS_KEPT = 200;
-/** The setting that has the key of the last batch that was accepted, and when it was. */
-const LAST_ACCEPTED = "last accepted";
+import { readAll, result, transact } from "./store.js";
 
 /**
  * @param {string} user
@@ -55,6 +54,8 @@ function newBatch(user, edits) {
     isDoubtful: false,
     refusal: null,
     differences: [],
+    compared: null,
+    overtaken: 0,
   };
 }
 
@@ -151,10 +152,8 @@ export async function leave(batch, record, isRight = () => true) {
     if (record.outcome !== "accepted" && !(isThere && isRight(found))) return false;
     const { key, edits } = batch;
     const time = Date.now();
-    const number = Number(await result(answers.add({ key, edits, time, ...record })));
-    if (number > ANSWERS_KEPT) answers.delete(IDBKeyRange.upperBound(number - ANSWERS_KEPT));
+    await note(answers, settings, { key, edits, time, ...record });
     if (record.outcome === "accepted") {
-      settings.put({ key, time }, LAST_ACCEPTED);
       for (const { op, collection, id, feature } of edits) {
         if (op === "open") continue;
         if (!feature) features.delete([collection, id]);
@@ -195,9 +194,10 @@ export async function rebase(batch, edits, differences) {
   if (edits.length === 0) return leave(batch, { outcome: "there" }, mayChange);
   const user = batch.key.split(":")[0];
   const state = differences.length > 0 ? "differs" : "waiting";
-  const row = await update(batch, (found) =>
-    mayChange(found) ? { ...newBatch(user, edits), state, differences } : null,
-  );
+  const row = await update(batch, (found) => {
+    const { overtaken } = found;
+    return mayChange(found) ? { ...newBatch(user, edits), state, differences, overtaken } : null;
+  });
   return row !== null;
 }
 
@@ -265,34 +265,4 @@ export function sendAgain(batch) {
     state: "waiting",
     tries: mayChange(found) ? 0 : found.tries,
   }));
-}
-
-/**
- * @typedef {{number: number, key: string, edits: Edit[], time: number, outcome: string, serial?:
- *   number}} Answer
- * @param {number} [after] the number of a record
- * @returns {Promise<Answer[]>} what became of batches after that record, the first one first
- */
-export function readAnswers(after = 0) {
-  const range = IDBKeyRange.lowerBound(after, true);
-  return transact(["answers"], "readonly", (table) => result(table.getAll(range)));
-}
-
-/**
- * @returns {Promise<{key: string, time: number} | null>} the last batch that was accepted, as long
- *   as the server should know it
- */
-export async function lastAccepted() {
-  const noted = await readSetting(LAST_ACCEPTED);
-  if (noted !== undefined) return noted;
-  // Earlier versions of the page noted it with the other answers alone.
-  const last = (await readAnswers()).findLast(({ outcome }) => outcome === "accepted");
-  const found = last ? { key: last.key, time: last.time } : null;
-  await writeSetting(LAST_ACCEPTED, found);
-  return found;
-}
-
-/** What was accepted before is not queried any more: the user knows the town. */
-export function forgetAccepted() {
-  return writeSetting(LAST_ACCEPTED, null);
 }

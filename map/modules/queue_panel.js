@@ -2,6 +2,7 @@
  * @file The panel of the queue: the batches that wait, why the first of them does, and what became
  * of others.
  */
+import { readAnswers } from "./answers.js";
 import { changed } from "./channel.js";
 import { resolveDifferences } from "./differences_dialog.js";
 import { askInDialog, button, element, renew } from "./element.js";
@@ -15,13 +16,13 @@ import {
   leave,
   mayChange,
   nextToSend,
-  readAnswers,
   sendAgain,
 } from "./queue.js";
 import { trustServer } from "./recognition.js";
 import { countedEdits, editText } from "./texts.js";
 import { clock } from "./time.js";
 import { readOthers, setAside, takeUp } from "./towns.js";
+import { isCrowded } from "./turns.js";
 import { say } from "./words.js";
 
 const SHOWN_ANSWERS = 10;
@@ -240,10 +241,12 @@ export function queueText(queue) {
   const count = queue.length;
   const waits = count === 1 ? say("1 batch waits") : say("{count} batches wait", { count });
   const [{ state, held, isDoubtful }] = queue;
+  const isLate = isCrowded(nextToSend(queue)?.overtaken);
   const problem = (text) => ({ text: `${waits}: ${text}`, isProblem: true });
   if (state === "refused") return problem(say("one was refused"));
   if (state === "differs") return problem(say("decide between two changes"));
   if (isDoubtful) return problem(say("which town is it for?"));
   if (held) return { text: say("{waits} for name and password", { waits }), isProblem: true };
+  if (isLate) return problem(say("others are quicker again and again"));
   return { text: waits, isProblem: false };
 }

@@ -4,8 +4,8 @@
  * that it accepted, and its collections. If some of it is gone, then another town is served, or an
  * older copy of this one, and the user is asked.
  */
+import { forgetAccepted, lastAccepted } from "./answers.js";
 import { NoAnswer, knowsKey, readCollections } from "./api.js";
-import { forgetAccepted, lastAccepted } from "./queue.js";
 import { lostCollections } from "./seen.js";
 import { readAll, transact } from "./store.js";
 import { clock } from "./time.js";
@@ -31,7 +31,8 @@ export async function findDoubt() {
     return "";
   }
   if (isDoubtful) return say("These edits may have been made for another town.");
-  const lost = lostCollections(await readAll("collections"), await readCollections());
+  const { collections } = await readCollections();
+  const lost = lostCollections(await readAll("collections"), collections);
   const titles = lost.map(({ title }) => `\u201c${title}\u201d`).join(", ");
   return lost.length > 0 ? say(
     "The server does not have the collection {titles} any more.",

@@ -5,10 +5,10 @@
  * @typedef {import("./geometry.js").Box} Box
  * @typedef {import("./sights.js").Sight} Sight
  */
+import { readAnswers } from "./answers.js";
 import { boxOf, overlaps } from "./geometry.js";
 import { idle } from "./idle.js";
 import { isEqual } from "./json.js";
-import { readAnswers } from "./queue.js";
 import { Sights } from "./sights.js";
 import { readAll, result, transact } from "./store.js";
 

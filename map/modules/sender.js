@@ -4,75 +4,27 @@
  * pass that touch other features.
  *
  * @typedef {import("./queue.js").Batch} Batch
- * @typedef {{kind: "accepted", answer: any} | {kind: "refused", refusal:
- *   import("./queue.js").Refused}
- *   | {kind: "held", problem: string}
- *   | {kind: "again", problem: string, mayHaveActed: boolean}} Outcome
  */
 import { NoAnswer, Refusal, postBatch } from "./api.js";
 import { onChange } from "./channel.js";
-import { findDifferences } from "./conflicts.js";
+import { Overtaken, compared } from "./conflicts.js";
 import { mergedBatch } from "./merging.js";
+import { isLocked, lockedText, meaningOf } from "./outcome.js";
 import { leave, nextToSend, readQueue, rebase, update } from "./queue.js";
 import { whyNotHere } from "./recognition.js";
 import { currentDatabase } from "./store.js";
-import { say } from "./words.js";
+import { crowdedText, pauseAfter } from "./turns.js";
 
 const FIRST_PAUSE = 1;
 const LONGEST_PAUSE = 60;
 
 /**
- * @param {number} status
- * @returns {boolean} whether the server in front requires a name and a password
- */
-function isLocked(status) {
-  return status === 401 || status === 403;
-}
-
-/**
- * @param {number} status
- * @returns {string}
- */
-function lockedText(status) {
-  return say("Name and password are needed to send ({status}).", { status });
-}
-
-/**
- * @param {string} key
- * @param {{status: number, json: any}} answer
- * @returns {Outcome} what an answer to a batch means
- */
-export function meaningOf(key, { status, json }) {
-  const isSerial = ["number", "bigint"].includes(typeof json?.serial);
-  if (status === 200 && json?.key === key && isSerial) {
-    return { kind: "accepted", answer: json };
-  }
-  const isOwn = typeof json?.code === "string";
-  if (isOwn && status < 500) return { kind: "refused", refusal: { status, ...json } };
-  // The server's own answer that it could not: 503 left the state alone, 500 may follow a write.
-  if (isOwn) {
-    const problem = `${json.description} (${json.code})`;
-    return { kind: "again", problem, mayHaveActed: json.code !== "memory" };
-  }
-  if (isLocked(status)) return { kind: "held", problem: lockedText(status) };
-  if (status === 413) {
-    const description = say("The batch is larger than the server in front takes.");
-    return { kind: "refused", refusal: { status, code: "413", description } };
-  }
-  return {
-    kind: "again",
-    problem: say("The server did not answer ({status}).", { status }),
-    mayHaveActed: status !== 429,
-  };
-}
-
-/**
  * @param {Batch} batch
- * @returns {Promise<Outcome>} the outcome of one try
+ * @returns {Promise<import("./outcome.js").Outcome>} the outcome of one try
  */
 async function post(batch) {
   try {
-    return meaningOf(batch.key, await postBatch(batch.body));
+    return meaningOf(batch.key, await postBatch(batch.body, batch.compared));
   } catch (fault) {
     if (!(fault instanceof NoAnswer)) throw fault;
     return { kind: "again", problem: fault.message, mayHaveActed: true };
@@ -82,19 +34,36 @@ async function post(batch) {
 /**
  * Compares before the first try. What others changed is merged into the batch, as far as that goes.
  * @param {Batch} batch
- * @returns {Promise<"same" | "differs" | string>} or why it could not compare
+ * @returns {Promise<{serial: number | null} | "differs" | "overtaken" | {problem: string}>} the
+ *   serial of the state in which nothing differs, or why it could not compare
  */
 async function compare(batch) {
   try {
-    const differences = await findDifferences(batch.edits);
-    if (differences.length === 0) return "same";
+    const { differences, serial } = await compared(batch.edits);
+    if (differences.length === 0) return { serial };
     const left = mergedBatch(batch.edits, differences);
     await rebase(batch, left.edits, left.differences);
     return "differs";
   } catch (fault) {
-    if (fault instanceof NoAnswer || fault instanceof Refusal) return fault.message;
+    if (fault instanceof Overtaken) return "overtaken";
+    if (fault instanceof NoAnswer || fault instanceof Refusal) return { problem: fault.message };
     throw fault;
   }
+}
+
+/**
+ * Others came first, and nothing was acted on: the batch is compared again before its next try.
+ * No earlier try can act any more, since the state that it was for does not come again.
+ * @param {Batch} batch
+ * @returns {Promise<number>} the seconds until then
+ */
+async function giveWay(batch) {
+  const row = await update(batch, (found) => {
+    const overtaken = (found.overtaken ?? 0) + 1;
+    const fresh = { tries: 0, unanswered: 0, compared: null };
+    return { ...fresh, overtaken, problem: crowdedText(overtaken) };
+  });
+  return row ? pauseAfter(row.overtaken) : 0;
 }
 
 /**
@@ -115,32 +84,42 @@ async function obstacle() {
 /**
  * Makes one try, and stores what came of it before it goes on.
  * @param {Batch} batch
- * @returns {Promise<boolean>} whether to go on at once
+ * @returns {Promise<number | null>} the seconds until the next try; null if these are to grow
  */
 async function attempt(batch) {
   const why = await obstacle();
   if (why) {
     await update(batch, () => why);
-    return why.held;
+    return why.held ? 0 : null;
   }
-  if (batch.tries === 0) {
-    const seen = await compare(batch);
-    if (seen === "differs") return true;
-    if (seen !== "same") {
-      await update(batch, () => ({ problem: seen }));
-      return false;
-    }
+  const isFirst = batch.tries === 0;
+  const seen = isFirst ? await compare(batch) : { serial: batch.compared ?? null };
+  if (seen === "differs") return 0;
+  if (seen === "overtaken") return giveWay(batch);
+  if ("problem" in seen) {
+    await update(batch, () => seen);
+    return null;
   }
   // The count is stored before the request leaves: a tab that is closed now has made a try.
-  const sending = await update(batch, ({ state, held, tries, unanswered }) =>
-    state === "waiting" && !held ? { tries: tries + 1, unanswered: unanswered + 1 } : null,
-  );
-  if (!sending) return true;
-  const outcome = await post(sending);
+  const sending = await update(batch, ({ state, held, tries, unanswered }) => {
+    const counts = { tries: tries + 1, unanswered: unanswered + 1 };
+    return state === "waiting" && !held ? { ...counts, compared: seen.serial } : null;
+  });
+  return sending ? take(sending, await post(sending)) : 0;
+}
+
+/**
+ * Stores what came of a try.
+ * @param {Batch} sending
+ * @param {import("./outcome.js").Outcome} outcome
+ * @returns {Promise<number | null>} the seconds until the next try; null if these are to grow
+ */
+async function take(sending, outcome) {
   if (outcome.kind === "accepted") {
     await leave(sending, { outcome: "accepted", serial: Number(outcome.answer.serial) });
-    return true;
+    return 0;
   }
+  if (outcome.kind === "overtaken") return giveWay(sending);
   if (outcome.kind === "refused") {
     // The server's own refusal says that no earlier try was accepted; that of nginx does not.
     const isOwn = outcome.refusal.code !== "413";
@@ -149,13 +128,13 @@ async function attempt(batch) {
       sending,
       () => ({ state: "refused", refusal: outcome.refusal, unanswered, problem: "" }),
     );
-    return true;
+    return 0;
   }
   const { problem } = outcome;
   const hasActed = outcome.kind === "again" && outcome.mayHaveActed;
   const unanswered = sending.unanswered - (hasActed ? 0 : 1);
   await update(sending, () => ({ problem, unanswered, held: outcome.kind === "held" }));
-  return outcome.kind === "held";
+  return outcome.kind === "held" ? 0 : null;
 }
 
 /** Waits that a change of the queue, the network or the user may end. */
@@ -204,12 +183,9 @@ async function sendAll(queueAlarm, sendAlarm) {
       await queueAlarm.wait(Infinity);
       continue;
     }
-    if (await attempt(batch)) {
-      pause = FIRST_PAUSE;
-      continue;
-    }
-    await sendAlarm.wait(pause);
-    pause = Math.min(LONGEST_PAUSE, pause * 2);
+    const seconds = await attempt(batch);
+    if (seconds !== 0) await sendAlarm.wait(seconds ?? pause);
+    pause = seconds === null ? Math.min(LONGEST_PAUSE, pause * 2) : FIRST_PAUSE;
   }
 }
 
