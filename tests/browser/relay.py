@@ -40,6 +40,11 @@ def response(status: str, body: str, kind: str = "application/json", *fields: st
     return ("\r\n".join(head) + "\r\n\r\n" + body).encode()
 
 
+def status_of(answer: bytes) -> int:
+    """The status of an answer; 0 of none."""
+    return int(answer.split(b" ", 2)[1]) if answer else 0
+
+
 class Relay:
     """Listens on `port` and passes requests on to the port `server`, while that is not None."""
 
@@ -51,8 +56,14 @@ class Relay:
         self.batches: list[tuple[bytes, bytes]] = []
         # What is answered to the next batches in the server's place.
         self.canned: deque[bytes] = deque()
+        # Called with each batch before it is passed on: others may come first.
+        self.before: Callable[[bytes], None] = lambda _: None
         # Called with each batch that the server answered; the answer is lost where it returns True.
         self.loses: Callable[[], bool] = lambda: False
+        # The port of an older copy of the town, which what only reads goes to if it is not None.
+        self.follower: int | None = None
+        # What only read: targets, and the statuses of their answers.
+        self.reads: list[tuple[str, int]] = []
         # Whether other requests go on, and how many had to wait for that.
         self.open = threading.Event()
         self.open.set()
@@ -105,17 +116,23 @@ class Relay:
         if not is_batch and not self.open.is_set():
             self.held += 1
             self.open.wait(SECONDS)
+        if is_batch:
+            self.before(body)
         answer = self._pass_on(request)
         if is_batch:
             self.batches.append((body, answer))
             if self.loses():
                 return b""
+        elif request.startswith(b"GET "):
+            self.reads.append((request.split(b" ")[1].decode(), status_of(answer)))
         return answer
 
     def _pass_on(self, request: bytes) -> bytes:
-        if self.server is None:
+        port = self.follower if request.startswith(b"GET ") else None
+        port = self.server if port is None else port
+        if port is None:
             return b""
-        with socket.create_connection(("127.0.0.1", self.server), timeout=SECONDS) as server:
+        with socket.create_connection(("127.0.0.1", port), timeout=SECONDS) as server:
             server.sendall(request)
             parts = []
             while received := server.recv(65536):

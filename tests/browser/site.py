@@ -12,6 +12,7 @@ from typing import Any
 from urllib.error import HTTPError
 
 from harness import Context, Server, free_port
+from stand_in import Town, standing_in
 
 from browser.relay import Relay
 
@@ -21,6 +22,17 @@ ROOT = Path(__file__).resolve().parents[2]
 sys.path.insert(0, str(ROOT / "deploy"))
 
 import serve_map as serve_map  # noqa: E402
+
+
+@dataclass(frozen=True)
+class Options:
+    """Those of the server that the page makes use of: `--conditional` and `--changes`."""
+
+    tags: bool = False
+    changes: bool = False
+
+
+NONE, TAGS, BOTH = Options(), Options(tags=True), Options(tags=True, changes=True)
 
 
 @dataclass
@@ -33,6 +45,7 @@ class Site:
     relay: Relay
     place: Path | None = None
     root: Path = ROOT
+    options: Options = NONE
     server: Server | None = None
     _running: contextlib.ExitStack | None = None
     _nginx: contextlib.ExitStack | None = None
@@ -48,9 +61,20 @@ class Site:
     def start(self) -> None:
         """Serves the file."""
         self._running = contextlib.ExitStack()
-        words = ("--clients", "64", "--base", f"{self.base}/")
-        self.server = self._running.enter_context(self.context.serve(self.file, *words))
-        self.relay.server = self.server.port
+        self.server, self.relay.server = self.serve(self._running, self.file)
+
+    def serve(self, running: contextlib.ExitStack, file: Path) -> tuple[Server, int]:
+        """Serves a file with the options of this site. Returns the program, which other clients
+        reach, and the port that the page's requests go to."""
+        words = ["--clients", "64", "--base", f"{self.base}/"]
+        if self.options == NONE:
+            server = running.enter_context(self.context.serve(file, *words))
+            return server, server.port
+        journal = file.with_suffix(".journal")
+        words += ["--journal", str(journal)]
+        server = running.enter_context(self.context.serve(file, *words))
+        town = Town(server.port, journal, self.options.tags, self.options.changes)
+        return server, running.enter_context(standing_in(town))
 
     def stop(self) -> None:
         """Kills the server."""
@@ -101,11 +125,16 @@ class Site:
 
 @contextlib.contextmanager
 def site(
-    context: Context, name: str, *batches: Any, place: Path | None = None, root: Path = ROOT
+    context: Context,
+    name: str,
+    *batches: Any,
+    place: Path | None = None,
+    root: Path = ROOT,
+    options: Options = NONE,
 ) -> Iterator[Site]:
     """A new file with batches, served."""
     file = context.new_file(f"{name}.streetmap")
-    made = Site(context, file, free_port(), Relay(), place, root)
+    made = Site(context, file, free_port(), Relay(), place, root, options)
     try:
         made.start()
         for batch in batches:

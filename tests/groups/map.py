@@ -2,6 +2,7 @@
 
 from browser import (
     beginning,
+    conditions,
     counting,
     deploying,
     drawing,
@@ -42,7 +43,7 @@ PACKAGES = (
 
 def run(context: Context) -> None:
     # Those with the longest parts first.
-    longest = (panning, looking, keeping, sending, editing, reading)
+    longest = (panning, conditions, looking, keeping, sending, editing, reading)
     crews = (beginning, drawing, filling, standing, showing, merging, taking, counting, languages)
     others = (forms, phone, placing, deploying, foreign, modules)
     run_parts(context, [part for it in (*longest, *crews, *others) for part in it.PARTS])
