@@ -5,6 +5,7 @@
  * @typedef {import("./walking.js").Area} Area
  */
 import { NoAnswer, Refusal, countMatched, pageTarget, readPage } from "./api.js";
+import { overlaps } from "./geometry.js";
 import { result, currentDatabase, transact } from "./store.js";
 import { newArea, progressOf, walk } from "./walking.js";
 import { inDigits, say } from "./words.js";
@@ -49,6 +50,16 @@ export class Areas {
   constructor(seen, onChange) {
     this.#seen = seen;
     this.#onChange = onChange;
+  }
+
+  /**
+   * @param {string} collection
+   * @param {import("./geometry.js").Box} box
+   * @returns {boolean} whether an area has what lies in the box
+   */
+  has(collection, box) {
+    const isOf = ({ parts }) => parts.some((part) => part.collection === collection);
+    return this.list.some((area) => isOf(area) && overlaps(area.box, box));
   }
 
   /**

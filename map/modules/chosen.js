@@ -22,6 +22,8 @@ export class Chosen {
   #view;
   #editor;
   #tabs;
+  /** @type {Feature | null} as the panel shows it */
+  #shown = null;
   #ground;
   #listener;
 
@@ -157,12 +159,23 @@ export class Chosen {
     this.#view.layers.outline(isShown ? this.#known(collection, id) : null);
   }
 
+  /** Shows the feature again if another is known of it now, unless a form is open. */
+  renew() {
+    const { choice, form } = this.#state;
+    const { collection, id } = choice.name ?? {};
+    const known = choice.name && this.#known(collection, id);
+    if (!choice.name || !this.#shown || form.isOpen || known === this.#shown) this.outline();
+    else if (known) this.show();
+    else this.leave(say("{id} is not there.", { id }));
+  }
+
   /** Shows the feature as it is now, unless an edit is under way. */
   show() {
     if (this.#state.isFormBegun) return;
     const { name, others } = this.#state.choice;
     const { collection, id } = name ?? {};
     const feature = name && this.#known(collection, id);
+    this.#shown = feature;
     if (!feature) return void this.leave();
     const title = this.#view.collections.find((it) => it.id === collection)?.title ?? collection;
     const shown = {

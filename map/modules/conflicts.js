@@ -17,10 +17,11 @@
  * @typedef {import("./basket.js").Edit} Edit
  * @typedef {import("./queue.js").Difference} Difference
  */
-import { readFeature } from "./api.js";
-import { isSame } from "./feature.js";
+import { readChanges, readFeature } from "./api.js";
+import { readNews } from "./changes.js";
+import { isSame, nameOf } from "./feature.js";
 import { canMerge, merged } from "./merging.js";
-import { newestOf } from "./serials.js";
+import { newestOf, oldestOf } from "./serials.js";
 
 const AT_ONCE = 6;
 /** How often features are read again because the state changed while they were read. */
@@ -33,6 +34,7 @@ export class Overtaken extends Error {}
  * @typedef {{feature: import("./feature.js").Feature | null, serial: number | null}} Theirs
  * @typedef {{edit: Edit, index: number}} Placed an edit and its place in the batch
  * @typedef {(collection: string, id: string) => Promise<Theirs>} Read
+ * @typedef {(serial: number) => Promise<import("./changes.js").News | "same" | null>} Since
  */
 
 /**
@@ -53,30 +55,74 @@ async function readAll(edits, found, read) {
 }
 
 /**
+ * @param {Placed[]} edits
+ * @param {Map<number, Theirs>} found
+ * @returns {Placed[]} those whose feature was read in an older state than others. One that is not
+ *   there has no serial, and is a difference in any case.
+ */
+function olderOf(edits, found) {
+  const newest = newestOf([...found.values()].map((it) => it.serial));
+  const isOlder = ({ feature, serial }) => feature !== null && serial !== newest;
+  return edits.filter(({ index }) => isOlder(found.get(index)));
+}
+
+/** @type {Since} what was changed after a state, if the server says that */
+function newsSince(serial) {
+  return readNews({ serial, key: "" }, async (...asked) => {
+    const answer = await readChanges(...asked);
+    return answer === "absent" ? null : answer;
+  });
+}
+
+/**
+ * Brings features that were read in several states to the one that is reached by what was changed
+ * since the oldest of them.
+ * @param {Placed[]} edits
+ * @param {Map<number, Theirs>} found
+ * @param {Since} since
+ * @returns {Promise<boolean>} false if the server does not say what was changed
+ */
+async function caughtUp(edits, found, since) {
+  const there = [...found.values()].filter(({ feature }) => feature !== null);
+  const oldest = oldestOf(there.map((it) => it.serial));
+  const news = oldest === null ? null : await since(oldest);
+  if (news === null || news === "same") return false;
+  const { serial } = news.known;
+  if (serial < newestOf(there.map((it) => it.serial))) return false;
+  const changes = new Map(news.changes.map((it) => [nameOf(it.collection, it.id), it]));
+  for (const { edit, index } of edits) {
+    const change = changes.get(nameOf(edit.collection, edit.id));
+    const { feature } = change ?? found.get(index);
+    found.set(index, { feature, serial: feature && serial });
+  }
+  return true;
+}
+
+/**
  * Compares a batch with what is there. It throws `Overtaken` if the features cannot be had as they
  * are in one state.
  * @param {Edit[]} edits
  * @param {Read} [read]
+ * @param {Since} [since]
  * @returns {Promise<{differences: Difference[], serial: number | null}>} the edits whose feature is
  *   not as the copy that was edited; and the serial of the state that was compared, null if the
  *   server does not say it, or if nothing was compared
  */
-export async function compared(edits, read = readFeature) {
+export async function compared(edits, read = readFeature, since = newsSince) {
   const placed = edits.map((edit, index) => ({ edit, index }));
   const all = placed.filter(({ edit }) => edit.op === "replace" || edit.op === "delete");
   /** @type {Map<number, Theirs>} */
   const found = new Map();
-  let [left, serial] = [all, /** @type {number | null} */ (null)];
+  let left = all;
   for (let round = 0; left.length > 0; round += 1) {
     if (round > MOST_ROUNDS) throw new Overtaken();
     await readAll(left, found, read);
-    // A feature that is not there has no serial. It is a difference in any case.
-    serial = newestOf([...found.values()].map((it) => it.serial));
-    const isOld = ({ index }) => found.get(index).feature && found.get(index).serial !== serial;
-    left = all.filter(isOld);
+    left = olderOf(all, found);
+    if (left.length > 1 && (await caughtUp(all, found, since))) left = olderOf(all, found);
   }
   const theirsOf = ({ index }) => ({ index, theirs: found.get(index).feature });
   const isOther = ({ edit, index }) => !isSame(found.get(index).feature, edit.base);
+  const serial = newestOf([...found.values()].map((it) => it.serial));
   return { differences: all.filter(isOther).map(theirsOf), serial };
 }
 

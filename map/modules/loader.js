@@ -3,12 +3,15 @@
  * what was seen before if the server does not answer.
  *
  * @typedef {import("./geometry.js").Box} Box
- * @typedef {{shown: number, matched: number, oldest: number | null, isFiltered: boolean,
- *   problem: string}} Count of the features of a collection; a problem says why it is not of now
+ * @typedef {{ids: Set<string>, shown: number, matched: number, oldest: number | null,
+ *   isFiltered: boolean, problem: string, serial: number | null}} Count of the features of a
+ *   collection; a problem says why it is not of now. The serial is that of the oldest state of its
+ *   pages, null if the server does not say it
  */
 import { NoAnswer, Refusal, readPages } from "./api.js";
 import { boxOf } from "./geometry.js";
 import { idle } from "./idle.js";
+import { oldestOf } from "./serials.js";
 
 export class Loader {
   /** @type {AbortController | null} */
@@ -37,8 +40,7 @@ export class Loader {
    * @param {string[]} collections
    * @param {Box} box
    * @param {string} datetime an interval, or no text
-   * @returns {Promise<Map<string, Count & {ids: Set<string>}> | null>} null if
-   *   it was dropped
+   * @returns {Promise<Map<string, Count> | null>} null if it was dropped
    */
   async load(collections, box, datetime) {
     this.drop();
@@ -61,9 +63,10 @@ export class Loader {
    * @param {Box} box
    * @param {string} datetime
    * @param {AbortSignal} signal
+   * @returns {Promise<Count>}
    */
   async #collection(collection, box, datetime, signal) {
-    const ids = new Set();
+    const [ids, serials] = [new Set(), []];
     let [matched, isWhole] = [0, true];
     try {
       for await (const page of readPages(collection, box, datetime, signal)) {
@@ -71,6 +74,7 @@ export class Loader {
         for (const feature of page.features) ids.add(feature.id);
         const drawn = () => performance.measure("page drawn", { start });
         this.#draw(collection, this.#seen.see(collection, page.features), drawn);
+        serials.push(page.serial);
         matched = page.numberMatched;
         isWhole = page.next === null;
       }
@@ -83,6 +87,7 @@ export class Loader {
           oldest: null,
           isFiltered: false,
           problem: fault.message,
+          serial: null,
         };
       }
       if (!(fault instanceof NoAnswer) && !(fault instanceof Refusal)) throw fault;
@@ -97,6 +102,7 @@ export class Loader {
       oldest: null,
       isFiltered: datetime !== "",
       problem: "",
+      serial: oldestOf(serials),
     };
   }
 
@@ -105,6 +111,7 @@ export class Loader {
    * @param {Box} box
    * @param {string} datetime
    * @param {string} problem why no request is sent
+   * @returns {Count}
    */
   #fromSeen(collection, box, datetime, problem) {
     const sights = this.#seen.within(collection, box);
@@ -118,6 +125,7 @@ export class Loader {
       oldest: Number.isFinite(oldest) ? oldest : null,
       isFiltered: datetime === "",
       problem,
+      serial: null,
     };
   }
 }

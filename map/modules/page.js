@@ -2,7 +2,6 @@
  * @file The page: it puts the map, the panels, the basket and the queue together.
  */
 import { keepAddress, takeAddress } from "./address_bar.js";
-import { NoAnswer, Refusal, readCollections } from "./api.js";
 import { Areas } from "./areas.js";
 import { AreasPanel } from "./areas_panel.js";
 import { BackgroundImage } from "./background.js";
@@ -16,9 +15,9 @@ import { Editor } from "./editor.js";
 import { announce, byId } from "./element.js";
 import { Ground } from "./ground.js";
 import { kindsIn } from "./kinds.js";
+import { Lookout } from "./lookout.js";
 import { officeOf, readOffice } from "./office.js";
 import { QueuePanel } from "./queue_panel.js";
-import { keepCollections } from "./seen.js";
 import { showSettings } from "./settings_panel.js";
 import { Snapping } from "./snapping.js";
 import { State } from "./state.js";
@@ -50,6 +49,8 @@ export class Page {
   /** When the town's name was last read. */
   #compared = 0;
   #timer = 0;
+  /** @type {AbortController | null} */
+  #asking = null;
   office = officeOf({});
 
   /** @param {import("./seen.js").Seen} seen */
@@ -88,6 +89,7 @@ export class Page {
     });
     this.areas = new Areas(seen, () => this.areasPanel.show());
     this.areasPanel = new AreasPanel(byId("panel-collections"), this.areas, this.view);
+    this.lookout = new Lookout(this, (before) => this.#showCollections(before));
     this.waiting = new Waiting(this, choose);
     keepAddress(state);
     this.#listen();
@@ -141,6 +143,7 @@ export class Page {
     this.ground.place(this.office);
     await this.#showSettings();
     await asked;
+    this.#plan();
     this.state.set("view", { isPlaced: true });
     if (isSecureContext) this.areas.goOn();
     const { feature } = address;
@@ -152,25 +155,39 @@ export class Page {
     if (feature) await this.chosen.choose(feature.collection, feature.id, false);
   }
 
-  /** Requests the collections and the features of the view. */
+  /** Shows the collections and the features of the view as they are now. */
   async refresh() {
     clearTimeout(this.#timer);
+    this.#asking?.abort();
+    const asking = new AbortController();
+    this.#asking = asking;
     if (!(await this.#isHere())) return;
-    try {
-      const title = (collection) => [collection.id, collection.title];
-      const titles = () => JSON.stringify(this.view.collections.map(title));
-      const before = titles();
-      const { collections } = await readCollections();
-      await this.view.setCollections(collections);
-      if (titles() !== before) this.#recolour();
-      this.collectionsPanel.show();
-      await keepCollections(collections);
-      if (this.#isSought) this.view.showAll();
-      this.#isSought = false;
-    } catch (fault) {
-      if (!(fault instanceof NoAnswer) && !(fault instanceof Refusal)) throw fault;
-    }
-    await this.view.refresh();
+    await this.lookout.look(asking.signal);
+    if (this.#asking === asking) this.#asking = null;
+    this.#plan();
+  }
+
+  /**
+   * Shows the collections that came.
+   * @param {import("./api.js").Collection[]} before
+   */
+  #showCollections(before) {
+    const titles = (all) => JSON.stringify(all.map(({ id, title }) => [id, title]));
+    if (titles(this.view.collections) !== titles(before)) this.#recolour();
+    this.collectionsPanel.show();
+    if (this.#isSought) this.view.showAll();
+    this.#isSought = false;
+  }
+
+  /** Plans when to look again: soon if something is not of now, or the server says what is new. */
+  #plan() {
+    clearTimeout(this.#timer);
+    const { isProblem } = viewText(this.view.counts, clock);
+    const isKnown = this.lookout.shown !== null;
+    const fact = byId("last-counts");
+    if (fact) fact.hidden = isKnown;
+    if (!isProblem && (!isKnown || document.hidden)) return;
+    this.#timer = setTimeout(() => this.refresh(), AGAIN_SECONDS * 1000);
   }
 
   /**
@@ -197,9 +214,8 @@ export class Page {
     const shown = byId("view-state");
     if (shown.textContent !== text) shown.textContent = text;
     shown.classList.toggle("problem", isProblem);
-    clearTimeout(this.#timer);
-    if (isProblem) this.#timer = setTimeout(() => this.refresh(), AGAIN_SECONDS * 1000);
-    this.chosen.outline();
+    this.#plan();
+    this.chosen.renew();
     if (Date.now() - this.#compared > COMPARE_SECONDS * 1000) this.#isHere();
   }
 

@@ -145,17 +145,19 @@ export async function showSettings(panel, { office, isKept, onBackground }) {
       "map.json is not used as a whole: {problem}.",
       { problem },
     )),
-    say(
-      "Between the look for changes of others and a batch, another may write: the last " +
-        "batch counts.",
-    ),
   ];
+  const last = say(
+    "Between the look for changes of others and a batch, another may write: the last " +
+      "batch counts.",
+  );
   panel.replaceChildren(
     await nameForm(), await imageForm(onBackground), element("h2", {}, say("Good to know")),
     element(
       "ul",
       { class: "facts" },
       ...facts.filter(Boolean).map((text) => element("li", {}, text)),
+      // It is hidden once the server says which state it shows.
+      element("li", { id: "last-counts" }, last),
     ),
   );
 }

@@ -4,14 +4,17 @@
  *
  * @typedef {import("./api.js").Collection} Collection
  * @typedef {import("./geometry.js").Box} Box
+ * @typedef {import("./changes.js").Change} Change
  */
 import { shownLimit } from "./api.js";
 import { Palette } from "./colours.js";
+import { countsAfter, extentsAfter } from "./counts.js";
 import { DensityLayer } from "./density_layer.js";
 import { toPosition } from "./draw.js";
-import { nameOf } from "./feature.js";
+import { Drawn } from "./drawn.js";
 import { boxOf, overlaps } from "./geometry.js";
 import { addGrid, addScale } from "./grid.js";
+import { isEqual } from "./json.js";
 import { Labels } from "./labels.js";
 import { Layers, toPlace } from "./layers.js";
 import { makeMap } from "./leaflet_map.js";
@@ -42,6 +45,9 @@ export class View {
   #labels;
   #density;
   #resting;
+  #drawn;
+  /** @type {Box | null} the box whose features were requested last, and came */
+  #loaded = null;
   /** As of when the view is, in milliseconds since 1970. */
   asOf = 0;
 
@@ -60,11 +66,15 @@ export class View {
     this.#density = new DensityLayer(this.map);
     this.#labels = new Labels(this.map, () => this.#shownLabels());
     this.#seen = seen;
-    this.#loader = new Loader(seen, (...page) => this.#draw(...page));
+    this.#drawn = new Drawn(this.layers, seen, state);
+    this.#loader = new Loader(seen, (...page) => this.#drawn.draw(...page));
     this.#state = state;
     this.#listener = listener;
     state.on("view", (now, before) => this.#follow(now, before));
-    state.on("basket", ({ pending }, before) => this.#showPending(pending, before.pending));
+    state.on("basket", ({ pending }, before) => {
+      this.#drawn.changePending(pending, before.pending);
+      this.#labels.redraw();
+    });
     this.map.on("moveend", () => this.#moved());
   }
 
@@ -113,7 +123,8 @@ export class View {
     const { box } = this;
     for (const { id } of this.switchedOn) {
       const sights = this.#seen.within(id, box);
-      if (sights.length <= shownLimit()) this.#draw(id, sights.map(({ feature }) => feature));
+      const features = sights.map(({ feature }) => feature);
+      if (sights.length <= shownLimit()) this.#drawn.draw(id, features);
     }
   }
 
@@ -177,56 +188,6 @@ export class View {
     this.#drawGrid();
   }
 
-  /**
-   * @param {ReadonlyMap<string, import("./pending.js").Pending>} pending
-   * @param {ReadonlyMap<string, import("./pending.js").Pending>} before
-   */
-  #showPending(pending, before) {
-    for (const [name, { edit }] of before) {
-      if (pending.has(name)) continue;
-      const sight = this.#seen.find(edit.collection, edit.id);
-      if (!sight) this.layers.remove(name);
-      else this.#put(edit.collection, sight.feature, null);
-    }
-    this.#drawPending();
-  }
-
-  /** Draws the edits that are still to come, wherever they are. */
-  #drawPending() {
-    for (const { edit, mark } of this.#state.basket.pending.values()) {
-      this.#put(edit.collection, edit.feature ?? edit.base, { mark, op: edit.op });
-    }
-    this.#labels.redraw();
-  }
-
-  /**
-   * @param {string} collection
-   * @param {import("./feature.js").Feature[]} features
-   * @param {() => void} [onPainted]
-   */
-  #draw(collection, features, onPainted) {
-    const { pending } = this.#state.basket;
-    for (const feature of features) {
-      if (!pending.has(nameOf(collection, feature.id))) this.#put(collection, feature, null);
-    }
-    if (onPainted) this.layers.afterPaint(onPainted);
-  }
-
-  /**
-   * Draws a feature if its collection is switched on.
-   * @param {string} collection
-   * @param {import("./feature.js").Feature} feature
-   * @param {import("./layers.js").Shown["pending"]} pending
-   */
-  #put(collection, feature, pending) {
-    if (!this.#isOff(collection)) this.layers.put(collection, feature, pending);
-  }
-
-  /** @param {string} collection */
-  #isOff(collection) {
-    return this.#state.view.off.includes(collection);
-  }
-
   /** Requests the features of the view, and takes away those that are gone. */
   async refresh() {
     const rests = this.#resting.asks();
@@ -234,29 +195,46 @@ export class View {
     const { box } = this;
     const counts = await this.#loader.load(wanted, box, this.#datetime);
     if (!counts) return;
-    this.#removeGone(counts, box);
-    this.#drawPending();
-    this.counts = counts;
+    this.#drawn.keepOnly(counts, box, this.#datetime ? box : this.layers.around);
     this.asOf = Math.min(...[...counts.values()].map(({ oldest }) => oldest ?? Date.now()));
     if (!Number.isFinite(this.asOf)) this.asOf = Date.now();
-    this.#listener.onCounts();
+    this.#loaded = box;
+    this.#showCounts(counts);
     this.#showDensity(box);
     rests();
   }
 
+  /** @param {Map<string, import("./loader.js").Count>} counts those of now */
+  #showCounts(counts) {
+    this.#drawn.drawPending();
+    this.#labels.redraw();
+    this.counts = counts;
+    this.#listener.onCounts();
+  }
+
+  /** The server says that nothing has changed since. */
+  confirm() {
+    this.asOf = Date.now();
+  }
+
   /**
-   * Takes away what the view no longer has. Around the view all stays that no filter concerns.
-   * @param {Map<string, {ids: Set<string>}>} counts
-   * @param {Box} box of the view
+   * Takes in what others changed, if it is certain what the view then has.
+   * @param {Change[]} changes what was seen has them already
+   * @param {number} serial of the state that is reached
+   * @returns {boolean} false if the view has to be requested again
    */
-  #removeGone(counts, box) {
-    const around = this.#datetime ? box : this.layers.around;
-    for (const [name, { collection, feature, box: own }] of this.layers.shown) {
-      if (this.#state.basket.pending.has(name) && !this.#isOff(collection)) continue;
-      const ids = counts.get(collection)?.ids;
-      const isAround = ids && own && !overlaps(own, box) && overlaps(own, around);
-      if (!ids?.has(feature.id) && !isAround) this.layers.remove(name);
-    }
+  take(changes, serial) {
+    const own = changes.filter(({ collection }) => !this.#drawn.isOff(collection));
+    const { box } = this;
+    const isThere = this.#loaded !== null && isEqual(this.#loaded, box);
+    const isFiltered = own.length > 0 && this.#datetime !== "";
+    const counts = isThere && !isFiltered ? countsAfter(this.counts, box, own, serial) : null;
+    this.collections = extentsAfter(this.collections, changes);
+    if (!counts) return false;
+    this.#drawn.take(own);
+    this.confirm();
+    this.#showCounts(counts);
+    return true;
   }
 
   /**
