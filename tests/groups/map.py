@@ -15,6 +15,7 @@ from browser import (
     looking,
     merging,
     modules,
+    news,
     panning,
     phone,
     placing,
@@ -43,7 +44,7 @@ PACKAGES = (
 
 def run(context: Context) -> None:
     # Those with the longest parts first.
-    longest = (panning, conditions, looking, keeping, sending, editing, reading)
+    longest = (panning, news, conditions, looking, keeping, sending, editing, reading)
     crews = (beginning, drawing, filling, standing, showing, merging, taking, counting, languages)
     others = (forms, phone, placing, deploying, foreign, modules)
     run_parts(context, [part for it in (*longest, *crews, *others) for part in it.PARTS])
