@@ -10,7 +10,15 @@
  */
 import { isPhone } from "./element.js";
 import { bare } from "./feature.js";
-import { NoAnswer, READ_SECONDS, Refusal, fetched, fetchedJson, read } from "./request.js";
+import {
+  NoAnswer,
+  READ_SECONDS,
+  Refusal,
+  fetched,
+  fetchedJson,
+  fieldsOf,
+  read,
+} from "./request.js";
 import { condition } from "./serials.js";
 import { say } from "./words.js";
 
@@ -37,7 +45,7 @@ export function shownLimit() {
  *   still the state
  */
 export async function readCollections(signal, shown = null) {
-  const { json, serial } = await read("/collections", signal, shown);
+  const { json, serial } = await read("/collections", { signal, shown });
   if (json === null) return { collections: null, serial };
   const collections = json.collections.map(({ id, title, extent }) => {
     const bounds = extent?.spatial?.bbox?.[0];
@@ -52,15 +60,15 @@ export async function readCollections(signal, shown = null) {
  * @param {number} after
  * @param {number} shown the serial of the state that is shown
  * @param {number} limit the most batches
- * @param {AbortSignal} [signal]
+ * @param {{signal?: AbortSignal, isExact?: boolean}} [how] whether no follower may answer
  * @returns {Promise<{text: string, serial: number | null} | "same" | "absent" | null>} lines, and
  *   the serial of the state now; `same` if it is the one that is shown, `absent` if the server does
  *   not give them, null if they are too long
  */
-export async function readChanges(after, shown, limit, signal) {
+export async function readChanges(after, shown, limit, how = {}) {
+  const { signal, isExact = false } = how;
   const query = new URLSearchParams({ after: String(after), limit: String(limit) });
-  const headers = condition("If-None-Match", shown);
-  const options = { signal, headers };
+  const options = { signal, headers: fieldsOf(shown, isExact) };
   const answer = await fetched(`/changes?${query}`, options, READ_SECONDS, MOST_CHANGED);
   const { status, text, serial } = answer;
   if (status === 304) return "same";
@@ -100,7 +108,7 @@ export function pageTarget(collection, box, datetime, limit = PAGE_LIMIT) {
  * @returns {Promise<Page>}
  */
 export async function readPage(target, signal) {
-  const { json, serial } = await read(target, signal);
+  const { json, serial } = await read(target, { signal });
   const { features, numberMatched, links } = json;
   const href = links?.find((link) => link.rel === "next")?.href;
   const next = href && new URL(href, location.href);
@@ -140,12 +148,14 @@ export async function* readPages(collection, box, datetime, signal) {
 /**
  * @param {string} collection
  * @param {string} id
+ * @param {boolean} [isExact] whether no follower may answer
  * @returns {Promise<{feature: Feature | null, serial: number | null}>} null if it is not there, or
  *   if the server does not say which state that is
  */
-export async function readFeature(collection, id) {
+export async function readFeature(collection, id, isExact = false) {
+  const target = `${itemsPath(collection)}/${encodeURIComponent(id)}`;
   try {
-    const { json, serial } = await read(`${itemsPath(collection)}/${encodeURIComponent(id)}`);
+    const { json, serial } = await read(target, { isExact });
     return { feature: bare(json), serial };
   } catch (fault) {
     // An error has no tag.

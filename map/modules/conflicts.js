@@ -66,10 +66,15 @@ function olderOf(edits, found) {
   return edits.filter(({ index }) => isOlder(found.get(index)));
 }
 
+/** @type {Read} a feature as it is now, and not as a follower has it */
+function readNow(collection, id) {
+  return readFeature(collection, id, true);
+}
+
 /** @type {Since} what was changed after a state, if the server says that */
 function newsSince(serial) {
   return readNews({ serial, key: "" }, async (...asked) => {
-    const answer = await readChanges(...asked);
+    const answer = await readChanges(...asked, { isExact: true });
     return answer === "absent" ? null : answer;
   });
 }
@@ -108,7 +113,7 @@ async function caughtUp(edits, found, since) {
  *   not as the copy that was edited; and the serial of the state that was compared, null if the
  *   server does not say it, or if nothing was compared
  */
-export async function compared(edits, read = readFeature, since = newsSince) {
+export async function compared(edits, read = readNow, since = newsSince) {
   const placed = edits.map((edit, index) => ({ edit, index }));
   const all = placed.filter(({ edit }) => edit.op === "replace" || edit.op === "delete");
   /** @type {Map<number, Theirs>} */

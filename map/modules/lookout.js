@@ -98,7 +98,7 @@ export class Lookout {
     if (shown === null || !this.#hasChanges) return "all";
     const key = this.#known.serial === shown ? this.#known.key : "";
     const news = await readNews({ serial: shown, key }, async (...asked) => {
-      const answer = await this.#server.readChanges(...asked, signal);
+      const answer = await this.#server.readChanges(...asked, { signal });
       if (answer !== "absent") return answer;
       this.#hasChanges = false;
       return null;

@@ -87,6 +87,16 @@ async function shortText(response, most) {
 }
 
 /**
+ * @param {number | null} shown the serial of a state that is known already
+ * @param {boolean} isExact whether no follower may answer, which may be some batches late
+ * @returns {Record<string, string>} the fields that say so; nginx-followers.conf knows the second
+ */
+export function fieldsOf(shown, isExact) {
+  const routing = isExact ? { "Streetmap-Primary": "yes" } : {};
+  return { ...condition("If-None-Match", shown), ...routing };
+}
+
+/**
  * Fetches JSON.
  * @param {string} target path and query
  * @param {RequestInit} options
@@ -116,13 +126,14 @@ function ownJson(type, text) {
 
 /**
  * @param {string} target path and query
- * @param {AbortSignal} [signal]
- * @param {number | null} [shown] the serial of a state that is known already
+ * @param {{signal?: AbortSignal, shown?: number | null, isExact?: boolean}} [options] the serial of
+ *   a state that is known already, and whether no follower may answer
  * @returns {Promise<{json: any, serial: number | null}>} the JSON of the answer 200, and which
  *   state it shows; null if that is still the one that is known
  */
-export async function read(target, signal, shown = null) {
-  const headers = condition("If-None-Match", shown);
+export async function read(target, options = {}) {
+  const { signal, shown = null, isExact = false } = options;
+  const headers = fieldsOf(shown, isExact);
   const { status, json, serial } = await fetchedJson(target, { signal, headers }, READ_SECONDS);
   if (status === 304 && shown !== null) return { json: null, serial };
   if (status === 200 && json) return { json, serial };

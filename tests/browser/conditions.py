@@ -132,23 +132,41 @@ def lost_after(context: Context) -> None:
             context.check(f"{way}: one acceptance", serials, [2, 2])
 
 
+def from_primary(context: Context) -> None:
+    """A follower is late: what is compared comes from the primary, with tags and without."""
+    for way, options in BOTH_WAYS:
+        with lamp_site(context, "primary", options) as (made, page):
+            behind(context, made, page)
+            lamp = kept(made)
+            got = lamp["kind"], lamp.get("state")
+            context.check(f"{way}: what is kept", got, ("mine", "worn"))
+
+
 def from_follower(context: Context) -> None:
-    """What is read comes from a follower that is late: the batch waits until it has caught up."""
+    """nginx does not know that yet: the batch waits until the follower has caught up. Without tags
+    what it did not have is lost."""
     for way, options in BOTH_WAYS:
         with lamp_site(context, "follower", options) as (made, page):
-            with contextlib.ExitStack() as running:
-                made.relay.follower = follower_of(made, running)
-                theirs(made, "L01", **WORN)
-                change(page, "L01", kind="mine")
-                page.save()
-                if options.tags:
-                    page.wait("two tries", lambda: len(made.relay.batches) >= 2)
-                    context.check("nothing was acted on", kept(made)["state"], "worn")
-                    made.relay.follower = None
-                page.wait_sent()
-                made.relay.follower = None
-            context.check(f"{way}: what is kept", kept(made).get("state"), worn_if(options))
-            context.check(f"{way}: mine", kept(made)["kind"], "mine")
+            made.relay.knows_primary = False
+            behind(context, made, page)
+            lamp = kept(made)
+            got = lamp["kind"], lamp.get("state")
+            context.check(f"{way}: what is kept", got, ("mine", worn_if(options)))
+
+
+def behind(context: Context, made: Site, page: Page) -> None:
+    """I change a lamp that another has changed, which the follower does not know."""
+    with contextlib.ExitStack() as running:
+        made.relay.follower = follower_of(made, running)
+        theirs(made, "L01", **WORN)
+        change(page, "L01", kind="mine")
+        page.save()
+        if made.options.tags and not made.relay.knows_primary:
+            page.wait("two tries", lambda: len(made.relay.batches) >= 2)
+            context.check("nothing was acted on", kept(made)["kind"], "lamp")
+            made.relay.follower = None
+        page.wait_sent()
+        made.relay.follower = None
 
 
 def follower_of(made: Site, running: contextlib.ExitStack) -> int:
@@ -204,4 +222,5 @@ def reloaded(context: Context) -> None:
         context.check("the repetition was too late", 412 in statuses(made), True)
 
 
-PARTS = (from_follower, crowded, between, same_property, lost_before, lost_after, reloaded)
+SLOWEST = (from_follower, from_primary, crowded)
+PARTS = (*SLOWEST, between, same_property, lost_before, lost_after, reloaded)

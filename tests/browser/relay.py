@@ -11,6 +11,8 @@ from collections.abc import Callable
 from typing import Any
 
 SECONDS = 60
+# What a request says that no follower may answer.
+PRIMARY = b"streetmap-primary: yes"
 # A batch that is refused in any case: with it the page checks whether a key was used.
 QUESTION = b'"op":"delete","collection":"unknown-'
 
@@ -60,8 +62,10 @@ class Relay:
         self.before: Callable[[bytes], None] = lambda _: None
         # Called with each batch that the server answered; the answer is lost where it returns True.
         self.loses: Callable[[], bool] = lambda: False
-        # The port of an older copy of the town, which what only reads goes to if it is not None.
+        # The port of an older copy of the town, which what only reads goes to if it is not None,
+        # and whether a request may ask for the primary, as nginx-followers.conf has it.
         self.follower: int | None = None
+        self.knows_primary = True
         # What only read: targets, and the statuses of their answers.
         self.reads: list[tuple[str, int]] = []
         # Whether other requests go on, and how many had to wait for that.
@@ -128,8 +132,9 @@ class Relay:
         return answer
 
     def _pass_on(self, request: bytes) -> bytes:
-        port = self.follower if request.startswith(b"GET ") else None
-        port = self.server if port is None else port
+        is_exact = self.knows_primary and PRIMARY in request.lower()
+        is_late = request.startswith(b"GET ") and not is_exact and self.follower is not None
+        port = self.follower if is_late else self.server
         if port is None:
             return b""
         with socket.create_connection(("127.0.0.1", port), timeout=SECONDS) as server:

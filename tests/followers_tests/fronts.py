@@ -129,6 +129,9 @@ def check_office(site: Site) -> None:
         check("a signed batch", asked(f"{url}/batches", batch, **signed), 200)
         check("a marked page", asked(f"{url}/collections?mark=office"), 400)
         check("a follower has it", found(site, "office")[0], 0)
+        check("of now", asked(f"{url}/collections?mark=now", Streetmap_Primary="yes"), 400)
+        wait_until("of now", lambda: sum(found(site, "now")) > 0, 30)
+        check("the first has it", found(site, "now"), [1, 0, 0])
         origins.check_origins(site, url, **signed)
 
 
