@@ -20,6 +20,15 @@ function meets(feature, box) {
 }
 
 /**
+ * @param {ReadonlyMap<string, Count>} counts
+ * @param {number} serial
+ * @returns {Map<string, Count>} the same counts, of this state
+ */
+export function ofState(counts, serial) {
+  return new Map([...counts].map(([id, count]) => [id, { ...count, serial }]));
+}
+
+/**
  * @param {ReadonlyMap<string, Count>} counts of the collections that are switched on
  * @param {Box} box of the view
  * @param {Change[]} changes of these collections
@@ -27,7 +36,7 @@ function meets(feature, box) {
  * @returns {Map<string, Count> | null} the counts after them; null if the view has to be requested
  */
 export function countsAfter(counts, box, changes, serial) {
-  const after = new Map([...counts].map(([id, count]) => [id, { ...count, serial }]));
+  const after = ofState(counts, serial);
   for (const collection of new Set(changes.map((it) => it.collection))) {
     const count = after.get(collection);
     const isWhole = count && !count.problem && count.shown === count.matched;

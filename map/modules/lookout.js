@@ -3,7 +3,7 @@
  * whether that is still the one on the map; if it is, nothing else is requested. If it is not, the
  * batches that were accepted since are read, and what they changed is taken into what is kept and
  * shown. Only if that is too much, or the server does not give them, or does not say the state, is
- * the view requested again.
+ * the view requested again; in a town that changes all the time, not more than once a minute.
  *
  * @typedef {import("./changes.js").Change} Change
  * @typedef {import("./changes.js").Known} Known
@@ -14,6 +14,8 @@ import { boxOf, overlaps } from "./geometry.js";
 import { keepCollections } from "./seen.js";
 import { oldestOf } from "./serials.js";
 
+/** A view of which it is not certain what it has is requested again after this time, in seconds. */
+const REQUESTED_AGAIN = 60;
 /** What is requested, and where what is said of collections is kept. */
 const SERVER = { readChanges, readCollections, keep: keepCollections };
 
@@ -29,6 +31,10 @@ export class Lookout {
   #known = { serial: 0, key: "" };
   /** Whether the server gives the batches that it accepted, as far as is known. */
   #hasChanges = true;
+  /** Whether there are too many of them, until the view is requested as a whole. */
+  #isTooMuch = false;
+  /** When it was. */
+  #requested = 0;
 
   /**
    * @param {{view: import("./view.js").View, seen: import("./seen.js").Seen,
@@ -54,16 +60,20 @@ export class Lookout {
   /**
    * Shows the state of now.
    * @param {AbortSignal} signal
+   * @param {boolean} [canWait] whether a view that has to be requested again may be so later
    */
-  async look(signal) {
+  async look(signal, canWait = false) {
     try {
-      const rest = await this.#follow(signal);
-      const isShown = rest === "all" ? await this.#compare(signal) : rest === "nothing";
-      if (isShown) return undefined;
+      const isAll = await this.#follow(signal);
+      const isShown = isAll ? await this.#compare(signal) : !this.#view.isOwed;
+      const isLate = Date.now() - this.#requested > REQUESTED_AGAIN * 1000;
+      if (isShown || (canWait && !isLate && this.shown !== null)) return undefined;
     } catch (fault) {
       if (fault.name === "AbortError") return undefined;
       if (!(fault instanceof NoAnswer) && !(fault instanceof Refusal)) throw fault;
     }
+    this.#requested = Date.now();
+    this.#isTooMuch = false;
     return this.#view.refresh();
   }
 
@@ -80,6 +90,7 @@ export class Lookout {
       const before = this.#view.collections;
       await this.#view.setCollections(collections);
       this.#onCollections(before);
+      if (collections.length !== before.length) this.#requested = 0;
       await this.#server.keep(collections);
     }
     const counts = [...this.#view.counts.values()];
@@ -91,11 +102,11 @@ export class Lookout {
   /**
    * Takes in the batches that were accepted since.
    * @param {AbortSignal} signal
-   * @returns {Promise<"nothing" | "view" | "all">} what has to be requested again
+   * @returns {Promise<boolean>} whether all has to be requested again
    */
   async #follow(signal) {
     const { shown } = this;
-    if (shown === null || !this.#hasChanges) return "all";
+    if (shown === null || !this.#hasChanges || this.#isTooMuch) return true;
     const key = this.#known.serial === shown ? this.#known.key : "";
     const news = await readNews({ serial: shown, key }, async (...asked) => {
       const answer = await this.#server.readChanges(...asked, { signal });
@@ -103,14 +114,18 @@ export class Lookout {
       this.#hasChanges = false;
       return null;
     });
-    if (news === null) return "all";
-    if (news === "same") this.#view.confirm();
-    if (news === "same") return "nothing";
+    this.#isTooMuch = news === null;
+    if (news === null) return true;
+    if (news === "same") {
+      if (!this.#view.isOwed) this.#view.confirm();
+      return false;
+    }
     this.#keep(news.changes);
     this.#known = news.known;
-    if (news.isOpened) return "all";
+    if (news.isOpened) return true;
     this.#serial = news.known.serial;
-    return this.#view.take(news.changes, news.known.serial) ? "nothing" : "view";
+    this.#view.take(news.changes, news.known.serial);
+    return false;
   }
 
   /**

@@ -155,14 +155,17 @@ export class Page {
     if (feature) await this.chosen.choose(feature.collection, feature.id, false);
   }
 
-  /** Shows the collections and the features of the view as they are now. */
-  async refresh() {
+  /**
+   * Shows the collections and the features of the view as they are now.
+   * @param {boolean} [canWait] whether a view that has to be requested may be so a little later
+   */
+  async refresh(canWait = false) {
     clearTimeout(this.#timer);
     this.#asking?.abort();
     const asking = new AbortController();
     this.#asking = asking;
     if (!(await this.#isHere())) return;
-    await this.lookout.look(asking.signal);
+    await this.lookout.look(asking.signal, canWait);
     if (this.#asking === asking) this.#asking = null;
     this.#plan();
   }
@@ -187,7 +190,7 @@ export class Page {
     const fact = byId("last-counts");
     if (fact) fact.hidden = isKnown;
     if (!isProblem && (!isKnown || document.hidden)) return;
-    this.#timer = setTimeout(() => this.refresh(), AGAIN_SECONDS * 1000);
+    this.#timer = setTimeout(() => this.refresh(true), AGAIN_SECONDS * 1000);
   }
 
   /**

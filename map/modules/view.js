@@ -8,7 +8,7 @@
  */
 import { shownLimit } from "./api.js";
 import { Palette } from "./colours.js";
-import { countsAfter, extentsAfter } from "./counts.js";
+import { countsAfter, extentsAfter, ofState } from "./counts.js";
 import { DensityLayer } from "./density_layer.js";
 import { toPosition } from "./draw.js";
 import { Drawn } from "./drawn.js";
@@ -48,6 +48,8 @@ export class View {
   #drawn;
   /** @type {Box | null} the box whose features were requested last, and came */
   #loaded = null;
+  /** Whether it has to be requested again to know what it has. */
+  isOwed = false;
   /** As of when the view is, in milliseconds since 1970. */
   asOf = 0;
 
@@ -199,6 +201,7 @@ export class View {
     this.asOf = Math.min(...[...counts.values()].map(({ oldest }) => oldest ?? Date.now()));
     if (!Number.isFinite(this.asOf)) this.asOf = Date.now();
     this.#loaded = box;
+    this.isOwed = false;
     this.#showCounts(counts);
     this.#showDensity(box);
     rests();
@@ -218,10 +221,9 @@ export class View {
   }
 
   /**
-   * Takes in what others changed, if it is certain what the view then has.
+   * Draws what others changed. If it is not certain what the view then has, it has to be requested.
    * @param {Change[]} changes what was seen has them already
    * @param {number} serial of the state that is reached
-   * @returns {boolean} false if the view has to be requested again
    */
   take(changes, serial) {
     const own = changes.filter(({ collection }) => !this.#drawn.isOff(collection));
@@ -230,11 +232,10 @@ export class View {
     const isFiltered = own.length > 0 && this.#datetime !== "";
     const counts = isThere && !isFiltered ? countsAfter(this.counts, box, own, serial) : null;
     this.collections = extentsAfter(this.collections, changes);
-    if (!counts) return false;
-    this.#drawn.take(own);
-    this.confirm();
-    this.#showCounts(counts);
-    return true;
+    if (!isFiltered) this.#drawn.take(own);
+    this.isOwed ||= counts === null;
+    if (!this.isOwed) this.confirm();
+    this.#showCounts(counts ?? ofState(this.counts, serial));
   }
 
   /**

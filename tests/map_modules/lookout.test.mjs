@@ -41,12 +41,14 @@ function page(lines, { hasTags = true, hasChanges = true, isCertain = true } = {
     confirm: () => done.push("as it was"),
     refresh: async () => {
       done.push("view?");
+      view.isOwed = false;
       view.counts = count();
     },
+    isOwed: false,
     take: (changes, serial) => {
-      if (isCertain) view.counts = new Map([["lamps", { serial }]]);
-      if (isCertain) done.push(`took ${changes.map(({ id }) => id)}`);
-      return isCertain;
+      view.counts = new Map([["lamps", { serial }]]);
+      view.isOwed = !isCertain;
+      done.push(`took ${changes.map(({ id }) => id)}`);
     },
   };
   const seen = {
@@ -57,9 +59,9 @@ function page(lines, { hasTags = true, hasChanges = true, isCertain = true } = {
   };
   const areas = { has: (_, { x0 }) => x0 === 700 };
   const lookout = new Lookout({ view, seen, areas }, () => {}, server);
-  const look = async () => {
+  const look = async (canWait = false) => {
     done.length = 0;
-    await lookout.look(new AbortController().signal);
+    await lookout.look(new AbortController().signal, canWait);
     return [...done];
   };
   return { look, lookout, server };
@@ -99,7 +101,45 @@ test("a view of which that is not certain is requested again, and nothing else",
   const { look } = page(lines, { isCertain: false });
   await look();
   lines.push(line(2, put("insert", at("near", 5, 5))));
-  assert.deepEqual(await look(), ["changes?", "saw near", "view?"]);
+  assert.deepEqual(await look(), ["changes?", "saw near", "took near", "view?"]);
+  assert.deepEqual(await look(), ["changes?", "as it was"]);
+});
+
+test("a view that is not certain is requested once a minute", async (context) => {
+  let now = 1e6;
+  context.mock.method(Date, "now", () => now);
+  const lines = [line(1)];
+  const { look } = page(lines, { isCertain: false });
+  await look(true);
+  lines.push(line(2, put("insert", at("near", 5, 5))));
+  assert.deepEqual(await look(true), ["changes?", "saw near", "took near"]);
+  now += 59_000;
+  // It is drawn; what is not certain is what else the view has.
+  assert.deepEqual(await look(true), ["changes?"]);
+  now += 2000;
+  assert.deepEqual(await look(true), ["changes?", "view?"]);
+  for (let serial = 3; serial < 200; serial += 1) lines.push(line(serial));
+  assert.deepEqual(await look(true), ["changes?", "collections?"]);
+  // What was too much is not read again.
+  assert.deepEqual(await look(true), ["collections?"]);
+  now += 61_000;
+  assert.deepEqual(await look(true), ["collections?", "view?"]);
+  assert.deepEqual(await look(true), ["changes?", "as it was"]);
+});
+
+test("by tags alone too; what a person did is not put off", async (context) => {
+  let now = 1e6;
+  context.mock.method(Date, "now", () => now);
+  const lines = [line(1)];
+  const { look } = page(lines, { hasChanges: false });
+  await look(true);
+  await look(true);
+  lines.push(line(2));
+  assert.deepEqual(await look(true), ["collections?"]);
+  assert.deepEqual(await look(), ["collections?", "view?"]);
+  lines.push(line(3));
+  now += 61_000;
+  assert.deepEqual(await look(true), ["collections?", "view?"]);
 });
 
 test("a collection that was opened, and too much, are requested again as a whole", async () => {
