@@ -29,17 +29,23 @@ def kinds(asked_for: set[tuple[str, int]]) -> list[str]:
     return sorted({path.rpartition("/")[2] for path, _ in asked_for})
 
 
+def look(page: Page) -> None:
+    """Has the page look at once, as it does when a person comes back to it."""
+    page.script("document.dispatchEvent(new Event('visibilitychange'))")
+
+
 def quiet(context: Context, page: Page, made: Site, way: str, options: Options) -> None:
     """While nothing changes, what is requested is answered 304; without tags nothing is."""
-    # The first look by changes learns that there are none.
     if options == TAGS:
+        # The first look learns that the server does not give changes.
+        look(page)
         page.wait("a look", lambda: ("/changes", 404) in asked(made, 0))
         page.wait("its end", lambda: made.relay.reads[-1][1] == 304)
     since = len(made.relay.reads)
     if options == NONE:
         time.sleep(LOOKS)
     else:
-        page.wait("two looks", lambda: len(made.relay.reads) >= since + 2)
+        page.wait("a look by itself", lambda: len(made.relay.reads) > since)
     path = "/changes" if options.changes else "/collections"
     wanted = set() if options == NONE else {(path, 304)}
     context.check(f"{way}: nothing new", asked(made, since), wanted)
@@ -59,10 +65,10 @@ def news(context: Context) -> None:
             made.edit("two", insert("lamps", point("N2", 37_000, 10_000)))
             theirs(made, "L01", kind="mast")
             if options == NONE:
-                time.sleep(LOOKS)
-                context.check("nothing is requested", asked(made, since), set())
                 page.tab("collections")
                 page.press("Ask again")
+            elif options == TAGS:
+                look(page)
             page.wait_shown("lamps", "13")
             page.wait_text("#panel-feature", "mast")
             read = kinds(asked(made, since))
@@ -88,21 +94,22 @@ def unsure(context: Context) -> None:
     with site(context, "unsure", town(), options=BOTH) as made, browser() as page:
         page.open(made.address)
         page.wait_shown("lamps", "12")
-        page.wait("a look", lambda: ("/changes", 304) in asked(made, 0))
         since = len(made.relay.reads)
         beside = [[-900_000, 40_000], [40_000, -900_000]]
         line = feature("X1", {"type": "LineString", "coordinates": beside})
         made.edit("line", insert("lamps", line))
+        look(page)
         page.wait("the view", lambda: "items" in kinds(asked(made, since)))
         context.check("the view is read", kinds(asked(made, since)), ["changes", "items"])
         page.wait_shown("lamps", "12")
         made.edit("opened", opened("trees", "Trees"), insert("trees", point("T1", 36_000, 12_000)))
+        look(page)
         page.wait_shown("trees", "1")
 
 
-def two_pages(context: Context, look: Callable[[str, Page], Any] = lambda name, page: None) -> None:
+def two_pages(context: Context, keep: Callable[[str, Page], Any] = lambda name, page: None) -> None:
     """Two pages edit one lamp: what each changed is merged, what both changed is asked, and each
-    shows at last what the other did."""
+    shows at last what the other did. Who wants to see that is given the pages to keep pictures."""
     for size in SIZES:
         width, is_phone = size[0], size[0] < 800
         with site(context, f"two-{width}", town(), options=BOTH) as made:
@@ -111,7 +118,7 @@ def two_pages(context: Context, look: Callable[[str, Page], Any] = lambda name, 
                     page.open(made.address)
                     page.wait_shown("lamps", "12")
                 other_properties(context, made, one, other)
-                one_property(context, made, one, other, lambda *it: look(f"{width}-{it[0]}", it[1]))
+                one_property(context, made, one, other, lambda *it: keep(f"{width}-{it[0]}", it[1]))
 
 
 def other_properties(context: Context, made: Site, one: Page, other: Page) -> None:
@@ -125,7 +132,7 @@ def other_properties(context: Context, made: Site, one: Page, other: Page) -> No
 
 
 def one_property(
-    context: Context, made: Site, one: Page, other: Page, look: Callable[[str, Page], Any]
+    context: Context, made: Site, one: Page, other: Page, keep: Callable[[str, Page], Any]
 ) -> None:
     for page, kind in ((one, "globe"), (other, "lantern")):
         change(page, "L02", kind=kind)
@@ -136,14 +143,14 @@ def one_property(
     kind = made.features("lamps")["L02"]["properties"]["kind"]
     context.check("the first is not overwritten", kind, "globe")
     other.tab("queue")
-    look("queue", other)
+    keep("queue", other)
     other.press("Decide")
-    look("asked", other)
+    keep("asked", other)
     other.press("Keep mine", "dialog")
     other.wait_sent()
     one.choose("L02")
     one.wait_text("#panel-feature", "lantern")
-    look("seen", one)
+    keep("seen", one)
     kind = made.features("lamps")["L02"]["properties"]["kind"]
     context.check("as was decided", kind, "lantern")
 
