@@ -189,8 +189,10 @@ def crowded(context: Context) -> None:
         page.tab("queue")
         page.wait_text("#panel-queue", "times another batch was accepted")
         context.check("it was not acted on", kept(made)["kind"], "lamp")
-        buttons = page.texts("#panel-queue li.batch .buttons button")
-        context.check("it is free", buttons, ["Try now", "Back to basket", "Drop"])
+        # During a try it is not.
+        wanted = ["Try now", "Back to basket", "Drop"]
+        found = page.until(wanted, lambda: page.texts("#panel-queue li.batch .buttons button"))
+        context.check("it is free", found, wanted)
         made.relay.before = lambda _: None
         page.press("Try now")
         page.wait_sent()
