@@ -29,6 +29,8 @@ export class Lookout {
   #serial = null;
   /** @type {Known} the state whose last batch is known */
   #known = { serial: 0, key: "" };
+  /** Whether the server did not answer at last: what it has may not be known at all. */
+  isSilent = false;
   /** Whether the server gives the batches that it accepted, as far as is known. */
   #hasChanges = true;
   /** Whether there are too many of them, until the view is requested as a whole. */
@@ -66,11 +68,13 @@ export class Lookout {
     try {
       const isAll = await this.#follow(signal);
       const isShown = isAll ? await this.#compare(signal) : !this.#view.isOwed;
+      this.isSilent = false;
       const isLate = Date.now() - this.#requested > REQUESTED_AGAIN * 1000;
       if (isShown || (canWait && !isLate && this.shown !== null)) return undefined;
     } catch (fault) {
       if (fault.name === "AbortError") return undefined;
       if (!(fault instanceof NoAnswer) && !(fault instanceof Refusal)) throw fault;
+      this.isSilent = true;
     }
     this.#requested = Date.now();
     this.#isTooMuch = false;

@@ -182,14 +182,15 @@ export class Page {
     this.#isSought = false;
   }
 
-  /** Plans when to look again: soon if something is not of now, or the server says what is new. */
+  /** Plans when to look again: if something is not of now, or the server says what is new. */
   #plan() {
     clearTimeout(this.#timer);
     const { isProblem } = viewText(this.view.counts, clock);
     const isKnown = this.lookout.shown !== null;
     const fact = byId("last-counts");
     if (fact) fact.hidden = isKnown;
-    if (!isProblem && (!isKnown || document.hidden)) return;
+    const isDue = isProblem || this.lookout.isSilent || (isKnown && !document.hidden);
+    if (!isDue) return;
     this.#timer = setTimeout(() => this.refresh(true), AGAIN_SECONDS * 1000);
   }
 

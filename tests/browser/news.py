@@ -107,6 +107,15 @@ def unsure(context: Context) -> None:
         page.wait_shown("trees", "1")
 
 
+def opened_early(context: Context) -> None:
+    """The server does not answer a page that knows nothing: it asks again by itself."""
+    with site(context, "early", town()) as made, browser() as page:
+        port, made.relay.server = made.relay.server, None
+        page.open(made.address)
+        made.relay.server = port
+        page.wait_shown("lamps", "12")
+
+
 def two_pages(context: Context, keep: Callable[[str, Page], Any] = lambda name, page: None) -> None:
     """Two pages edit one lamp: what each changed is merged, what both changed is asked, and each
     shows at last what the other did. Who wants to see that is given the pages to keep pictures."""
@@ -155,4 +164,4 @@ def one_property(
     context.check("as was decided", kind, "lantern")
 
 
-PARTS = (news, two_pages, unsure)
+PARTS = (news, two_pages, unsure, opened_early)

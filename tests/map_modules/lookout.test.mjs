@@ -185,10 +185,16 @@ test("a server without tags is requested as a whole each time", async () => {
 });
 
 test("without a network the view is shown as it was seen", async () => {
-  const { look, server } = page([line(1)]);
+  const { look, lookout, server } = page([line(1)]);
   await look();
+  assert.equal(lookout.isSilent, false);
+  const { readChanges } = server;
   server.readChanges = async () => {
     throw new NoAnswer("There is no network.");
   };
   assert.deepEqual(await look(), ["view?"]);
+  assert.equal(lookout.isSilent, true);
+  server.readChanges = readChanges;
+  await look();
+  assert.equal(lookout.isSilent, false);
 });
