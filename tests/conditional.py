@@ -1,8 +1,8 @@
 """Serves a file with entity tags, conditions and `/changes`: `serve --conditional --changes`.
 
-A program that lacks these options has a stand-in in front of it here: a proxy that handles one
-request at a time, and counts batches by the journal that the server writes. It is written from what
-the options are to do. It goes, and `conditional` alone stays, once the server has both.
+A program that lacks one of these options has a stand-in for it in front: a proxy that counts
+batches by the journal that the server writes. It is written from what the options are to do. It
+goes once the program has both.
 
 Each 200 of `/collections` and below has `ETag: "N"`, N the number of accepted batches, and so has
 the 200 of a batch. `If-None-Match` is answered 304, and a failed `If-Match` 412 `changed`; a batch
@@ -11,24 +11,36 @@ batches after serial N: at most L (100, at most 1000) and about 8 MiB, and at le
 """
 
 import contextlib
-import http.client
 import json
 import re
 import threading
 from collections.abc import Iterator
 from dataclasses import dataclass, field
-from http.server import BaseHTTPRequestHandler, ThreadingHTTPServer
 from pathlib import Path
 from urllib.parse import parse_qsl, urlsplit
 
 from harness import Context, Server
+from proxy import CONDITIONS, Answer, Handler, Proxy, listening
 
-CONDITIONS = ("if-match", "if-none-match")
-# Fields of a connection, and those that the stand-in answers to itself.
-UNSENT = {*CONDITIONS, "connection", "content-length"}
 ELEMENT = re.compile(r'[ \t]*(?:((?:W/)?"[\x21\x23-\x7e\x80-\xff]*")[ \t]*)?(?:,|\Z)')
 DEFAULT_LINES, MOST_LINES, MOST_BYTES = 100, 1000, 1 << 23
 KEY = re.compile(rb'"key":"([^"]*)"\}\Z')
+MEDIA_TYPE = "application/vnd.streetmap.journal"
+
+
+@dataclass(frozen=True)
+class Options:
+    """Options of a server: `--conditional` and `--changes`."""
+
+    tags: bool = False
+    changes: bool = False
+
+    @property
+    def words(self) -> list[str]:
+        return ["--conditional"] * self.tags + ["--changes"] * self.changes
+
+
+NONE, TAGS, BOTH = Options(), Options(tags=True), Options(tags=True, changes=True)
 
 
 @dataclass
@@ -66,80 +78,64 @@ class Journal:
         return b"".join(found)
 
 
-@dataclass(frozen=True)
-class Answer:
-    """What is answered: a status, header fields, and a body."""
-
-    status: int
-    fields: dict[str, str]
-    body: bytes = b""
-
-    @classmethod
-    def refusal(cls, status: int, code: str, sentence: str) -> "Answer":
-        text = json.dumps({"code": code, "description": sentence}, separators=(",", ":"))
-        return cls(status, {"Content-Type": "application/json"}, text.encode())
+def refusal(status: int, code: str, sentence: str) -> Answer:
+    text = json.dumps({"code": code, "description": sentence}, separators=(",", ":"))
+    return Answer(status, {"Content-Type": "application/json"}, text.encode())
 
 
-CHANGED = Answer.refusal(412, "changed", "The state has another tag.")
-BAD_CONDITION = Answer.refusal(400, "bad_condition", "The field is no list of entity tags.")
-BAD_QUERY = Answer.refusal(400, "bad_query", "after or limit is no whole number.")
+CHANGED = refusal(412, "changed", "The state is not as a condition requires.")
+BAD_CONDITION = refusal(400, "bad_condition", "A condition cannot be read.")
+BAD_SERIAL = refusal(400, "bad_serial", "The serial cannot be read.")
+BAD_LIMIT = refusal(400, "bad_limit", "The limit must be a whole number from 1.")
 
 
-def listed(fields: list[str]) -> list[str] | None:
+def listed(field: str | None) -> list[str] | None:
     """The tags of a field, or `*` alone; None without the field, a ValueError if it is none."""
-    text = ",".join(fields)
-    if not fields or text.strip() == "*":
-        return [text.strip()] if fields else None
+    if field is None or field.strip() == "*":
+        return None if field is None else ["*"]
     found: list[str] = []
     at = 0
-    while at < len(text):
-        element = ELEMENT.match(text, at)
+    while at < len(field):
+        element = ELEMENT.match(field, at)
         if element is None:
-            raise ValueError(text)
+            raise ValueError(field)
         found += [element[1]] if element[1] else []
         at = element.end()
     return found
 
 
-@dataclass
-class StandIn:
-    """The state of a stand-in: where the server is, and its journal."""
+@dataclass(kw_only=True)
+class StandIn(Proxy):
+    """A proxy that adds the options that its server lacks. It handles one request at a time."""
 
-    server: int
     journal: Journal
-    gives_tags: bool = True
+    adds: Options
     lock: threading.Lock = field(default_factory=threading.Lock)
-    # What another client does right before the next batches are judged, one after the other.
-    meanwhile: list[bytes] = field(default_factory=list)
-    requests: list[tuple[str, str, int]] = field(default_factory=list)
 
-    def ask(self, method: str, target: str, fields: dict[str, str], body: bytes | None) -> Answer:
-        """What the server itself answers."""
-        connection = http.client.HTTPConnection("127.0.0.1", self.server, timeout=60)
-        with contextlib.closing(connection):
-            connection.request(method, target, body, fields)
-            answer = connection.getresponse()
-            return Answer(answer.status, dict(answer.getheaders()), answer.read())
-
-    def answer(self, request: "Handler", body: bytes | None) -> Answer:
+    def answer(self, request: Handler, body: bytes | None) -> Answer:
         split = urlsplit(request.path)
-        shows = split.path == "/collections" or split.path.startswith("/collections/")
         with self.lock:
-            if split.path == "/changes":
+            if split.path == "/changes" and self.adds.changes:
                 return self.judged(request, self.changes(split.query))
-            if request.command == "POST" and split.path == "/batches":
+            if not self.adds.tags:
+                return super().answer(request, body)
+            if request.is_batch:
                 return self.batch(request, body or b"")
-            method = "GET" if request.command == "HEAD" else request.command
-            found = self.ask(method, request.path, request.kept_fields(), body)
+            found = self.passed_on(request, body)
+            shows = f"{split.path}/".startswith("/collections/")
             return self.judged(request, found) if shows and found.status == 200 else found
 
-    def judged(self, request: "Handler", shown: Answer) -> Answer:
+    def passed_on(self, request: Handler, body: bytes | None) -> Answer:
+        return self.ask(request.command, request.path, request.fields(*CONDITIONS), body)
+
+    def judged(self, request: Handler, shown: Answer) -> Answer:
         """The answer to what reads the state, by the conditions of its request."""
-        if shown.status != 200 or not self.gives_tags:
+        if shown.status != 200:
             return shown
         tag = f'"{self.journal.read()}"'
+        fields = request.fields()
         try:
-            match, none_match = map(request.listed, CONDITIONS)
+            match, none_match = (listed(fields.get(name)) for name in CONDITIONS)
         except ValueError:
             return BAD_CONDITION
         if match not in (None, ["*"]) and tag not in (match or []):
@@ -151,26 +147,23 @@ class StandIn:
     def changes(self, query: str) -> Answer:
         asked = dict(parse_qsl(query))
         after, limit = asked.get("after", "0"), asked.get("limit", str(DEFAULT_LINES))
-        if not (after.isdecimal() and limit.isdecimal() and int(limit) > 0):
-            return BAD_QUERY
+        if not after.isdecimal():
+            return BAD_SERIAL
+        if not limit.isdecimal() or int(limit) == 0:
+            return BAD_LIMIT
         self.journal.read()
         lines = self.journal.after(int(after), min(int(limit), MOST_LINES))
-        return Answer(200, {"Content-Type": "application/jsonl"}, lines)
+        return Answer(200, {"Content-Type": MEDIA_TYPE}, lines)
 
-    def batch(self, request: "Handler", body: bytes) -> Answer:
-        if self.meanwhile and self.gives_tags:
-            other = self.ask("POST", "/batches", {}, self.meanwhile.pop(0))
-            assert other.status == 200, other
-        if not self.gives_tags:
-            return self.ask("POST", request.path, request.kept_fields(), body)
+    def batch(self, request: Handler, body: bytes) -> Answer:
         try:
-            match = request.listed("if-match")
+            match = listed(request.fields().get("if-match"))
         except ValueError:
             return BAD_CONDITION
         now = f'"{self.journal.read()}"'
         if match not in (None, ["*"]) and now not in (match or []) and not self.is_used(body):
             return CHANGED
-        found = self.ask("POST", request.path, request.kept_fields(), body)
+        found = self.passed_on(request, body)
         tag = {"ETag": f'"{self.journal.read()}"'} if found.status == 200 else {}
         return Answer(found.status, found.fields | tag, found.body)
 
@@ -182,98 +175,54 @@ class StandIn:
             return True
 
 
-class Handler(BaseHTTPRequestHandler):
-    """A connection to a stand-in. A server that is away cuts it, without an answer."""
-
-    protocol_version = "HTTP/1.1"
-    # Head and body are two writes, the second of which would wait 40 ms.
-    disable_nagle_algorithm = True
-    stand_in: StandIn
-
-    def log_message(self, *_words: object) -> None:
-        """Nothing is logged."""
-
-    def kept_fields(self) -> dict[str, str]:
-        return {name: it for name, it in self.headers.items() if name.lower() not in UNSENT}
-
-    def listed(self, name: str) -> list[str] | None:
-        return listed(self.headers.get_all(name) or [])
-
-    def handle_request(self) -> None:
-        size = self.headers.get("Content-Length")
-        body = None if size is None else self.rfile.read(int(size))
-        try:
-            answer = self.stand_in.answer(self, body)
-        except (OSError, http.client.HTTPException):
-            self.close_connection = True
-            return
-        self.stand_in.requests.append((self.command, self.path, answer.status))
-        self.send_response_only(answer.status)
-        for name, value in answer.fields.items():
-            if name.lower() not in ("content-length", "connection"):
-                self.send_header(name, value)
-        if answer.status != 304:
-            self.send_header("Content-Length", str(len(answer.body)))
-        self.end_headers()
-        if self.command != "HEAD":
-            self.wfile.write(answer.body)
-
-    do_GET = do_HEAD = do_POST = do_PUT = do_DELETE = do_OPTIONS = handle_request
-
-
-class Listener(ThreadingHTTPServer):
-    """Where a stand-in listens."""
-
-    daemon_threads = True
-    request_queue_size = 128
-
-    def handle_error(self, *_words: object) -> None:
-        """A client that went away is nothing to report."""
-
-
-@contextlib.contextmanager
-def standing_in(server: int, journal: Path) -> Iterator[tuple[StandIn, int]]:
-    """A stand-in in front of a server's port, and the port of its own."""
-    made = StandIn(server, Journal(journal))
-    listener = Listener(("127.0.0.1", 0), type("Bound", (Handler,), {"stand_in": made}))
-    with listener:
-        thread = threading.Thread(target=listener.serve_forever, args=[0.05], daemon=True)
-        thread.start()
-        try:
-            yield made, listener.server_port
-        finally:
-            listener.shutdown()
-
-
 @dataclass(frozen=True)
-class Conditional:
-    """A file that is served with tags and changes. `stand_in` is None if the program has both."""
+class Served:
+    """A file that is served with a journal beside it. Clients that want tags use the port."""
 
     server: Server
     port: int
     journal: Path
-    stand_in: StandIn | None
 
     @property
     def url(self) -> str:
         return f"http://127.0.0.1:{self.port}"
 
 
-def has_options(context: Context) -> bool:
-    """Whether the program takes the options."""
-    words = ("serve", context.folder / "no file", "--port", "1", "--conditional", "--changes")
-    return context.start(*words).stderr != b"streetmap: usage\n"
+@dataclass(frozen=True)
+class Watched(Served):
+    """One with a proxy in front."""
+
+    proxy: Proxy
+
+
+def takes(context: Context, word: str) -> bool:
+    """Whether the program takes an option of `serve`."""
+    ended = context.start("serve", context.folder / "no file", "--port", "1", word)
+    return ended.stderr != b"streetmap: usage\n"
 
 
 @contextlib.contextmanager
-def conditional(context: Context, file: Path, *words: str) -> Iterator[Conditional]:
-    """Serves a file with a journal beside it, with tags and changes."""
+def served(context: Context, file: Path, *words: str, options: Options = BOTH) -> Iterator[Served]:
+    """Serves a file with options: those of the program that it has, and a stand-in for the rest."""
     journal = file.with_name(f"{file.name}.journal")
-    given = ["--journal", str(journal), *words]
-    if has_options(context):
-        with context.serve(file, *given, "--conditional", "--changes") as server:
-            yield Conditional(server, server.port, journal, None)
-        return
+    has = Options(
+        options.tags and takes(context, "--conditional"),
+        options.changes and takes(context, "--changes"),
+    )
+    given = ["--journal", str(journal), *words, *has.words]
+    adds = Options(options.tags and not has.tags, options.changes and not has.changes)
     with context.serve(file, *given) as server:
-        with standing_in(server.port, journal) as (made, port):
-            yield Conditional(server, port, journal, made)
+        if adds == NONE:
+            yield Served(server, server.port, journal)
+            return
+        with listening(StandIn(server=server.port, journal=Journal(journal), adds=adds)) as port:
+            yield Served(server, port, journal)
+
+
+@contextlib.contextmanager
+def watched(context: Context, file: Path, *words: str) -> Iterator[Watched]:
+    """Serves a file with both options, and a proxy in front."""
+    with served(context, file, *words) as made:
+        proxy = Proxy(server=made.port)
+        with listening(proxy) as port:
+            yield Watched(made.server, port, made.journal, proxy)

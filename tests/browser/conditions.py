@@ -6,13 +6,14 @@ import shutil
 from collections.abc import Iterator
 from typing import Any
 
+from conditional import NONE, TAGS, Options
 from harness import Context
 
 from browser.browsers import browser
 from browser.merging import change, theirs
 from browser.page import Page
 from browser.relay import response
-from browser.site import NONE, TAGS, Options, Site, site
+from browser.site import Site, site
 from browser.towns import town
 
 # Each scenario runs over both: without tags it shows what is lost today.

@@ -5,12 +5,13 @@ import time
 from collections.abc import Callable
 from typing import Any
 
+from conditional import BOTH, NONE, TAGS, Options
 from harness import Context
 
 from browser.browsers import browser
 from browser.merging import change, theirs
 from browser.page import Page
-from browser.site import BOTH, NONE, TAGS, Options, Site, site
+from browser.site import Site, site
 from browser.towns import delete, feature, insert, opened, point, town
 
 WAYS = (("by changes", BOTH), ("by tags", TAGS), ("without", NONE))

@@ -11,8 +11,8 @@ from pathlib import Path
 from typing import Any
 from urllib.error import HTTPError
 
+from conditional import NONE, Options, served
 from harness import Context, Server, free_port
-from stand_in import Town, standing_in
 
 from browser.relay import Relay
 
@@ -22,17 +22,6 @@ ROOT = Path(__file__).resolve().parents[2]
 sys.path.insert(0, str(ROOT / "deploy"))
 
 import serve_map as serve_map  # noqa: E402
-
-
-@dataclass(frozen=True)
-class Options:
-    """Those of the server that the page makes use of: `--conditional` and `--changes`."""
-
-    tags: bool = False
-    changes: bool = False
-
-
-NONE, TAGS, BOTH = Options(), Options(tags=True), Options(tags=True, changes=True)
 
 
 @dataclass
@@ -70,11 +59,8 @@ class Site:
         if self.options == NONE:
             server = running.enter_context(self.context.serve(file, *words))
             return server, server.port
-        journal = file.with_suffix(".journal")
-        words += ["--journal", str(journal)]
-        server = running.enter_context(self.context.serve(file, *words))
-        town = Town(server.port, journal, self.options.tags, self.options.changes)
-        return server, running.enter_context(standing_in(town))
+        made = running.enter_context(served(self.context, file, *words, options=self.options))
+        return made.server, made.port
 
     def stop(self) -> None:
         """Kills the server."""

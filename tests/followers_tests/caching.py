@@ -5,7 +5,7 @@ import re
 import threading
 from pathlib import Path
 
-from conditional import Conditional
+from conditional import Watched
 from followers_tests.fronted import Front
 from followers_tests.processes import running
 from harness import Context, free_port
@@ -42,21 +42,20 @@ def number_of(body: bytes) -> int:
 
 
 def statuses(front: Front, since: int) -> list[int]:
-    """What the stand-in has answered since a moment, by its own count of requests."""
-    assert front.server.stand_in is not None
-    return [status for _, _, status in front.server.stand_in.requests[since:]]
+    """What the server has answered since a moment, by the number of requests before it."""
+    return [status for _, _, status in front.server.proxy.requests[since:]]
 
 
 def check_kept(front: Front) -> None:
     """A page is asked for again by its tag, and comes from what nginx keeps while it is the same:
     by GET, by HEAD, compressed, and for a client that has it."""
-    check, made = front.context.check, front.server.stand_in
+    check, asked = front.context.check, front.server.proxy.requests
     check(
         "opened", front.send("kept", open_collection("kept"), put("insert", "kept", lamp(0))), 200
     )
     first = front.read(PAGE)
     check("a page", (first[0], number_of(first[2])), (200, 0))
-    since = len(made.requests) if made else 0
+    since = len(asked)
     check("again", front.read(PAGE), first)
     check("HEAD", front.read(PAGE, "HEAD"), (200, first[1], b""))
     check("one that has it", front.read(PAGE, If_None_Match=first[1])[0], 304)
@@ -64,11 +63,10 @@ def check_kept(front: Front) -> None:
     zipped = front.read(PAGE, Accept_Encoding="gzip")
     check("compressed", (zipped[0], zipped[1], zipped[2][:2]), (200, f"W/{first[1]}", b"\x1f\x8b"))
     check("by its weak tag", front.read(PAGE, If_None_Match=zipped[1])[0], 304)
-    if made:
-        check("the server's answers", statuses(front, since), [304] * 6)
-        since = len(made.requests)
-        refused = [front.read("/collections/no/items")[0] for _ in range(2)]
-        check("what is refused", (refused, statuses(front, since)), ([404, 404], [404, 404]))
+    check("the server's answers", statuses(front, since), [304] * 6)
+    since = len(asked)
+    refused = [front.read("/collections/no/items")[0] for _ in range(2)]
+    check("what is refused", (refused, statuses(front, since)), ([404, 404], [404, 404]))
     held = [path for path in (front.folder / "kept").rglob("*") if path.is_file()]
     check("what is kept", len(held) > 0, True)
 
@@ -101,20 +99,17 @@ def check_never_old(front: Front) -> None:
 
 def check_untagged(front: Front) -> None:
     """A server that gives no tags: nothing is kept, and no page is old."""
-    made = front.server.stand_in
-    if made is None:
-        return
-    made.gives_tags = False
+    front.server.proxy.gives_tags = False
     path = f"{PAGE}&after=0"
     for number in (1, 2, 3):
         front.send(f"untagged-{number}", put("replace", "kept", lamp(-number)))
         status, tag, body = front.read(path)
         got = (status, tag, number_of(body))
         front.context.check("without tags", got, (200, "", -number))
-    made.gives_tags = True
+    front.server.proxy.gives_tags = True
 
 
-def check_pages(context: Context, server: Conditional) -> None:
+def check_pages(context: Context, server: Watched) -> None:
     front = Front.new(context, server, "keeping", switch_on)
     with running(front.process):
         check_kept(front)

@@ -1,5 +1,6 @@
 """A follower by `/changes` of a server: where it goes on, what it sees, and how it ends."""
 
+import re
 import sys
 import threading
 from collections.abc import Callable, Iterator
@@ -9,7 +10,6 @@ from http.server import BaseHTTPRequestHandler, ThreadingHTTPServer
 from pathlib import Path
 from urllib.parse import parse_qsl, urlsplit
 
-from conditional import ELEMENT
 from followers_tests.processes import DEPLOY, Process, Script, running, wait_until
 from followers_tests.rows import ENDED, LINES, OTHER, TEXTS, UNKNOWN, Rows, lines_of, text_of
 from harness import Context
@@ -21,6 +21,7 @@ from journal_lines import Fault, Line, SourceAway  # noqa: E402
 
 # A status, and a body; a body that is None is cut within itself.
 Found = tuple[int, bytes | None]
+TAG = re.compile(r'"-?[0-9]+"')
 
 
 @dataclass
@@ -85,7 +86,7 @@ class Handler(BaseHTTPRequestHandler):
             return source.first.pop(0)
         if self.headers.get("Authorization", "") != source.login:
             return 401, b""
-        assert not known or ELEMENT.match(known), known
+        assert not known or TAG.fullmatch(known), known
         if source.gives_tags and known == source.tag:
             return 304, b""
         return 200, source.after(urlsplit(self.path).query)

@@ -7,7 +7,7 @@ from dataclasses import dataclass
 from pathlib import Path
 
 import office_site
-from conditional import Conditional
+from conditional import Watched
 from followers_tests.changes import is_this
 from followers_tests.load import batch_text, delays, tell_delays
 from followers_tests.processes import Process, Script, running, wait_until
@@ -30,7 +30,7 @@ class Front:
     """nginx over TLS in front of a server with tags and changes."""
 
     context: Context
-    server: Conditional
+    server: Watched
     folder: Path
     port: int
     process: Process
@@ -39,7 +39,7 @@ class Front:
     def new(
         cls,
         context: Context,
-        server: Conditional,
+        server: Watched,
         name: str,
         prepare: Callable[[Path], None] | None = None,
     ) -> "Front":
@@ -67,7 +67,7 @@ class Front:
         return office_site.asked(f"{self.url}/batches", body, Authorization=SIGNED)[0]
 
 
-def check_followed(context: Context, server: Conditional) -> None:
+def check_followed(context: Context, server: Watched) -> None:
     front = Front.new(context, server, "front")
     with running(front.process):
         opened = front.send("front", open_collection("front"))

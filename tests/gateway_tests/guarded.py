@@ -6,7 +6,7 @@ from collections.abc import Iterator
 from pathlib import Path
 from typing import Any
 
-from conditional import Conditional
+from conditional import Watched
 from gateway_tests.answers import check_problem
 from gateway_tests.data import batch, feature, insert, shape
 from gateway_tests.service import WRITER, Gateway, gateway
@@ -170,13 +170,11 @@ def other_batch(key: str, number: int, name: str) -> bytes:
     return batch(key, [edit])
 
 
-def check_meanwhile(context: Context, asked: Gateway, server: Conditional) -> None:
+def check_meanwhile(context: Context, asked: Gateway, server: Watched) -> None:
     """Another batch is accepted between what the gateway has read and the batch that it sends. If
     it changes another feature, the edit acts on the second try. If it changes this one, the edit
     is refused, and what the other wrote stays. If others are faster each time, it gives up."""
-    made = server.stand_in
-    if made is None:
-        return
+    made = server.proxy
     asked.send("POST", ITEMS, lamp(0, "beside"))
     for method in EDITS:
         put_back(asked)
@@ -208,7 +206,7 @@ def check_meanwhile(context: Context, asked: Gateway, server: Conditional) -> No
     put_back(asked)
 
 
-def check_required(context: Context, server: Conditional) -> None:
+def check_required(context: Context, server: Watched) -> None:
     """With `require_if_match` an edit of a feature without If-Match is refused (RFC 6585, 3); a
     feature is created without one."""
     without: list[dict[str, str]] = [{}, {"If_None_Match": '"a"'}, {"If_None_Match": "*"}]

@@ -7,7 +7,7 @@ from collections.abc import Iterator, Sequence
 from typing import Any
 
 import httpx
-from conditional import Conditional, conditional
+from conditional import Watched, watched
 from gateway_tests import guarded, patches, races
 from gateway_tests.answers import check_description, check_problem
 from gateway_tests.data import batches, feature, lamps, shape
@@ -60,7 +60,7 @@ def check_tags(context: Context) -> None:
     check_states(context)
     kept = {"lamps": lamps(30), "trees": [feature("T1", shape("Point", [1, 2]))]}
     file = context.new_file("tags.streetmap", *map(post, batches(kept)))
-    with conditional(context, file, "--clients", "48") as server:
+    with watched(context, file, "--clients", "48") as server:
         with gateway(context, server.url) as asked:
             check_resources(context, asked)
             check_not_modified(context, asked, server)
@@ -166,7 +166,7 @@ def rows_of(tag: str) -> Iterator[tuple[str, int]]:
     yield '"a"' + " " * 30_000 + "b", 400
 
 
-def check_not_modified(context: Context, asked: Gateway, server: Conditional) -> None:
+def check_not_modified(context: Context, asked: Gateway, server: Watched) -> None:
     """If-None-Match by RFC 9110, 13.1.2: by GET and by HEAD, of one field and of several. The
     server is not asked for a page again that has not changed."""
     for path in (*STATES, ITEM, f"{ITEM}?f=html"):
@@ -186,13 +186,12 @@ def check_not_modified(context: Context, asked: Gateway, server: Conditional) ->
     for path in (f"{ITEMS}/no", "/collections/no", f"{ITEMS}?limit=0"):
         status = read(asked, path).status_code
         context.check(f"{path}: *", read(asked, path, If_None_Match="*").status_code, status)
-    if server.stand_in is not None:
-        for path in STATES:
-            tag = tag_of(asked, path)
-            before = len(server.stand_in.requests)
-            read(asked, path, If_None_Match=tag)
-            asked_for = [status for _, _, status in server.stand_in.requests[before:]]
-            context.check(f"{path}: the server's answers", asked_for, [304])
+    for path in STATES:
+        tag = tag_of(asked, path)
+        before = len(server.proxy.requests)
+        read(asked, path, If_None_Match=tag)
+        asked_for = [status for _, _, status in server.proxy.requests[before:]]
+        context.check(f"{path}: the server's answers", asked_for, [304])
 
 
 def check_features(context: Context, asked: Gateway) -> None:
@@ -234,7 +233,7 @@ def check_changes(context: Context, asked: Gateway) -> None:
     context.check("an empty page", read(asked, empty).headers["etag"][:3], 'W/"')
 
 
-def check_other_gateways(context: Context, asked: Gateway, server: Conditional) -> None:
+def check_other_gateways(context: Context, asked: Gateway, server: Watched) -> None:
     """A gateway of the same settings has the same tags; one at another address, or of another
     origin, has others, since its answers are others."""
     paths = (*STATES, ITEM)

@@ -1,6 +1,6 @@
 """A follower by `/changes`, with its faults and over TLS; nginx that keeps pages by their tags."""
 
-from conditional import conditional
+from conditional import watched
 from followers_tests import caching, changes, fronted
 from harness import Context
 
@@ -9,6 +9,6 @@ PACKAGES = ("libjs-leaflet", "nginx", "openssl")
 
 def run(context: Context) -> None:
     changes.check_changes(context)
-    with conditional(context, context.new_file("primary"), "--clients", "32") as server:
+    with watched(context, context.new_file("primary"), "--clients", "32") as server:
         fronted.check_followed(context, server)
         caching.check_pages(context, server)
