@@ -17,7 +17,7 @@ from contextlib import suppress
 from pathlib import Path
 from urllib.parse import urlencode, urlsplit
 
-from journal_lines import MOST_OF_LINE, Fault, Line, SourceAway
+from journal_lines import MOST_OF_LINE, NO_LINES, Fault, Line, SourceAway
 
 SCHEMES = ("http", "https")
 # The variable of the environment that has USER:PASSWORD.
@@ -81,6 +81,8 @@ class Changes:
         self.last: Line | None = None
         self.nothing: tuple[int, str] | None = None
         self.moment = 0.0
+        # A serial, and the digest of the lines up to it.
+        self.digested: tuple[int, bytes] = (0, NO_LINES)
 
     def behind(self, serial: int) -> Iterator[Line]:
         while lines := self.lines(serial):
@@ -90,6 +92,19 @@ class Changes:
                 yield line
                 self.last, serial = line, line.serial
             self.moment = time.monotonic()
+
+    def digest_at(self, serial: int) -> bytes | None:
+        """The digest of the lines up to a serial. Each line is requested once for it, however often
+        the server was away meanwhile: the last one is what is compared again."""
+        last, digest = self.digested if self.digested[0] <= serial else (0, NO_LINES)
+        while last < serial:
+            lines = self.lines(last)[: serial - last]
+            if not lines or lines[0].serial != last + 1:
+                return None
+            for line in lines:
+                last, digest = line.serial, line.digest(digest)
+            self.digested = last, digest
+        return digest
 
     def wait(self) -> None:
         is_late = time.monotonic() - self.moment > LATE_SECONDS

@@ -10,13 +10,15 @@ from http.server import BaseHTTPRequestHandler, ThreadingHTTPServer
 from pathlib import Path
 from urllib.parse import parse_qsl, urlsplit
 
+from followers_tests.forks import fork
 from followers_tests.processes import DEPLOY, Process, Script, running, wait_until
-from followers_tests.rows import ENDED, LINES, OTHER, TEXTS, UNKNOWN, Rows, lines_of, text_of
+from followers_tests.rows import ENDED, LINES, OTHER, TEXTS, UNKNOWN, Rows, lamp, lines_of, text_of
 from harness import Context
 
 sys.path.insert(0, str(DEPLOY))
 
 from journal_changes import AT_ONCE, Changes, lines_of as lines_in  # noqa: E402
+from journal_files import JournalFiles  # noqa: E402
 from journal_lines import Fault, Line, SourceAway  # noqa: E402
 
 # A status, and a body; a body that is None is cut within itself.
@@ -283,6 +285,41 @@ def ends(work: Callable[[], object]) -> str:
     return "ended"
 
 
+def check_digests(context: Context) -> None:
+    """The digest of the lines up to a serial is that of a file; each line is requested once."""
+    file = context.folder / "digests"
+    file.write_bytes(b"".join(LINES))
+    serials = (0, 3, 8)
+    wanted = [JournalFiles(file).digest_at(serial) for serial in serials]
+    with serving(Source(LINES)) as source:
+        changes = Changes(source.url)
+        context.check("digests", [changes.digest_at(it) for it in serials], wanted)
+        asked = [target.partition("&")[0] for target, _ in source.asked]
+        context.check("requests", asked, ["/changes?after=0", "/changes?after=3"])
+        context.check("a serial that it lacks", changes.digest_at(9), None)
+        context.check("an earlier one", changes.digest_at(3), wanted[1])
+    with serving(Source(LINES[2:])) as source:
+        context.check("without the first lines", Changes(source.url).digest_at(5), None)
+
+
+def check_own(context: Context) -> None:
+    """A follower with a journal of its own whose past is another one, or that somebody else gave a
+    batch, is sent nothing."""
+    stray = text_of("stray", lamp(99))
+    for name, texts, ends in (
+        ("past", [*TEXTS[:2], OTHER, *TEXTS[3:6]], "forked 3 b3 has another text"),
+        ("stray", [*TEXTS[:5], stray], "forked 6 stray is b6 in the source"),
+        ("same", TEXTS[:6], None),
+    ):
+        kept = lines_of(texts)
+        with serving(Source(LINES)) as source, fork(context, f"own-{name}", lines=kept) as made:
+            script = Script(context, "follow.py")
+            words: list[str | Path] = ["--journal", made.own, "--once"]
+            got = script.ends(source.url, made.server.url, *words)
+            context.check(name, got, (1, [ends]) if ends else ENDED)
+            made.has(name, kept if ends else LINES)
+
+
 def check_login(made: ChangeRows) -> None:
     """USER:PASSWORD of a file that others cannot read, or of the environment. A command line has
     none, and none is sent over plain HTTP to another machine."""
@@ -324,6 +361,8 @@ def is_this(journal: Path, wanted: Path) -> bool:
 
 def check_changes(context: Context) -> None:
     check_pages(context)
+    check_digests(context)
+    check_own(context)
     file = context.new_file("changes")
     with context.serve(file, "--clients", "16") as server:
         made = ChangeRows(Rows(context, server))
