@@ -221,24 +221,27 @@ def check_words(context: Context) -> None:
     """The arguments of the program, with a journal and with an empty or a missing one."""
     settings = (REPOSITORY / "deploy" / "town.conf").read_text()
     without = "serve /var/lib/streetmap/town --port 8080 --clients 64 --base http://localhost:8080/"
-    path = "/var/lib/streetmap/town journal"
+    tags, path = "--conditional", "/var/lib/streetmap/town journal"
     rows: tuple[tuple[str, str, str, list[str]], ...] = (
-        ("an empty journal", "", "", []),
-        ("a log, and a warm start", "LOG=\nWARM=\n", "LOG=yes\nWARM=1\n", ["--log", "--warm"]),
-        ("settings before LOG and WARM", "LOG=\nWARM=\n", "\n", []),
-        ("a missing journal", "JOURNAL=\n", "\n", []),
-        ("a journal", "JOURNAL=\n", f"JOURNAL={path}\n", ["--journal", path]),
+        ("an empty journal", "", "", [tags]),
+        ("a log, a warm start", "LOG=\nWARM=\n", "LOG=yes\nWARM=1\n", ["--log", "--warm", tags]),
+        ("settings before LOG and WARM", "LOG=\nWARM=\n", "\n", [tags]),
+        ("no tags", "CONDITIONAL=yes\n", "CONDITIONAL=\n", []),
+        ("settings before tags", "CONDITIONAL=yes\n", "\n", []),
+        ("changes", "CONDITIONAL=yes\n", "CONDITIONAL=yes\nCHANGES=yes\n", [tags, "--changes"]),
+        ("a missing journal", "JOURNAL=\n", "\n", [tags]),
+        ("a journal", "JOURNAL=\n", f"JOURNAL={path}\n", [tags, "--journal", path]),
         (
             "words of a journal",
             "JOURNAL=\nJOURNAL_AFTER=\nJOURNAL_WORDS=\n",
             f"JOURNAL={path}\nJOURNAL_AFTER=7\nJOURNAL_WORDS=--journal-sync\n",
-            ["--journal", path, "--journal-after", "7", "--journal-sync"],
+            [tags, "--journal", path, "--journal-after", "7", "--journal-sync"],
         ),
         (
             "older settings of a journal",
             "JOURNAL=\nJOURNAL_AFTER=\n",
             f"JOURNAL={path}\n",
-            ["--journal", path],
+            [tags, "--journal", path],
         ),
     )
     for what, old, new, wanted in rows:
