@@ -1,7 +1,8 @@
 """docs/openapi.json is an OpenAPI document, and describes each request and answer of the rows.
 
-The rows are those of examples/http.jsonl. A request for one of the eight paths, by a method that is
-described, has an answer whose status, media type and body are described. Any other has an error.
+The rows are those of examples/http.jsonl, and those of examples/conditional.jsonl with tags. A
+request for one of the eight paths, by a method that is described, has an answer whose status, media
+type, tag and body are described. Any other has an error.
 """
 
 import json
@@ -18,6 +19,8 @@ from harness import TESTS, Context
 PACKAGES = ("python3-jsonschema",)
 DOCUMENT = TESTS.parent / "docs" / "openapi.json"
 METHODS = {"get", "head", "post", "put", "delete", "options", "patch", "trace"}
+# Whether an answer has a tag, and whether it is described: without `--conditional` it has none.
+TAGGED = ((False, False), (False, True), (True, True))
 REQUEST_LINE = re.compile(r"([A-Z]+) (\S+) HTTP/1\.[01]")
 PATHS = {
     "/",
@@ -171,7 +174,9 @@ def check_exchange(context: Context, description: Description, what: str, it: Ex
     content = (response or {}).get("content", {})
     media = it.fields.get("content-type")
     if it.method != "HEAD":
-        context.check(f"{what}: media type", [media], list(content))
+        context.check(f"{what}: media type", [media] if media else [], list(content))
+    has_tag, headers = "etag" in it.fields, (response or {}).get("headers", {})
+    context.check(f"{what}: tag", (has_tag, "ETag" in headers) in TAGGED, True)
     if it.method != "HEAD" and media in content and media != "text/html":
         context.check(f"{what}: body", description.faults(content[media]["schema"], it.body), [])
     if it.status == "200" and it.method == "POST":
@@ -183,7 +188,7 @@ def run(context: Context) -> None:
     description = Description(json.loads(DOCUMENT.read_text()))
     check_document(context, description)
     seen: set[str | None] = set()
-    for row in rows_of("http.jsonl"):
+    for row in [*rows_of("http.jsonl"), *rows_of("conditional.jsonl")]:
         for exchange in exchanges(row["sent"], row["written"]):
             check_exchange(context, description, row["what"], exchange)
             if exchange.status == "200":
