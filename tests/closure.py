@@ -15,8 +15,8 @@ CRATES = Path(__file__).resolve().parent.parent / "crates"
 STATEMENT = ("streetmap_guarantee/src/town.rt", "streetmap_ledger/src/durable.rt")
 # The crates whose definitions speak of states, requests and what is served.
 FROM_STATE_UP = (
-    *("streetmap_ledger", "streetmap_routes", "streetmap_web", "streetmap_connections"),
-    "streetmap_guarantee",
+    *("streetmap_ledger", "streetmap_tags", "streetmap_routes", "streetmap_web"),
+    *("streetmap_connections", "streetmap_guarantee"),
 )
 IMPORT = re.compile(
     r"^\s*(?:pub )?(?:ghost )?use Rattle\.(streetmap\w*)\.specs\.([\w.]+?)\.?\{", re.M
