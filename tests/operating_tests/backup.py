@@ -116,7 +116,7 @@ def check_lost(town: Town) -> None:
 def check_restore(town: Town) -> None:
     """The restored file has the exports and counts of the one before, and takes its place."""
     made, context = town.machine, town.context
-    restore, _, replace = commands_of("Restore")
+    restore, _, _, replace = commands_of("Restore")
     said, restored = made.done(restore), made.town.with_name("restored")
     count = len(town.posted) + 1
     context.check("what is said", said.startswith(f"{restored} has serial {count}: "), True)
@@ -135,11 +135,27 @@ def check_restore(town: Town) -> None:
     made.done("sudo systemctl stop streetmap@town")
 
 
+def check_raised(town: Town) -> None:
+    """A file that is restored to before its last batches gets a number that none of them had, by
+    batches that change nothing."""
+    made, context = town.machine, town.context
+    restore, _, raising, _ = commands_of("Restore")
+    restored, count = made.town.with_name("restored"), len(town.posted) + 1
+    made.done(restore.replace(f"/{restored.name}\n", f"/{restored.name} --until 5\n", 1))
+    before = town.exported("restored")
+    made.done(raising.replace("seq 42 58", f"seq 6 {count + 1}"))
+    accepted = int(context.run("check", restored).split()[-1])
+    context.check("its number", accepted, count + 1)
+    context.check("its features", town.exported("restored") == before, True)
+    for path in made.town.parent.glob("restored*"):
+        path.unlink()
+
+
 def check_restore_of_parts(town: Town) -> None:
     """Copies whose last line is cut, the same over a copy of the two files, and copies without a
     file of the journal."""
     made, context = town.machine, town.context
-    restore, apply, _ = commands_of("Restore")
+    restore, apply, *_ = commands_of("Restore")
     restored, lines = made.town.with_name("restored"), len(town.posted) + 1
     last = town.backup / names(19)[0]
     last.write_bytes(last.read_bytes()[:-3])
@@ -168,5 +184,6 @@ def check_backup(context: Context) -> None:
         town.begin()
         check_copies(town)
         check_lost(town)
+        check_raised(town)
         check_restore(town)
         check_restore_of_parts(town)
