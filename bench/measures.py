@@ -63,14 +63,17 @@ def read_status(stream: IO[bytes]) -> bytes:
         if not line:
             fail("the program ended within an answer")
         head += line
-    stream.read(int(head.partition(b"Content-Length: ")[2].partition(b"\r\n")[0]))
+    # An answer 304 has no body, and says no length.
+    stream.read(int(head.partition(b"Content-Length: ")[2].partition(b"\r\n")[0] or b"0"))
     return head.split(b" ")[1]
 
 
-def started(program: Path, file: Path, first: bytes) -> tuple[subprocess.Popen[bytes], IO[bytes]]:
+def started(
+    program: Path, file: Path, first: bytes, *words: str
+) -> tuple[subprocess.Popen[bytes], IO[bytes]]:
     """A run that has opened its file and answered a first request."""
     process = subprocess.Popen(
-        [program, "pipe", file], stdin=subprocess.PIPE, stdout=subprocess.PIPE
+        [program, "pipe", file, *words], stdin=subprocess.PIPE, stdout=subprocess.PIPE
     )
     assert process.stdin is not None and process.stdout is not None
     process.stdin.write(first)
@@ -84,9 +87,11 @@ def send_all(stream: IO[bytes], sent: bytes) -> None:
     stream.close()
 
 
-def seconds_each(program: Path, file: Path, requests: list[bytes], first: bytes) -> float:
-    """Seconds for each of the requests that follow the first one."""
-    process, answers = started(program, file, first)
+def seconds_each(
+    program: Path, file: Path, requests: list[bytes], first: bytes, *words: str, status: int = 200
+) -> float:
+    """Seconds for each of the requests that follow the first one, which all get this status."""
+    process, answers = started(program, file, first, *words)
     assert process.stdin is not None
     sender = threading.Thread(target=send_all, args=(process.stdin, b"".join(requests)))
     start = time.perf_counter()
@@ -95,7 +100,7 @@ def seconds_each(program: Path, file: Path, requests: list[bytes], first: bytes)
     took = time.perf_counter() - start
     sender.join()
     process.wait()
-    if statuses != {b"200"}:
+    if statuses != {b"%d" % status}:
         fail(f"a request was answered {statuses}")
     return took / len(requests)
 

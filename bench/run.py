@@ -16,7 +16,7 @@ from pathlib import Path
 HERE = Path(__file__).resolve().parent
 NAMES = (
     *("lines", "tables", "imports", "loading", "journal", "polygons", "serving", "clients"),
-    *("gateway", "mirror", "sizes"),
+    *("conditional", "gateway", "mirror", "sizes"),
 )
 
 

@@ -2,6 +2,7 @@
 
 import json
 import socket
+from collections.abc import Mapping
 from dataclasses import dataclass
 from typing import Any
 
@@ -20,8 +21,15 @@ class Answer:
         return json.loads(self.body)
 
 
-def request(method: str, target: str, body: bytes = b"", close: bool = False) -> bytes:
+def request(
+    method: str,
+    target: str,
+    body: bytes = b"",
+    close: bool = False,
+    fields: Mapping[str, str] | None = None,
+) -> bytes:
     head = [f"{method} {target} HTTP/1.1", "Host: localhost"]
+    head += [f"{name}: {value}" for name, value in (fields or {}).items()]
     if method == "POST":
         head.append(f"Content-Length: {len(body)}")
     if close:

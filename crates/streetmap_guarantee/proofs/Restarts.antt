@@ -62,7 +62,7 @@ history_failed site x y (e ∷ es) h at =
 
 -- ---- one batch more at most
 
-after_append : (s : State) (bs cs : List BatchValue)
+pub after_append : (s : State) (bs cs : List BatchValue)
     → after_all s (bs ++ cs) ≡ after_all (after_all s bs) cs
 after_append s [] cs = refl
 after_append s (b ∷ bs) cs = after_append (act s b).state bs cs

@@ -32,6 +32,7 @@ use Rattle.streetmap_guarantee.specs.Server.{Server, serving, failed, state_of}
 use Rattle.streetmap_guarantee.specs.Histories as seq
 use Rattle.streetmap_guarantee.specs.Histories.{Step, Event, IsSequential, with_acknowledged, acknowledged}
 use Rattle.streetmap_guarantee.specs.Tagging.{Happens, state_after, OneTagOneState, NotModifiedIsTheSame, NoLostChange}
+use Rattle.streetmap_guarantee.proofs.Restarts.{after_append}
 use Rattle.streetmap_guarantee.proofs.Histories.{step_acts, not_200, changed_not_200}
 use Rattle.streetmap_guarantee.proofs.Judged.{batch_acts_on, fault_304, response_304, batch_no_304, Is304, under_304}
 
@@ -53,11 +54,11 @@ grows_by_key s b None is =
 act_grows : (s : State) (b : BatchValue) → Grows s (act s b)
 act_grows s b = grows_by_key s b (get s.keys b.key) refl
 
-record Grow (s t : State) : Type 0 where
-  more : batch_count s ≤ batch_count t
-  stays : batch_count t ≡ batch_count s → t ≡ s
+pub record Grow (s t : State) : Type 0 where
+  pub more : batch_count s ≤ batch_count t
+  pub stays : batch_count t ≡ batch_count s → t ≡ s
 
-all_grow : (s : State) (bs : List BatchValue) → Grow s (after_all s bs)
+pub all_grow : (s : State) (bs : List BatchValue) → Grow s (after_all s bs)
 all_grow s [] = record { more = omega arith; stays = λ e. refl }
 all_grow s (b ∷ bs) = elim (act_grows s b) [
   | inl same ↦ subst (λ (t : State). Grow s (after_all t bs)) (sym same) (all_grow s bs)
@@ -90,11 +91,7 @@ acknowledged_append (e ∷ es) fs =
     ap (with_acknowledged e.request.wanted.operation e.response) (acknowledged_append es fs)
     ∙ acknowledged_first e.request.wanted.operation e.response (acknowledged es) (acknowledged fs)
 
-after_append : (s : State) (bs cs : List BatchValue) → after_all s (bs ++ cs) ≡ after_all (after_all s bs) cs
-after_append s [] cs = refl
-after_append s (b ∷ bs) cs = after_append (act s b).state bs cs
-
-state_append : (s : State) (es fs : List Event) → state_after s (es ++ fs) ≡ after_all (state_after s es) (acknowledged fs)
+pub state_append : (s : State) (es fs : List Event) → state_after s (es ++ fs) ≡ after_all (state_after s es) (acknowledged fs)
 state_append s es fs = ap (after_all s) (acknowledged_append es fs) ∙ after_append s (acknowledged es) (acknowledged fs)
 
 -- ---- the server at an event
@@ -263,12 +260,12 @@ part_stays s xs more e =
     let split = state_append s xs more in
     split ∙ (all_grow (state_after s xs) (acknowledged more)).stays (ap batch_count (sym split) ∙ e)
 
-append_one : (b l : List Event) (e : Event) → (b ++ e ∷ []) ++ l ≡ b ++ e ∷ l
+pub append_one : (b l : List Event) (e : Event) → (b ++ e ∷ []) ++ l ≡ b ++ e ∷ l
 append_one [] l e = refl
 append_one (f ∷ b) l e = ap (λ (r : List Event). f ∷ r) (append_one b l e)
 
 -- the tag of an event's answer is that of the state after it
-tag_happens : (site : SiteValue) (s : State) (history b : List Event) (e : Event) (n : ℕ) → Happens site s history b e → e.response.tag ≡ Some n
+pub tag_happens : (site : SiteValue) (s : State) (history b : List Event) (e : Event) (n : ℕ) → Happens site s history b e → e.response.tag ≡ Some n
     → n ≡ batch_count (state_after s (b ++ e ∷ []))
 tag_happens site s history b e n it has =
     let at = event_at site (serving s) it.server b it.later e (subst (λ (h : List Event). IsSequential site (serving s) h it.server) it.is it.sequential) in

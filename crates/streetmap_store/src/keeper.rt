@@ -434,10 +434,7 @@ impl<S: Alter> Outlined for TableKeeper<S> {
 
 impl<S: Alter> Tagged for TableKeeper<S> {
     fn tag(&mut self) -> Result<u64, Fault> {
-        if !self.is_open() {
-            return Err(Fault::Reopen);
-        }
-        Ok(self.count)
+        self.batch_count()
     }
 
     fn has_key(&mut self, key: &str) -> Result<bool, Fault> {
