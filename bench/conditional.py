@@ -74,7 +74,9 @@ def compare_rates(program: Path, file: Path) -> None:
     kept, fixed = (statistics.median(side) for side in zip(*pairs))
     ratio = statistics.median(one / other for one, other in pairs)
     speed = f"{kept:,.0f} a second, GET /conformance {fixed:,.0f}"
-    report(f"answers 304 on {CONNECTIONS} connections", f"{speed}; {ratio:.2f} of it (at least 0.7)")
+    report(
+        f"answers 304 on {CONNECTIONS} connections", f"{speed}; {ratio:.2f} of it (at least 0.7)"
+    )
 
 
 def run(program: Path, folder: Path) -> None:
