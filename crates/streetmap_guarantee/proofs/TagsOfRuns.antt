@@ -1,12 +1,12 @@
 -- Tags across crashes and openings.
-use Rattle.std.proofs.Common.{◌≡◌, ◌⊎◌, inl, inr, ℕ, ◌+◌, ◌≤◌, List, [], ◌∷◌, ◌++◌, Some, refl, sym, ap, subst, ◌∙◌, arith}
+use Rattle.std.proofs.Common.{◌≡◌, inl, inr, ℕ, List, [], ◌∷◌, ◌++◌, sym, ap, subst, ◌∙◌, arith}
 use Rattle.streetmap_batch.specs.BatchValue.{BatchValue}
 use Rattle.streetmap_ledger.specs.State.{State}
 use Rattle.streetmap_ledger.specs.Batches.{after_all}
 use Rattle.streetmap_ledger.specs.Kept.{batch_count}
 use Rattle.streetmap_web.specs.Site.{SiteValue}
 use Rattle.streetmap_guarantee.specs.Histories.{Event, acknowledged}
-use Rattle.streetmap_guarantee.specs.Tagging.{Happens, state_after}
+use Rattle.streetmap_guarantee.specs.Tagging.{state_after}
 use Rattle.streetmap_guarantee.specs.Restarts.{Runs, LeadTo}
 use Rattle.streetmap_guarantee.specs.Restarts.Runs.{none, more}
 use Rattle.streetmap_guarantee.specs.TagsOfRuns.{Names, NamesInRuns, OneTagInAllRuns}
