@@ -1,6 +1,5 @@
 -- What a crash leaves after requests that were answered in turn.
 use Rattle.std.proofs.Common.{◌≡◌, ◌⊎◌, inl, inr, List, [], ◌∷◌, Option, Some, sym, subst}
-use Rattle.streetmap_batch.specs.Text.{Text}
 use Rattle.streetmap_ledger.specs.State.{State}
 use Rattle.streetmap_ledger.specs.Model.{Model}
 use Rattle.streetmap_ledger.specs.Keep.{LeavesEither}

@@ -1,7 +1,6 @@
 -- Requests that were answered in turn, as what is guaranteed.
 use Rattle.std.proofs.Common.{List, [], map, Option, Some, sym, subst}
 use Rattle.std.specs.Prelude.{All}
-use Rattle.streetmap_batch.specs.Text.{Text}
 use Rattle.streetmap_ledger.specs.State.{State}
 use Rattle.streetmap_ledger.specs.Model.{Model}
 use Rattle.streetmap_connections.specs.History.{History, Exchange}

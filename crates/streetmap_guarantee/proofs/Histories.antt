@@ -24,7 +24,7 @@ use Rattle.streetmap_ledger.specs.Kept.{batch_count}
 use Rattle.streetmap_tags.specs.Keys.{is_used}
 use Rattle.streetmap_web.specs.declared.verdict.Verdict.{Verdict}
 use Rattle.streetmap_web.specs.declared.verdict.Verdict.TheVariants.{Holds, NotModified, Changed}
-use Rattle.streetmap_web.specs.Response.{ResponseValue, Wanted, response_in, response_shut, fault_response, state_in, state_by, state_under, state_to, response_under, response_to, needs_state, judged, read_judged, batch_judged, tagged, instead, not_modified, changed, verdict_on, replied, found, found_page, not_found, response_text}
+use Rattle.streetmap_web.specs.Response.{ResponseValue, Wanted, response_in, response_shut, fault_response, state_in, state_by, state_under, state_to, response_under, needs_state, judged, read_judged, tagged, changed, verdict_on, replied, found_page, not_found, response_text}
 use Rattle.streetmap_web.proofs.Verdicts.{used_stays, read_by, read_stays, unneeded_reads}
 use Rattle.streetmap_web.specs.Conditions.{Condition, RequestOutcome, of_state, shut, as_requested, no_memory, device_failed, of_keeper, CanBe, answer_by, after}
 use Rattle.streetmap_web.specs.Exchanges as web

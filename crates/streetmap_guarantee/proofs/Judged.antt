@@ -1,12 +1,12 @@
 -- What a 304 says, and what a batch under `If-Match` acts on.
-use Rattle.std.proofs.Common.{◌≡◌, ◌⊎◌, inl, inr, ℕ, ◌<◌, ◌^◌, ◌==◌, List, [], ◌∷◌, ◌++◌, Bool, true, false, Option, None, Some, refl, sym, ap, subst, ◌∙◌, arith}
-use Rattle.std.specs.Prelude.{if◌then◌else◌, ◌||◌, ◌&&◌, decimal}
+use Rattle.std.proofs.Common.{◌≡◌, ◌⊎◌, inl, inr, ℕ, ◌<◌, ◌^◌, ◌==◌, [], ◌∷◌, Bool, true, false, Option, None, Some, refl, sym, subst, arith}
+use Rattle.std.specs.Prelude.{if◌then◌else◌, ◌||◌, decimal}
 use Rattle.std.specs.Str.{bytes_eq}
 use Rattle.std.proofs.lemmas.Bool.Decides.{nat_tests}
 use Rattle.std.proofs.lemmas.Fmt.{decimal_injective}
 use Rattle.std.proofs.lemmas.Slice.Eq.{bytes_eq-Decides}
 use Rattle.streetmap_http.specs.Tags.{number_tag}
-use Rattle.streetmap_http.specs.Preconditions.{PreconditionsValue, Selection, tags, matching, matching_by, if_match_of, if_none_match_of}
+use Rattle.streetmap_http.specs.Preconditions.{PreconditionsValue, Selection, tags, matching, matching_by, if_none_match_of}
 use Rattle.streetmap_http.specs.declared.matching.Matching.{Matching}
 use Rattle.streetmap_http.specs.declared.fault.FramingFault.{FramingFault}
 use Rattle.streetmap_http.specs.declared.fault.FramingFault.TheVariants as framing
@@ -20,7 +20,7 @@ use Rattle.streetmap_query.specs.declared.fault.QueryFault.TheVariants as query_
 use Rattle.streetmap_query.specs.QueryValue.{QueryValue}
 use Rattle.streetmap_geojson.specs.FeatureValue.{FeatureValue}
 use Rattle.streetmap_ledger.specs.State.{State}
-use Rattle.streetmap_ledger.specs.Batches.{act, after_all}
+use Rattle.streetmap_ledger.specs.Batches.{act}
 use Rattle.streetmap_ledger.specs.Kept.{batch_count}
 use Rattle.streetmap_ledger.specs.Pages.{PageValue, page_in, feature_in}
 use Rattle.streetmap_ledger.specs.Summaries.{SummaryValue, summary_in}

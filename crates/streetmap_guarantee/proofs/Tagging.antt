@@ -17,7 +17,7 @@ use Rattle.streetmap_ledger.specs.Pages.{PageValue, page_in, feature_in}
 use Rattle.streetmap_ledger.specs.Summaries.{SummaryValue, summary_in}
 use Rattle.streetmap_ledger.specs.declared.reply.Refusal.{Refusal}
 use Rattle.streetmap_ledger.specs.declared.reply.Fault.{Fault}
-use Rattle.streetmap_ledger.specs.declared.reply.Fault.TheVariants.{Memory, Device, Damaged, Reopen}
+use Rattle.streetmap_ledger.specs.declared.reply.Fault.TheVariants.{Memory, Device, Reopen}
 use Rattle.streetmap_ledger.proofs.Repeat.{either, edited_keys}
 use Rattle.streetmap_routes.specs.Operations.{OperationValue, faulty, landing_page, api_text, conformance_classes, all_collections, one_collection, page, feature, batch}
 use Rattle.streetmap_bodies.specs.declared.request_fault.RequestFault.{RequestFault}
@@ -26,9 +26,9 @@ use Rattle.streetmap_tags.specs.Keys.{is_used}
 use Rattle.streetmap_web.specs.Site.{SiteValue}
 use Rattle.streetmap_web.specs.declared.verdict.Verdict.{Verdict}
 use Rattle.streetmap_web.specs.declared.verdict.Verdict.TheVariants.{Holds, NotModified, Changed}
-use Rattle.streetmap_web.specs.Response.{ResponseValue, Wanted, fault_response, found_page, found_feature, found_collection, replied, response_in, response_shut, needs_state, tagged, instead, not_modified, changed, is_batch, verdict_on, read_judged, batch_judged, judged, state_in, state_by, response_under, state_under, response_to, state_to}
+use Rattle.streetmap_web.specs.Response.{ResponseValue, Wanted, fault_response, found_page, found_feature, found_collection, replied, response_in, response_shut, needs_state, tagged, instead, not_modified, changed, is_batch, verdict_on, read_judged, judged, state_by, response_under, state_under, response_to}
 use Rattle.streetmap_web.proofs.Verdicts.{new_key, read_by, read_is_judged}
-use Rattle.streetmap_guarantee.specs.Server.{Server, serving, failed, state_of}
+use Rattle.streetmap_guarantee.specs.Server.{Server, serving, state_of}
 use Rattle.streetmap_guarantee.specs.Histories as seq
 use Rattle.streetmap_guarantee.specs.Histories.{Step, Event, IsSequential, with_acknowledged, acknowledged}
 use Rattle.streetmap_guarantee.specs.Tagging.{Happens, state_after, OneTagOneState, NotModifiedIsTheSame, NoLostChange}

@@ -1,12 +1,12 @@
 -- Tags across crashes and openings.
-use Rattle.std.proofs.Common.{◌≡◌, ◌⊎◌, inl, inr, ℕ, ◌+◌, ◌≤◌, List, [], ◌∷◌, ◌++◌, Some, refl, sym, ap, subst, ◌∙◌, arith}
+use Rattle.std.proofs.Common.{◌≡◌, inl, inr, ℕ, List, [], ◌∷◌, ◌++◌, sym, ap, subst, ◌∙◌, arith}
 use Rattle.streetmap_batch.specs.BatchValue.{BatchValue}
 use Rattle.streetmap_ledger.specs.State.{State}
 use Rattle.streetmap_ledger.specs.Batches.{after_all}
 use Rattle.streetmap_ledger.specs.Kept.{batch_count}
 use Rattle.streetmap_web.specs.Site.{SiteValue}
 use Rattle.streetmap_guarantee.specs.Histories.{Event, acknowledged}
-use Rattle.streetmap_guarantee.specs.Tagging.{Happens, state_after}
+use Rattle.streetmap_guarantee.specs.Tagging.{state_after}
 use Rattle.streetmap_guarantee.specs.Restarts.{Runs, LeadTo}
 use Rattle.streetmap_guarantee.specs.Restarts.Runs.{none, more}
 use Rattle.streetmap_guarantee.specs.TagsOfRuns.{Names, NamesInRuns, OneTagInAllRuns}
@@ -73,14 +73,14 @@ earlier_is_later site s history extra n named other it later =
     (sym later.counted ∙ counted site s history n named it)
 
 pub one_tag_in_all_runs : OneTagInAllRuns
-one_tag_in_all_runs holds site first last none s t led n named other one two = absurd one
-one_tag_in_all_runs holds site first last (more run runs) s t (held, extra, few, led) n named other (inl one) (inl two) =
+one_tag_in_all_runs Image holds site first last none s t led n named other one two = absurd one
+one_tag_in_all_runs Image holds site first last (more run runs) s t (held, extra, few, led) n named other (inl one) (inl two) =
     one.is ∙ one_tag_one_state site s (run.guarantee s held).history one.before two.before one.event two.event n one.happens two.happens one.tag two.tag ∙ sym two.is
-one_tag_in_all_runs holds site first last (more {left = left} run runs) s t (held, extra, few, led) n named other (inl one) (inr two) =
+one_tag_in_all_runs Image holds site first last (more {left = left} run runs) s t (held, extra, few, led) n named other (inl one) (inr two) =
     let from = after_all s (acknowledged (run.guarantee s held).history ++ extra) in
     sym (earlier_is_later site s (run.guarantee s held).history extra n named other one (follows holds site left last runs from t led n other two))
-one_tag_in_all_runs holds site first last (more {left = left} run runs) s t (held, extra, few, led) n named other (inr one) (inl two) =
+one_tag_in_all_runs Image holds site first last (more {left = left} run runs) s t (held, extra, few, led) n named other (inr one) (inl two) =
     let from = after_all s (acknowledged (run.guarantee s held).history ++ extra) in
     earlier_is_later site s (run.guarantee s held).history extra n other named two (follows holds site left last runs from t led n named one)
-one_tag_in_all_runs holds site first last (more {left = left} run runs) s t (held, extra, few, led) n named other (inr one) (inr two) =
-    one_tag_in_all_runs holds site left last runs (after_all s (acknowledged (run.guarantee s held).history ++ extra)) t led n named other one two
+one_tag_in_all_runs Image holds site first last (more {left = left} run runs) s t (held, extra, few, led) n named other (inr one) (inr two) =
+    one_tag_in_all_runs Image holds site left last runs (after_all s (acknowledged (run.guarantee s held).history ++ extra)) t led n named other one two

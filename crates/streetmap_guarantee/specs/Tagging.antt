@@ -6,10 +6,10 @@ use Rattle.streetmap_batch.specs.BatchValue.{BatchValue}
 use Rattle.streetmap_ledger.specs.State.{State}
 use Rattle.streetmap_ledger.specs.Batches.{after_all}
 use Rattle.streetmap_ledger.specs.Kept.{batch_count}
-use Rattle.streetmap_routes.specs.Operations.{OperationValue, batch}
+use Rattle.streetmap_routes.specs.Operations.{batch}
 use Rattle.streetmap_tags.specs.Keys.{is_used}
 use Rattle.streetmap_web.specs.Site.{SiteValue}
-use Rattle.streetmap_web.specs.Response.{response_in, not_modified, tagged, is_batch}
+use Rattle.streetmap_web.specs.Response.{response_in, not_modified, tagged}
 use Rattle.streetmap_guarantee.specs.Server.{Server, serving}
 use Rattle.streetmap_guarantee.specs.Histories.{Event, IsSequential, acknowledged}
 

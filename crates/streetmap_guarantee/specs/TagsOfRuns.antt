@@ -32,7 +32,7 @@ NamesInRuns {site = site} (more run runs) s t (held, extra, few, led) n named =
 -- the states after their requests are the same.
 abbrev pub OneTagInAllRuns : Type 1
 OneTagInAllRuns =
-    {Image : Type 0} (holds : Image → State → Type 0) (site : SiteValue) (first last : Image)
+    (Image : Type 0) (holds : Image → State → Type 0) (site : SiteValue) (first last : Image)
     (runs : Runs holds site first last) (s t : State) (led : LeadTo runs s t) (n : ℕ)
     (named other : State) → NamesInRuns runs s t led n named → NamesInRuns runs s t led n other
     → named ≡ other

@@ -1,6 +1,5 @@
 -- What serving the clients of a listener guarantees, in real time.
 use Rattle.std.specs.Prelude.{◌≡◌, List, [], ◌++◌, map}
-use Rattle.streetmap_batch.specs.Text.{Text}
 use Rattle.streetmap_ledger.specs.State.{State}
 use Rattle.streetmap_connections.specs.History.{Exchange, History}
 use Rattle.streetmap_connections.specs.Interleaving.{IsInterleaving}
