@@ -2,8 +2,8 @@
 # Audits a town of this machine: audit.sh journal|stop|file|start NAME [STATE], which
 # streetmap-audit@NAME runs with the settings of NAME.conf. STATE (/run) keeps what was stopped.
 #
-#   journal  compares the files of JOURNAL with the table of DATABASE, or with SOURCE
-#            (journal_digest.py)
+#   journal  compares the files of JOURNAL with the table of DATABASE, or with SOURCE, which may be
+#            the changes of a server (journal_digest.py)
 #   stop     with AUDIT=stop: stops streetmap@NAME, if it runs
 #   file     with AUDIT=stop: replays all batches of the file, and compares all of it with that
 #            (`streetmap check --replay`); with AUDIT=copy: the same of a copy that is restored from
@@ -37,6 +37,7 @@ journal)
     case ${DATABASE:-${SOURCE:-}} in
     postgres*) digest --table "${DATABASE:-$SOURCE}" --town="${TOWN:-}" ;;
     /*) digest --other "$SOURCE" ;;
+    http*) digest --other "$SOURCE" --login="${SOURCE_LOGIN:-}" --ca="${SOURCE_CA:-}" ;;
     esac
     ;;
 stop)

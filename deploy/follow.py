@@ -68,6 +68,7 @@ from journal_lines import (
     SourceAway,
     end,
     not_empty,
+    path_of,
     tell,
     town_of,
 )
@@ -429,11 +430,6 @@ def source_of(asked: argparse.Namespace) -> Source:
     from journal_table import TableSource
 
     return TableSource(text, asked.town)
-
-
-def path_of(text: str) -> Path | None:
-    """An argument that is a path; none if it is empty, as a setting may be."""
-    return Path(text) if text else None
 
 
 def own_place(journal: Path) -> Place:

@@ -2,7 +2,7 @@
 
     python3 deploy/journal_digest.py J [--to SERIAL] [--after SERIAL:DIGEST]
     python3 deploy/journal_digest.py J --table DSN [--town NAME] [--to SERIAL] [--wait SECONDS]
-    python3 deploy/journal_digest.py J --other K [--to SERIAL]
+    python3 deploy/journal_digest.py J --other K [--to SERIAL] [--login FILE] [--ca FILE]
 
 J is the path that the files of a journal share, or that of one of them (journal_files.py).
 
@@ -18,7 +18,9 @@ J whose first files were moved away is compared from there on, and the table's d
 first line on.
 
 With `--other` it compares J with the journal K, from the first line that both have, up to the end
-of the shorter one or `--to`, and prints `the same up to SERIAL`.
+of the shorter one or `--to`, and prints `the same up to SERIAL`. K may be the changes of a server,
+`https://HOST/changes` with `--login` and `--ca` as follow.py takes them. They have to come to the
+end of J.
 
 It ends with status 1, and one of these on standard error, at what a person has to examine:
 
@@ -29,10 +31,10 @@ It ends with status 1, and one of these on standard error, at what a person has 
     lines_missing FROM TO    J, K or the table lacks these lines
     rows_differ N M          the table's index has N lines, and its rows are M
     bad_line SERIAL          J or the table has no line there; line_too_long SERIAL likewise
-    bad_source CODE          the database refuses, or its table cannot be read
+    bad_source CODE          the database refuses, or its table cannot be read; or the server refuses
 
-Of a table a further line has the last serial that is right. A database or a file that cannot be
-read now is `away`, with status 3; `usage` has status 2.
+Of a table a further line has the last serial that is right. A database, a server or a file that
+cannot be read now is `away`, with status 3; `usage` and `bad_login` have status 2.
 """
 
 import argparse
@@ -42,8 +44,9 @@ import time
 from collections.abc import Iterator
 from pathlib import Path
 
+from journal_changes import Changes, is_address, login_of
 from journal_files import JournalFiles, last_serial
-from journal_lines import NO_LINES, Fault, Line, not_empty, print_made, town_of
+from journal_lines import NO_LINES, Fault, Line, Source, not_empty, path_of, print_made, town_of
 from journal_table import JournalTable, Row
 
 NAME = "journal_digest"
@@ -83,8 +86,8 @@ def digest_of(path: Path, to: int | None, after: Digest = BEFORE_ALL) -> Digest:
 class Beside:
     """The lines of a journal, beside those of another source that come one after the other."""
 
-    def __init__(self, path: Path) -> None:
-        self.lines = in_a_row(JournalFiles(path).behind(0), None)
+    def __init__(self, source: Source) -> None:
+        self.lines = in_a_row(source.behind(0), None)
         self.line = next(self.lines, None)
         # The last serial that was compared.
         self.last = 0
@@ -136,7 +139,7 @@ def checked(row: Row, before: bytes) -> bytes:
 def compare_table(path: Path, table: JournalTable, to: int) -> Digest:
     """Compares each line of a table with a journal, and the table's digests with its lines. Lines
     after a serial, which came in meanwhile, have a digest too."""
-    beside, last, digest, found = Beside(path), 0, NO_LINES, BEFORE_ALL
+    beside, last, digest, found = Beside(JournalFiles(path)), 0, NO_LINES, BEFORE_ALL
     try:
         for row in table.walk():
             serial = row.line.serial
@@ -156,10 +159,16 @@ def compare_table(path: Path, table: JournalTable, to: int) -> Digest:
     return found
 
 
-def compare_journals(path: Path, other: Path, to: int | None) -> int:
-    """Compares two journals, up to a serial or the end of the shorter one, which it gives."""
-    ends = [last_serial(it) for it in (path, other)]
-    wanted, beside = to or min(ends), Beside(other)
+def compare_journals(asked: argparse.Namespace) -> int:
+    """Compares two journals, up to a serial or the end of the shorter one, which it gives; of the
+    changes of a server up to the end of the journal."""
+    path, to, end_of_path = asked.journal, asked.to, last_serial(asked.journal)
+    if is_address(asked.other):
+        wanted = to or end_of_path
+        beside = Beside(Changes(asked.other, login_of(asked.login), asked.ca))
+    else:
+        wanted = to or min(end_of_path, last_serial(Path(asked.other)))
+        beside = Beside(JournalFiles(Path(asked.other)))
     for line in in_a_row(JournalFiles(path).behind(0), wanted):
         beside.compare(line)
     beside.reach(wanted)
@@ -173,7 +182,7 @@ def audit(asked: argparse.Namespace) -> str:
         to = wait_for(asked.journal, table, asked.to, asked.wait)
         last, digest = compare_table(asked.journal, table, to) if to else BEFORE_ALL
     elif asked.other:
-        return f"the same up to {compare_journals(asked.journal, asked.other, asked.to)}"
+        return f"the same up to {compare_journals(asked)}"
     else:
         last, digest = digest_of(asked.journal, asked.to, asked.after)
         return f"{last} {digest.hex()}"
@@ -201,8 +210,12 @@ def arguments() -> argparse.Namespace:
     beside = words.add_mutually_exclusive_group()
     beside.add_argument("--after", type=after_of, default=BEFORE_ALL, metavar="SERIAL:DIGEST")
     beside.add_argument("--table", type=not_empty, metavar="DSN", help="compares with a database")
-    beside.add_argument("--other", type=Path, metavar="K", help="compares with another journal")
+    beside.add_argument(
+        "--other", type=not_empty, metavar="K", help="compares with another journal"
+    )
     words.add_argument("--town", type=town_of, default="", metavar="NAME", help="of several towns")
+    words.add_argument("--login", type=path_of, metavar="FILE", help="has USER:PASSWORD")
+    words.add_argument("--ca", type=path_of, metavar="FILE", help="certificates that are trusted")
     words.add_argument("--wait", type=float, default=WAIT_SECONDS, metavar="SECONDS")
     return words.parse_args()
 

@@ -21,6 +21,7 @@ import sys
 import time
 from collections.abc import Callable, Iterator
 from dataclasses import dataclass
+from pathlib import Path
 from typing import BinaryIO, Protocol
 
 # In bytes: a body of `POST /batches`, and a line of a journal without its line feed, at most.
@@ -152,6 +153,11 @@ def not_empty(text: str) -> str:
     if not text:
         raise ValueError(text)
     return text
+
+
+def path_of(text: str) -> Path | None:
+    """An argument that is a path; none if it is empty, as a setting may be."""
+    return Path(text) if text else None
 
 
 def town_of(text: str) -> str:

@@ -320,6 +320,30 @@ def check_own(context: Context) -> None:
             made.has(name, kept if ends else LINES)
 
 
+def check_audit(context: Context) -> None:
+    """An audit of a follower's journal beside the lines of a server."""
+    journal, script = context.folder / "audited", Script(context, "journal_digest.py")
+    stray = lines_of([text_of("stray", lamp(99))], 5)
+    for what, lines, said in (
+        ("more lines there", LINES, None),
+        ("another line", [*LINES[:4], *stray, *LINES[5:]], "differs 5"),
+        ("fewer lines", LINES[:4], "lines_missing 5 6"),
+        ("none", [], "lines_missing 6 6"),
+    ):
+        journal.write_bytes(b"".join(LINES[:6]))
+        with serving(Source(lines)) as source:
+            printed, faults = script.prints(journal, "--other", source.url, "--login=", "--ca=")
+        context.check(
+            f"{what}: the audit", (printed, faults[:1]), AUDITED if said is None else ("", [said])
+        )
+    with serving(Source(LINES, login="Basic eA==")) as source:
+        faults = script.prints(journal, "--other", source.url)[1]
+    context.check("no password for an audit", faults[:1], ["bad_source 401"])
+
+
+AUDITED: tuple[str, list[str]] = ("the same up to 6\n", [])
+
+
 def check_login(made: ChangeRows) -> None:
     """USER:PASSWORD of a file that others cannot read, or of the environment. A command line has
     none, and none is sent over plain HTTP to another machine."""
@@ -363,6 +387,7 @@ def check_changes(context: Context) -> None:
     check_pages(context)
     check_digests(context)
     check_own(context)
+    check_audit(context)
     file = context.new_file("changes")
     with context.serve(file, "--clients", "16") as server:
         made = ChangeRows(Rows(context, server))
