@@ -1,7 +1,7 @@
 //! The tags of the states of a keeper.
 //!
 //! A state is tagged by the number of batches that it has accepted. `Tagged` is a keeper that
-//! returns it, and says whether a key was used.
+//! returns it, says whether a key was used, and returns the batch that has a serial.
 #![tactic(auto)]
 
 mod tagged;
