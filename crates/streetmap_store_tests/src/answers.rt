@@ -14,7 +14,7 @@ pub(crate) fn answers<K: Tagged>(
     requests: &str,
 ) -> Option<Vec<u8>> {
     let base = Base::new(alloc, "http://localhost/").ok()??;
-    let site = Site { base, tags };
+    let site = Site { base, tags, changes: false };
     let mut reader = requests.as_bytes();
     let mut writer = BufWriter::new(alloc, Vec::new(alloc)).ok()?;
     let _served = serve(alloc, keeper, &site, &mut reader, &mut writer);
