@@ -1,5 +1,5 @@
 -- The response to a request, by the one call of the keeper that it takes, if it takes one.
-use Rattle.std.proofs.Common.{◌≡◌, true, false, ap, sym, subst, refl, ◌∙◌, Option, Some, None, IsSome, Ok, Err, inl, inr, IfOk, OnErr}
+use Rattle.std.proofs.Common.{◌≡◌, ℕ, true, false, ap, sym, subst, refl, ◌∙◌, Option, Some, None, IsSome, Ok, Err, inl, inr, IfOk, OnErr}
 use Rattle.std.specs.Prelude.{Result}
 use Rattle.std.specs.declared.alloc.AllocError.{AllocError}
 use Rattle.streetmap_batch.specs.Text.{Text}

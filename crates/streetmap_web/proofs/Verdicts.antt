@@ -1,10 +1,9 @@
 -- Tags, and what verdicts on them let happen.
-use Rattle.std.proofs.Common.{◌≡◌, ◌≢◌, ℕ, ◌+◌, Bool, true, false, cond, Option, None, Some, Result, Ok, Err, IfOk, refl, sym, ap, subst, ◌∙◌, nat_lt, nat_eq}
-use Rattle.std.specs.Prelude.{if◌then◌else◌, ◌==◌}
+use Rattle.std.proofs.Common.{◌≡◌, ℕ, ◌+◌, true, false, cond, Option, None, Some, Result, Ok, Err, IfOk, refl, ap, ◌∙◌, nat_lt, nat_eq}
 use Rattle.std.specs.Option.{is_some, option_map}
 use Rattle.std.specs.Cmp.Lexicographic.{pointwise, nat_list_cmp_total}
 use Rattle.std.specs.FinMap.{get, len, insert, values, contains_key, len-insert}
-use Rattle.streetmap_batch.specs.Text.{Text, text_cmp}
+use Rattle.streetmap_batch.specs.Text.{Text}
 use Rattle.streetmap_batch.specs.BatchValue.{BatchValue}
 use Rattle.streetmap_batch.specs.BatchText.{batch_text}
 use Rattle.streetmap_query.specs.QueryValue.{QueryValue}

@@ -24,8 +24,8 @@ use http::StatusCode;
 use std::alloc::{AllocError, Global};
 use streetmap_batch::Batch;
 use streetmap_bodies::{
-    RequestFault, api_text, changes_text, collection_text, collections_text, conformance_text, feature_text,
-    landing_text, page_text, push_fault, push_reply_body,
+    RequestFault, api_text, changes_text, collection_text, collections_text, conformance_text,
+    feature_text, landing_text, page_text, push_fault, push_reply_body,
 };
 use streetmap_geojson::Feature;
 use streetmap_http::MediaType;
