@@ -8,3 +8,4 @@ pub mod RealTime
 pub mod Restarts
 pub mod Judged
 pub mod Tagging
+pub mod ChangesAnswered

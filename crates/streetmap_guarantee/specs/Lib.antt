@@ -6,3 +6,4 @@ pub mod Runs
 pub mod Town
 pub mod Restarts
 pub mod Tagging
+pub mod Changes
