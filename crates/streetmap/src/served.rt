@@ -48,7 +48,7 @@ fn serve_over<K: Durable + KeepsBatches + Tagged + Drop>(
     ensures guarantee { IfOk result (λ town.
         K.model.is_clean town.service.keeper.keeper → (s : State) → K.model.represents keeper s →
         GuaranteeOfTown K.holds (K.leaves town.service.keeper.keeper)
-        (record { root = root_of base; tags = connections.conditional }) s
+        (record { root = root_of base; tags = connections.conditional; changes = connections.changes }) s
         (map client_history (clients_of town.clients))) }
     ensures began_clean { IfOk result (λ town.
         K.model.is_clean town.service.keeper.keeper → K.model.is_clean keeper) }
@@ -84,7 +84,7 @@ pub(crate) fn serve_file<S: Start>(
         HoldsTables (image_at S.Start) s →
         GuaranteeOfTown ⟦<ServedFile<S> as Durable>⟧.holds
         (⟦<ServedFile<S> as Durable>⟧.leaves town.service.keeper.keeper)
-        (record { root = root_of base; tags = connections.conditional }) s
+        (record { root = root_of base; tags = connections.conditional; changes = connections.changes }) s
         (map client_history (clients_of town.clients))) }
     ensures counted { IfOk result (λ town. IsOk town.ended →
         IfSome connections.count (λ n. n ≤ length (ended_of town.clients))) }
