@@ -97,7 +97,7 @@ COMPLETIONS = {
     "ex": "export",
     "--": "--help --version",
     "help ch": "check",
-    "serve town --c": "--count --clients",
+    "serve town --c": "--count --clients --conditional",
     "serve town --clients ": "1 64 1024",
     "import town lamps.json --": "--key --collection --replace --progress --explain --help",
     "load town --s": "--scale --shift --skip",
