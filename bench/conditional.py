@@ -1,9 +1,11 @@
 """Answers with tags beside those without, and a page that has not changed, requested again.
 
-The server with `--conditional` and the one without take turns, and the best runs of both are
-compared. The rates are those of `wrk` (a Debian package of that name) on ten connections.
+What a tag costs is counted in instructions (`valgrind`), which are the same whatever else the
+machine does. The time of a page that is requested again is the best of some runs. The rates are
+those of `wrk` on ten connections. Both are Debian packages of these names.
 """
 
+import re
 import shutil
 import statistics
 import subprocess
@@ -32,17 +34,28 @@ def again(target: str) -> bytes:
     return request("GET", target, fields={"If-None-Match": TAG})
 
 
+def instructions(program: Path, file: Path, sent: bytes, *words: str) -> int:
+    """The instructions of a whole run."""
+    given: list[str | Path] = ["valgrind", "--tool=callgrind", "--callgrind-out-file=/dev/null"]
+    given += [program, "pipe", file, *words]
+    done = subprocess.run(given, input=sent, capture_output=True, check=True)
+    found = re.search(rb"Collected : (\d+)", done.stderr)
+    return int(found[1]) if found else fail(f"valgrind counts nothing: {done.stderr!r}")
+
+
 def compare_tagged(program: Path, file: Path, name: str, target: str, count: int) -> None:
-    """How much longer an answer takes if it has a tag."""
-    sent = [get(target)] * count
+    """What an answer takes with a tag, beside one without."""
+    if not shutil.which("valgrind"):
+        report(f"{name} with a tag", "valgrind is not installed")
+        return
 
-    def tagged() -> float:
-        return seconds_each(program, file, sent, sent[0], TAGGED)
+    def each(*words: str) -> float:
+        one, many = get(target), get(target) * (count + 1)
+        more = instructions(program, file, many, *words)
+        return (more - instructions(program, file, one, *words)) / count
 
-    def plain() -> float:
-        return seconds_each(program, file, sent, sent[0])
-
-    figures = f"{ratio_of(tagged, plain):.3f} of the time without one (at most 1.03)"
+    plain = each()
+    figures = f"{each(TAGGED) / plain:.4f} of {plain:,.0f} instructions without (at most 1.03)"
     report(f"{name} with a tag", figures)
 
 
@@ -90,8 +103,8 @@ def run(program: Path, folder: Path) -> None:
     inserts = [put("insert", "lamps", lamp(at)) for at in range(1_000)]
     batch = {"key": "first", "edits": [open_collection("lamps"), *inserts]}
     file = create(program, folder / "lamps.streetmap", batch)
-    compare_tagged(program, file, "a feature", f"{ITEMS}/lamp-00500", 5_000)
-    compare_tagged(program, file, "a page of ten points", f"{ITEMS}?limit=10", 2_000)
-    compare_tagged(program, file, "a page of 1,000 points", f"{ITEMS}?limit=1000", 50)
+    compare_tagged(program, file, "a feature", f"{ITEMS}/lamp-00500", 200)
+    compare_tagged(program, file, "a page of ten points", f"{ITEMS}?limit=10", 100)
+    compare_tagged(program, file, "a page of 1,000 points", f"{ITEMS}?limit=1000", 3)
     compare_again(program, file, f"{ITEMS}?limit=1000", 2_000)
     compare_rates(program, file)

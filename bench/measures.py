@@ -9,7 +9,7 @@ import threading
 import time
 from collections.abc import Callable
 from pathlib import Path
-from typing import IO, Any
+from typing import IO, Any, NoReturn
 
 from messages import get, post
 
@@ -17,7 +17,7 @@ Batch = dict[str, Any]
 CONFORMANCE = get("/conformance")
 
 
-def fail(why: str) -> None:
+def fail(why: str) -> NoReturn:
     """Ends the run: what was measured is not what was meant."""
     sys.exit(f"bench: {why}")
 
