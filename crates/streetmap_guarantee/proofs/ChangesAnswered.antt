@@ -1,5 +1,5 @@
 -- Requests for changes have a limit from 1.
-use Rattle.std.proofs.Common.{◌≡◌, ℕ, ◌<◌, ◌≤◌, min, Bool, true, false, List, [], ◌∷◌, length, Option, Some, None, Result, Ok, Err, refl, sym, ap, subst, ◌∙◌, arith, codes}
+use Rattle.std.proofs.Common.{◌≡◌, ℕ, ◌<◌, ◌≤◌, min, Bool, true, false, List, [], ◌∷◌, length, Option, Some, None, Result, Ok, Err, refl, ap, subst, arith, codes}
 use Rattle.std.specs.Prelude.{◌&&◌, not, nat_lt, if◌then◌else◌, unwrap_or, is_some, bytes_eq}
 use Rattle.std.specs.Str.{all_ascii_digits}
 use Rattle.std.specs.Str.Parse.{digits_value}
@@ -17,16 +17,14 @@ use Rattle.streetmap_query.specs.declared.fault.QueryFault.{QueryFault}
 use Rattle.streetmap_query.specs.declared.fault.QueryFault.TheVariants.{RepeatedParameter, UnknownParameter, BadLimit}
 use Rattle.streetmap_bodies.specs.declared.request_fault.RequestFault.{RequestFault}
 use Rattle.streetmap_bodies.specs.declared.request_fault.RequestFault.TheVariants.{Query, BadSerial, BadTarget, MethodNotAllowed, BadCondition}
-use Rattle.streetmap_ledger.specs.State.{State}
-use Rattle.streetmap_ledger.specs.WellFormed.{IsState}
 use Rattle.streetmap_http.specs.declared.answer_head.Methods.TheVariants.{Reads}
 use Rattle.streetmap_tags.specs.Changes.{changes_in}
 use Rattle.streetmap_tags.proofs.NoneLeftOut.{changes_go_on}
-use Rattle.streetmap_routes.specs.ChangesQuery.{ChangesValue, no_parameters, serial_of, serial_read, limit_read, unless_given, set_after, set_limit, with_pair, with_pairs, changes_of, default_limit}
+use Rattle.streetmap_routes.specs.ChangesQuery.{ChangesValue, no_parameters, serial_of, serial_read, limit_read, set_after, set_limit, with_pair, with_pairs, changes_of, default_limit}
 use Rattle.streetmap_routes.specs.Operations.{ResourceValue, landing, api, conformance, collections, collection, items, item, batches, OperationValue, changes, faulty, batch_operation, page_operation, unqueried, without_query, queried, placed, allows, methods_of, resource_at, path_part, query_part, begins_with_slash, operation_of, changes_operation, changes_wanted, changes_path, operation_with}
 use Rattle.streetmap_web.specs.Site.{SiteValue}
-use Rattle.streetmap_web.specs.Response.{Wanted, plainly, needs_state, readable_under, wanted_of, request_of, response_in}
-use Rattle.streetmap_guarantee.specs.Changes.{AreChanges, ChangesAreAnswered}
+use Rattle.streetmap_web.specs.Response.{plainly, needs_state, wanted_of, request_of, response_in}
+use Rattle.streetmap_guarantee.specs.Changes.{ChangesAreAnswered}
 
 -- ---- the limit of a query
 

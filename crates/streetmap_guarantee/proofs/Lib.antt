@@ -10,3 +10,4 @@ pub mod Judged
 pub mod Tagging
 pub mod TagsOfRuns
 pub mod ChangesAnswered
+pub mod WithoutOptions

@@ -143,7 +143,7 @@ untagged_fault : (fault : RequestFault) → (fault_response fault).tag ≡ None
 unfolding fault_response
 untagged_fault fault = refl
 
-untagged : (root : Text) (s : State) (operation : OperationValue) → (response_in root s operation).tag ≡ None
+pub untagged : (root : Text) (s : State) (operation : OperationValue) → (response_in root s operation).tag ≡ None
 untagged root s (faulty fault) = untagged_fault fault
 untagged root s landing_page = refl
 untagged root s api_text = refl

@@ -8,3 +8,4 @@ pub mod Restarts
 pub mod Tagging
 pub mod TagsOfRuns
 pub mod Changes
+pub mod WithoutOptions

@@ -2,6 +2,7 @@
 ghost use Rattle.streetmap_guarantee.specs.Changes.{ChangesAreAnswered};
 ghost use Rattle.streetmap_guarantee.specs.Tagging.{OneTagOneState, NotModifiedIsTheSame};
 ghost use Rattle.streetmap_guarantee.specs.Tagging.{NoLostChange};
+ghost use Rattle.streetmap_guarantee.specs.WithoutOptions.{AllArePlain};
 
 /// If two answers of a history have one tag, the states after their requests are the same.
 pub fn one_tag_one_state()
@@ -23,4 +24,10 @@ pub fn no_lost_change()
 /// which none is left out.
 pub fn changes_are_answered()
     ensures { ChangesAreAnswered }
+{}
+
+/// Without options a request wants what its method, target and body say, and is answered by the
+/// state alone, without a tag.
+pub fn all_are_plain_without_options()
+    ensures { AllArePlain }
 {}
