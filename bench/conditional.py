@@ -1,7 +1,7 @@
 """Answers with tags beside those without, and a page that has not changed, requested again.
 
-The server with `--conditional` and the one without take turns. The rates are those of `wrk` (a
-Debian package of that name) on ten connections.
+The server with `--conditional` and the one without take turns, and the best runs of both are
+compared. The rates are those of `wrk` (a Debian package of that name) on ten connections.
 """
 
 import shutil
@@ -21,8 +21,10 @@ TAG = '"1"'
 TAGGED = "--conditional"
 
 
-def median(work: Callable[[], float]) -> float:
-    return statistics.median(work() for _ in range(ROUNDS))
+def ratio_of(one: Callable[[], float], other: Callable[[], float]) -> float:
+    """The best time of one beside that of the other, which take turns."""
+    times = [(one(), other()) for _ in range(ROUNDS)]
+    return min(it for it, _ in times) / min(it for _, it in times)
 
 
 def again(target: str) -> bytes:
@@ -34,22 +36,27 @@ def compare_tagged(program: Path, file: Path, name: str, target: str, count: int
     """How much longer an answer takes if it has a tag."""
     sent = [get(target)] * count
 
-    def ratio() -> float:
-        tagged = seconds_each(program, file, sent, sent[0], TAGGED)
-        return tagged / seconds_each(program, file, sent, sent[0])
+    def tagged() -> float:
+        return seconds_each(program, file, sent, sent[0], TAGGED)
 
-    report(f"{name} with a tag", f"{median(ratio):.3f} of the time without one (at most 1.03)")
+    def plain() -> float:
+        return seconds_each(program, file, sent, sent[0])
+
+    figures = f"{ratio_of(tagged, plain):.3f} of the time without one (at most 1.03)"
+    report(f"{name} with a tag", figures)
 
 
 def compare_again(program: Path, file: Path, target: str, count: int) -> None:
     """How long a page takes that the client has."""
     first = get(target)
 
-    def ratio() -> float:
-        kept = seconds_each(program, file, [again(target)] * count, first, TAGGED, status=304)
-        return kept / seconds_each(program, file, [first] * 50, first, TAGGED)
+    def kept() -> float:
+        return seconds_each(program, file, [again(target)] * count, first, TAGGED, status=304)
 
-    figures = f"{median(ratio):.4f} of the time of the page (at most 0.05)"
+    def whole() -> float:
+        return seconds_each(program, file, [first] * 50, first, TAGGED)
+
+    figures = f"{ratio_of(kept, whole):.4f} of the time of the page (at most 0.05)"
     report("a page of 1,000 points, requested again", figures)
 
 

@@ -1,5 +1,5 @@
-"""Writes the table of HTTP rows of a proved test, from examples/http.jsonl and
-examples/conditional.jsonl.
+"""Writes the table of HTTP rows of a proved test, from examples/http.jsonl,
+examples/conditional.jsonl and examples/changes.jsonl.
 
     python3 tests/http_table.py [--check]
 
@@ -15,23 +15,25 @@ from pathlib import Path
 ROOT = Path(__file__).resolve().parent.parent
 ROWS = ROOT / "examples" / "http.jsonl"
 CONDITIONAL = ROOT / "examples" / "conditional.jsonl"
+CHANGES = ROOT / "examples" / "changes.jsonl"
 TABLE = ROOT / "crates" / "streetmap_store_tests" / "src" / "rows.rt"
 SOURCE = """\
 //! The rows of HTTP, a JSON object a line: what it shows, the batches that are there before, the
 //! bytes of the requests, and all bytes of the answers. `tests/http_table.py` writes this file from
-//! `examples/http.jsonl` and `examples/conditional.jsonl`: change those, and write this one again.
+//! `examples/http.jsonl`, `examples/conditional.jsonl` and `examples/changes.jsonl`: change those, and
+//! write this one again.
 
-/// The number of rows of a service without tags.
+/// The number of rows of a service without tags and changes.
 pub(crate) const COUNT: u64 = {count};
 
 pub(crate) const ROWS: &str =
     r##"{rows}"##;
 
-/// The number of rows of a service with tags.
-pub(crate) const CONDITIONAL_COUNT: u64 = {conditional_count};
+/// The number of rows of a service with tags and changes.
+pub(crate) const OPTIONS_COUNT: u64 = {options_count};
 
-pub(crate) const CONDITIONAL_ROWS: &str =
-    r##"{conditional_rows}"##;
+pub(crate) const OPTIONS_ROWS: &str =
+    r##"{options_rows}"##;
 """
 
 
@@ -45,12 +47,12 @@ def rows_in(path: Path) -> str:
 
 def table() -> str:
     """The source of the table, in the layout of `rt fmt`."""
-    rows, conditional = rows_in(ROWS), rows_in(CONDITIONAL)
+    rows, options = rows_in(ROWS), rows_in(CONDITIONAL) + rows_in(CHANGES)
     return SOURCE.format(
         count=rows.count("\n"),
         rows=rows,
-        conditional_count=conditional.count("\n"),
-        conditional_rows=conditional,
+        options_count=options.count("\n"),
+        options_rows=options,
     )
 
 

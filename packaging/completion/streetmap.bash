@@ -47,10 +47,10 @@ _streetmap() {
     if [[ $cur == -* ]]; then
         local options=
         case ${words[1]} in
-            pipe) options="--base --conditional" ;;
+            pipe) options="--base --conditional --changes" ;;
             serve)
-                options="--port --count --clients --log --warm --conditional --base --journal
-                    --journal-after --journal-sync"
+                options="--port --count --clients --log --warm --conditional --changes --base
+                    --journal --journal-after --journal-sync"
                 ;;
             import) options="--key --collection --replace --progress" ;;
             export) options="--collection --progress" ;;

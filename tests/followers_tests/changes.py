@@ -324,12 +324,13 @@ def check_audit(context: Context) -> None:
     """An audit of a follower's journal beside the lines of a server."""
     journal, script = context.folder / "audited", Script(context, "journal_digest.py")
     stray = lines_of([text_of("stray", lamp(99))], 5)
-    for what, lines, said in (
+    cases: list[tuple[str, list[bytes], str | None]] = [
         ("more lines there", LINES, None),
         ("another line", [*LINES[:4], *stray, *LINES[5:]], "differs 5"),
         ("fewer lines", LINES[:4], "lines_missing 5 6"),
         ("none", [], "lines_missing 6 6"),
-    ):
+    ]
+    for what, lines, said in cases:
         journal.write_bytes(b"".join(LINES[:6]))
         with serving(Source(lines)) as source:
             printed, faults = script.prints(journal, "--other", source.url, "--login=", "--ca=")

@@ -1,8 +1,8 @@
 """Rows of HTTP to the byte, each over a file of its own, and bodies at their limits.
 
-A row (examples/http.jsonl; examples/conditional.jsonl of a service with tags) has the batches that
-are there before, the bytes of the requests, and all bytes of the answers. A proved test runs the
-same rows over other keepers, from a table.
+A row (examples/http.jsonl; examples/conditional.jsonl of a service with tags, examples/changes.jsonl
+of one with tags and changes) has the batches that are there before, the bytes of the requests, and
+all bytes of the answers. A proved test runs the same rows over other keepers, from a table.
 """
 
 import json
@@ -66,4 +66,8 @@ def run(context: Context) -> None:
     tagged = rows_in("conditional.jsonl")
     for number, (what, before, sent, wanted) in enumerate(tagged, len(asked)):
         answers = written(context, number, before, sent, ("--conditional",))
+        context.check(what, answers, wanted)
+    changes = rows_in("changes.jsonl")
+    for number, (what, before, sent, wanted) in enumerate(changes, len(asked) + len(tagged)):
+        answers = written(context, number, before, sent, ("--conditional", "--changes"))
         context.check(what, answers, wanted)

@@ -97,7 +97,7 @@ COMPLETIONS = {
     "ex": "export",
     "--": "--help --version",
     "help ch": "check",
-    "serve town --c": "--count --clients --conditional",
+    "serve town --c": "--count --clients --conditional --changes",
     "serve town --clients ": "1 64 1024",
     "import town lamps.json --": "--key --collection --replace --progress --explain --help",
     "load town --s": "--scale --shift --skip",
@@ -228,7 +228,8 @@ def check_words(context: Context) -> None:
         ("settings before LOG and WARM", "LOG=\nWARM=\n", "\n", [tags]),
         ("no tags", "CONDITIONAL=yes\n", "CONDITIONAL=\n", []),
         ("settings before tags", "CONDITIONAL=yes\n", "\n", []),
-        ("changes", "CONDITIONAL=yes\n", "CONDITIONAL=yes\nCHANGES=yes\n", [tags, "--changes"]),
+        ("changes", "CHANGES=\n", "CHANGES=yes\n", [tags, "--changes"]),
+        ("settings before changes", "CHANGES=\n", "\n", [tags]),
         ("a missing journal", "JOURNAL=\n", "\n", [tags]),
         ("a journal", "JOURNAL=\n", f"JOURNAL={path}\n", [tags, "--journal", path]),
         (

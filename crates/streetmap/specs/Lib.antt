@@ -4,3 +4,4 @@ pub mod Kept
 pub mod Changes
 pub mod Piped
 pub mod Images
+pub mod Served

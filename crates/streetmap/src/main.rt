@@ -60,10 +60,19 @@ fn perform(rt: &HostRuntime, command: Command<'_>) -> Result<(), ProgramFault> {
             file,
             base,
             conditional,
+            changes,
         } => {
             let base = Base::new(rt.alloc(), base.as_str())?.ok_or(ProgramFault::BadBase)?;
             let tags = conditional;
-            files::pipe(rt, file, Site { base, tags })
+            files::pipe(
+                rt,
+                file,
+                Site {
+                    base,
+                    tags,
+                    changes,
+                },
+            )
         }
         Command::Serve {
             file,

@@ -2,13 +2,13 @@
 ghost use Rattle.std.specs.Prelude.{◌≤◌, length, map, IfOk, IfSome, IsOk};
 ghost use Rattle.sqlite_wal.specs.Files.{image_at};
 ghost use Rattle.streetmap_ledger.specs.State.{State};
-ghost use Rattle.streetmap_routes.specs.BaseView.{root_of};
 ghost use Rattle.streetmap_web.specs.Site.{site_value};
 ghost use Rattle.streetmap_connections.specs.AllClients.{clients_of, ended_of};
 ghost use Rattle.streetmap_connections.specs.SlotClients.{client_history};
 ghost use Rattle.streetmap_guarantee.specs.Town.{GuaranteeOfTown};
 ghost use Rattle.streetmap.specs.Images.{HoldsTables};
 ghost use Rattle.streetmap.specs.Piped.{GuaranteeOfPipe};
+ghost use Rattle.streetmap.specs.Served.{site_of};
 
 use crate::openings::{ServedFile, open_indexed};
 use crate::server::{Service, limits_of, pipe, serve, service_of};
@@ -48,7 +48,7 @@ fn serve_over<K: Durable + KeepsBatches + Tagged + Drop>(
     ensures guarantee { IfOk result (λ town.
         K.model.is_clean town.service.keeper.keeper → (s : State) → K.model.represents keeper s →
         GuaranteeOfTown K.holds (K.leaves town.service.keeper.keeper)
-        (record { root = root_of base; tags = connections.conditional }) s
+        (site_of base connections) s
         (map client_history (clients_of town.clients))) }
     ensures began_clean { IfOk result (λ town.
         K.model.is_clean town.service.keeper.keeper → K.model.is_clean keeper) }
@@ -84,7 +84,7 @@ pub(crate) fn serve_file<S: Start>(
         HoldsTables (image_at S.Start) s →
         GuaranteeOfTown ⟦<ServedFile<S> as Durable>⟧.holds
         (⟦<ServedFile<S> as Durable>⟧.leaves town.service.keeper.keeper)
-        (record { root = root_of base; tags = connections.conditional }) s
+        (site_of base connections) s
         (map client_history (clients_of town.clients))) }
     ensures counted { IfOk result (λ town. IsOk town.ended →
         IfSome connections.count (λ n. n ≤ length (ended_of town.clients))) }

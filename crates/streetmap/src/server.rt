@@ -56,7 +56,11 @@ pub(crate) fn service_of<K: KeepsBatches + Tagged>(
 ) -> Service<K>
     ensures keeper { result.keeper.keeper ≡ keeper }
     ensures no_journal { result.keeper.journal ≡ None }
-    ensures site { result.site ≡ record { base = base; tags = connections.conditional } }
+    ensures site { result.site ≡ record {
+      base = base;
+      tags = connections.conditional;
+      changes = connections.changes;
+    } }
 {
     KeeperService {
         alloc: rt.alloc(),
@@ -68,6 +72,7 @@ pub(crate) fn service_of<K: KeepsBatches + Tagged>(
         site: Site {
             base,
             tags: connections.conditional,
+            changes: connections.changes,
         },
         log: connections.log.then(|| rt.stderr()),
         watch: Watch::new(rt.stderr(), connections.count.is_none()),

@@ -24,6 +24,7 @@ use Rattle.streetmap_bodies.specs.declared.request_fault.RequestFault.TheVariant
 use Rattle.streetmap_bodies.specs.declared.request_fault.RequestFault.TheVariants.{Refused, Keeper}
 use Rattle.streetmap_bodies.specs.declared.request_fault.RequestFault.TheVariants.{BadCondition}
 use Rattle.streetmap_bodies.specs.declared.request_fault.RequestFault.TheVariants.{Changed}
+use Rattle.streetmap_bodies.specs.declared.request_fault.RequestFault.TheVariants.{BadSerial}
 
 -- the name in the answer
 unfoldable pub code_of : RequestFault → Text
@@ -32,6 +33,7 @@ code_of BadTarget = codes "bad_target"
 code_of NotFound = codes "not_found"
 code_of (MethodNotAllowed methods) = codes "method_not_allowed"
 code_of (Query fault) = query.code_of fault
+code_of BadSerial = codes "bad_serial"
 code_of (Batch fault) = batch.code_of fault
 code_of (Refused refusal place) = ledger.code_of refusal
 code_of BadCondition = codes "bad_condition"
@@ -45,6 +47,7 @@ description_of BadTarget = codes "The target must begin with a slash."
 description_of NotFound = codes "There is nothing at this path."
 description_of (MethodNotAllowed methods) = codes "The method is not allowed here."
 description_of (Query fault) = query.description_of fault
+description_of BadSerial = codes "The value of after is no serial."
 description_of (Batch fault) = batch.description_of fault
 description_of (Refused refusal place) = ledger.description_of refusal
 description_of BadCondition = codes "A condition cannot be read."
@@ -73,6 +76,7 @@ status_of BadTarget = 400
 status_of NotFound = 404
 status_of (MethodNotAllowed methods) = 405
 status_of (Query fault) = query_status fault
+status_of BadSerial = 400
 status_of (Batch fault) = batch_status fault
 status_of (Refused refusal place) = 409
 status_of BadCondition = 400

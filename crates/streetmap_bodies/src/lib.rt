@@ -12,9 +12,10 @@
 //! `RequestFault` is one enum over the faults of all layers: its code, its sentence and its status.
 //!
 //! Modules, in the order of reading: `error_body`, `request_fault`, `reply_body`; `links`;
-//! `landing_body`, `collection_body`, `feature_body`, `page_body`, `line_body`.
+//! `landing_body`, `collection_body`, `feature_body`, `page_body`, `line_body`; `changes_body`.
 #![tactic(auto)]
 
+mod changes_body;
 mod collection_body;
 mod error_body;
 mod feature_body;
@@ -25,6 +26,7 @@ mod page_body;
 mod reply_body;
 mod request_fault;
 
+pub use changes_body::changes_text;
 pub use collection_body::{collection_text, collections_text};
 pub use error_body::push_error;
 pub use feature_body::feature_text;

@@ -26,6 +26,8 @@ pub enum RequestFault {
     MethodNotAllowed(Methods),
     /// The query cannot be read.
     Query(QueryFault),
+    /// The serial after which changes are requested is not one.
+    BadSerial,
     /// The batch cannot be read.
     Batch(BatchFault),
     /// The batch is refused, with the place of the edit at fault, if any.
@@ -50,6 +52,7 @@ impl RequestFault {
             RequestFault::NotFound => "not_found",
             RequestFault::MethodNotAllowed(_) => "method_not_allowed",
             RequestFault::Query(fault) => fault.code(),
+            RequestFault::BadSerial => "bad_serial",
             RequestFault::Batch(fault) => fault.code(),
             RequestFault::Refused(refusal, _) => refusal.code(),
             RequestFault::BadCondition => "bad_condition",
@@ -69,6 +72,7 @@ impl RequestFault {
             RequestFault::NotFound => "There is nothing at this path.",
             RequestFault::MethodNotAllowed(_) => "The method is not allowed here.",
             RequestFault::Query(fault) => fault.description(),
+            RequestFault::BadSerial => "The value of after is no serial.",
             RequestFault::Batch(fault) => fault.description(),
             RequestFault::Refused(refusal, _) => refusal.description(),
             RequestFault::BadCondition => "A condition cannot be read.",
@@ -90,6 +94,7 @@ impl RequestFault {
             | RequestFault::Batch(BatchFault::Memory)
             | RequestFault::Keeper(Fault::Memory) => StatusCode::SERVICE_UNAVAILABLE,
             RequestFault::Query(_) | RequestFault::Batch(_) => StatusCode::BAD_REQUEST,
+            RequestFault::BadSerial => StatusCode::BAD_REQUEST,
             RequestFault::Refused(_, _) => StatusCode::CONFLICT,
             RequestFault::BadCondition => StatusCode::BAD_REQUEST,
             RequestFault::Changed => StatusCode::PRECONDITION_FAILED,

@@ -52,6 +52,7 @@ connections_value c = record {
   log = c.log;
   warm = c.warm;
   conditional = c.conditional;
+  changes = c.changes;
 }
 
 abbrev pub command_value : Command → CommandValue
@@ -59,8 +60,8 @@ command_value (Help topic) = help_command topic
 command_value Version = version_command
 command_value Lines = lines_command
 command_value (Create file) = create_command file.now
-command_value (Pipe file base conditional) =
-    pipe_command file.now (string_bytes base) conditional
+command_value (Pipe file base conditional changes) =
+    pipe_command file.now (string_bytes base) conditional changes
 command_value (Serve file c base journal) =
     serve_command file.now (connections_value c) (string_bytes base)
     (option_map journal_value journal)

@@ -52,16 +52,16 @@ abbrev pub create : App
 create = over_file (codes "create")
 
 abbrev pub pipe : App
-pipe = with_rule (with_rule (over_file (codes "pipe")) (option (codes "base")))
-    (flag (codes "conditional"))
+pipe = with_rule (with_rule (with_rule (over_file (codes "pipe")) (option (codes "base")))
+    (flag (codes "conditional"))) (flag (codes "changes"))
 
 -- FILE, and the clients that are served
 abbrev pub serve_clients : App
-serve_clients = with_rule (with_rule (with_rule (with_rule (with_rule
+serve_clients = with_rule (with_rule (with_rule (with_rule (with_rule (with_rule
     (with_rule (with_rule (over_file (codes "serve"))
     (required_option (codes "port"))) (option (codes "count"))) (option (codes "clients")))
     (flag (codes "log"))) (option (codes "base"))) (flag (codes "warm")))
-    (flag (codes "conditional"))
+    (flag (codes "conditional"))) (flag (codes "changes"))
 
 -- and a journal of what is accepted
 abbrev pub serve : App
@@ -172,7 +172,8 @@ pub record JournalWords : Type 0 where
   pub sync : Bool
 
 -- the connections that are served: the port, how many in all, how many at once, whether each answer
--- has a line, whether indexes are learnt first, and whether answers have tags
+-- has a line, whether indexes are learnt first, whether answers have tags, and whether changes are
+-- answered
 pub record ConnectionsWords : Type 0 where
   pub port : ℕ
   pub count : Option ℕ
@@ -180,6 +181,7 @@ pub record ConnectionsWords : Type 0 where
   pub log : Bool
   pub warm : Bool
   pub conditional : Bool
+  pub changes : Bool
 
 -- what a command line requests
 pub data CommandValue : Type 0 where
@@ -187,7 +189,7 @@ pub data CommandValue : Type 0 where
   version_command : CommandValue
   lines_command : CommandValue
   create_command : (file : Text) → CommandValue
-  pipe_command : (file base : Text) (conditional : Bool) → CommandValue
+  pipe_command : (file base : Text) (conditional changes : Bool) → CommandValue
   serve_command : (file : Text) (connections : ConnectionsWords) (base : Text)
       (journal : Option JournalWords) → CommandValue
   import_command : (file text key collection : Text) (replace progress : Bool) → CommandValue
@@ -243,7 +245,8 @@ is_set (Some value) = bytes_eq value (codes "true")
 abbrev pub pipe_by : List Row → Option CommandValue
 pipe_by rows = option_map (λ f.
     pipe_command f (unwrap_or (first_of (codes "base") rows) plain_base)
-    (is_set (first_of (codes "conditional") rows))) (first_of (codes "file") rows)
+    (is_set (first_of (codes "conditional") rows)) (is_set (first_of (codes "changes") rows)))
+    (first_of (codes "file") rows)
 
 -- the serial after which something begins, up to 2^32 - 1; 0 if none is given
 abbrev pub after_given : Option Text → Option ℕ
@@ -264,9 +267,9 @@ journal_by rows = journal_given (first_of (codes "journal") rows)
     (first_of (codes "journal-after") rows) (is_set (first_of (codes "journal-sync") rows))
 
 -- the connections, from the port, count, clients and flags that are given
-abbrev pub connections_given : (port count clients log warm conditional : Option Text)
+abbrev pub connections_given : (port count clients log warm conditional changes : Option Text)
     → Option ConnectionsWords
-connections_given port count clients log warm conditional =
+connections_given port count clients log warm conditional changes =
     option_and_then (λ p. option_and_then (λ n. option_map (λ c. record {
       port = p;
       count = n;
@@ -274,13 +277,14 @@ connections_given port count clients log warm conditional =
       log = is_set log;
       warm = is_set warm;
       conditional = is_set conditional;
+      changes = is_set changes;
     }) (clients_given n clients)) (count_given count)) (port_given port)
 
 abbrev pub connections_by : List Row → Option ConnectionsWords
 connections_by rows = connections_given (first_of (codes "port") rows)
     (first_of (codes "count") rows) (first_of (codes "clients") rows)
     (first_of (codes "log") rows) (first_of (codes "warm") rows)
-    (first_of (codes "conditional") rows)
+    (first_of (codes "conditional") rows) (first_of (codes "changes") rows)
 
 -- the command `serve`, from the file, connections, journal and base that are given
 abbrev pub serve_given : (file : Option Text) (connections : Option ConnectionsWords)

@@ -43,6 +43,8 @@ pub struct Connections {
     pub warm: bool,
     /// Whether answers have tags, and requests conditions.
     pub conditional: bool,
+    /// Whether `/changes` is answered.
+    pub changes: bool,
 }
 
 /// The import of a text of features.
@@ -74,11 +76,13 @@ pub enum Command<'a> {
         file: &'a str,
     },
     /// `streetmap pipe FILE`: serve one stream of requests on standard input and output, with links
-    /// under the base; with `conditional` answers have tags, and requests conditions.
+    /// under the base; with `conditional` answers have tags, and requests conditions; with
+    /// `changes` `/changes` is answered.
     Pipe {
         file: &'a str,
         base: String,
         conditional: bool,
+        changes: bool,
     },
     /// `streetmap serve FILE`: serve connections, with links under the base, and write a journal of
     /// what is accepted.
@@ -233,6 +237,7 @@ pub(crate) fn read_connections(found: &ArgMatches<'_>) -> Option<Connections>
         log: has_flag(found, "log"),
         warm: has_flag(found, "warm"),
         conditional: has_flag(found, "conditional"),
+        changes: has_flag(found, "changes"),
     })
 }
 
@@ -278,10 +283,12 @@ fn read_pipe<'a>(alloc: Global, found: &ArgMatches<'a>) -> Result<Command<'a>, C
     let file = value_of(found, "file").ok_or(CommandFault::Usage)?;
     let base = read_base(alloc, value_of(found, "base"), "http://localhost/")?;
     let conditional = has_flag(found, "conditional");
+    let changes = has_flag(found, "changes");
     Ok(Command::Pipe {
         file,
         base,
         conditional,
+        changes,
     })
 }
 

@@ -152,7 +152,8 @@ pub(crate) fn make_pipe<'a>(alloc: Global) -> Result<Command<'a>, AllocError>
 {
     let command = file_command(alloc, "pipe", texts::PIPE, texts::FILE);
     let command = with_argument(command, option_arg(alloc, "base", texts::BASE));
-    with_argument(command, flag_arg(alloc, "conditional", texts::CONDITIONAL))
+    let command = with_argument(command, flag_arg(alloc, "conditional", texts::CONDITIONAL));
+    with_argument(command, flag_arg(alloc, "changes", texts::CHANGES))
 }
 
 fn make_serve_clients<'a>(alloc: Global) -> Result<Command<'a>, AllocError>
@@ -166,7 +167,8 @@ fn make_serve_clients<'a>(alloc: Global) -> Result<Command<'a>, AllocError>
     let command = with_argument(command, flag_arg(alloc, "log", texts::LOG));
     let command = with_argument(command, option_arg(alloc, "base", texts::BASE));
     let command = with_argument(command, flag_arg(alloc, "warm", texts::WARM));
-    with_argument(command, flag_arg(alloc, "conditional", texts::CONDITIONAL))
+    let command = with_argument(command, flag_arg(alloc, "conditional", texts::CONDITIONAL));
+    with_argument(command, flag_arg(alloc, "changes", texts::CHANGES))
 }
 
 pub(crate) fn make_serve<'a>(alloc: Global) -> Result<Command<'a>, AllocError>

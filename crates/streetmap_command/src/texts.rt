@@ -32,6 +32,8 @@ pub(crate) const WARM: &str = "Learns the index of each collection before it lis
 
 pub(crate) const CONDITIONAL: &str = "Gives answers tags, and takes conditions on them";
 
+pub(crate) const CHANGES: &str = "Answers /changes with the accepted batches";
+
 pub(crate) const JOURNAL: &str = "Writes each accepted batch to this file before its answer";
 
 pub(crate) const JOURNAL_AFTER: &str = "Begins an empty journal after this serial";

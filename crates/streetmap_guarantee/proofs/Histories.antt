@@ -15,7 +15,7 @@ use Rattle.streetmap_ledger.specs.declared.reply.Cause.TheVariants as causes
 use Rattle.streetmap_ledger.specs.declared.reply.Fault.{Fault}
 use Rattle.streetmap_ledger.specs.declared.reply.Fault.TheVariants.{Memory, Device, Damaged, Reopen}
 use Rattle.streetmap_ledger.proofs.Acceptance.{refused_changes_nothing}
-use Rattle.streetmap_routes.specs.Operations.{OperationValue, faulty, landing_page, api_text, conformance_classes, all_collections, one_collection, page, feature, batch}
+use Rattle.streetmap_routes.specs.Operations.{OperationValue, faulty, landing_page, api_text, conformance_classes, all_collections, one_collection, page, feature, changes, batch}
 use Rattle.streetmap_bodies.specs.declared.request_fault.RequestFault.TheVariants.{Keeper}
 use Rattle.streetmap_connections.specs.History.{Exchange}
 use Rattle.streetmap_web.specs.Site.{SiteValue}
@@ -98,14 +98,14 @@ module _ (site : SiteValue) (y : Server) (e : Exchange) (w : web.HttpExchange) (
   abbrev pub it : Event
   it = event_of site y e w
 
-  requested : web.HasRequest site.tags w → HasRequest site.tags it
+  requested : web.HasRequest site w → HasRequest site it
   requested (web.whole h body request says) = seq.whole h body (subst (λ (t : Text). IsRequest t h body) is.request request) says
   requested (web.broken bare fault breaks says) = seq.broken bare fault (subst (λ (t : Text). Breaks t bare fault) is.request breaks) says
   requested (web.no_room h head frames says outcome) =
       seq.no_room h (subst IsHead is.request head) (subst (λ (t : Text). Frames t (sized h)) is.request frames) says
       (ap (answer_by site (condition_of y) w.request.wanted) outcome ∙ no_memory_response site (condition_of y) w.request.wanted)
 
-  pub is_http : IsHttp site.tags it
+  pub is_http : IsHttp site it
   is_http = record {
     has_request = requested is.is.has_request;
     closes = is.closes;
@@ -136,6 +136,7 @@ not_acknowledged all_collections r bs e = refl
 not_acknowledged (one_collection name) r bs e = refl
 not_acknowledged (page name q) r bs e = refl
 not_acknowledged (feature name id) r bs e = refl
+not_acknowledged (changes after limit) r bs e = refl
 not_acknowledged (batch b) r bs e = ap (λ (t : Bool). if t then b ∷ bs else bs) e
 
 fault_is_none : (fault : Fault) → ((fault_response (Keeper fault)).status == 200) ≡ false
@@ -161,6 +162,7 @@ shut_is_none root all_collections bs = refl
 shut_is_none root (one_collection name) bs = refl
 shut_is_none root (page name q) bs = refl
 shut_is_none root (feature name id) bs = refl
+shut_is_none root (changes after limit) bs = refl
 shut_is_none root (batch b) bs = not_acknowledged (batch b) (fault_response (Keeper Reopen)) bs (fault_is_none Reopen)
 
 -- a batch by its reply
@@ -179,6 +181,7 @@ answer_acts root s all_collections bs = refl
 answer_acts root s (one_collection name) bs = refl
 answer_acts root s (page name q) bs = refl
 answer_acts root s (feature name id) bs = refl
+answer_acts root s (changes after limit) bs = refl
 answer_acts root s (batch b) bs = reply_acts s b (act s b).reply bs refl
 
 -- a tag acknowledges nothing more
@@ -207,6 +210,7 @@ judged_acts root s all_collections verdict bs = ap (λ (t : State). after_all t 
 judged_acts root s (one_collection name) verdict bs = ap (λ (t : State). after_all t bs) (read_by s (one_collection name) verdict refl)
 judged_acts root s (page name q) verdict bs = ap (λ (t : State). after_all t bs) (read_by s (page name q) verdict refl)
 judged_acts root s (feature name id) verdict bs = ap (λ (t : State). after_all t bs) (read_by s (feature name id) verdict refl)
+judged_acts root s (changes after limit) verdict bs = ap (λ (t : State). after_all t bs) (read_by s (changes after limit) verdict refl)
 judged_acts root s (batch b) Holds bs =
     reply_acts s b (act s b).reply bs refl ∙ ap (after_all s) (sym (tagged_acknowledges b (batch_count (act s b).state) (replied b.key (act s b).reply) bs))
 judged_acts root s (batch b) NotModified bs = held_acts s b (batch_count s) bs (is_used s b.key) refl

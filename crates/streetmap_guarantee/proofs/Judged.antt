@@ -28,7 +28,7 @@ use Rattle.streetmap_ledger.specs.declared.reply.Reply.{Reply}
 use Rattle.streetmap_ledger.specs.declared.reply.Reply.TheVariants.{Accepted, Repeated, Refused}
 use Rattle.streetmap_ledger.specs.declared.reply.Fault.{Fault}
 use Rattle.streetmap_ledger.specs.declared.reply.Fault.TheVariants as keeper_faults
-use Rattle.streetmap_routes.specs.Operations.{OperationValue, faulty, landing_page, api_text, conformance_classes, all_collections, one_collection, page, feature, batch}
+use Rattle.streetmap_routes.specs.Operations.{OperationValue, faulty, landing_page, api_text, conformance_classes, all_collections, one_collection, page, feature, changes, batch}
 use Rattle.streetmap_bodies.specs.RequestFaults.{status_of, query_status, batch_status, keeper_status}
 use Rattle.streetmap_bodies.specs.declared.request_fault.RequestFault.{RequestFault}
 use Rattle.streetmap_bodies.specs.declared.request_fault.RequestFault.TheVariants as request_faults
@@ -76,6 +76,7 @@ status_304 request_faults.BadTarget e = omega (arith, e)
 status_304 request_faults.NotFound e = omega (arith, e)
 status_304 (request_faults.MethodNotAllowed methods) e = omega (arith, e)
 status_304 (request_faults.Query fault) e = query_304 fault e
+status_304 request_faults.BadSerial e = omega (arith, e)
 status_304 (request_faults.Batch fault) e = batch_304 fault e
 status_304 (request_faults.Refused refusal place) e = omega (arith, e)
 status_304 request_faults.BadCondition e = omega (arith, e)
@@ -112,6 +113,7 @@ response_304 root s all_collections e = omega (arith, e)
 response_304 root s (one_collection name) e = collection_304 root (summary_in s name) e
 response_304 root s (page name q) e = page_304 root name q (page_in s name q) e
 response_304 root s (feature name id) e = feature_304 root name (feature_in s name id) e
+response_304 root s (changes after limit) e = omega (arith, e)
 response_304 root s (batch b) e = reply_304 b.key (act s b).reply e
 
 -- ---- a batch under `If-Match` with one tag
@@ -199,6 +201,7 @@ module _ (root : Text) (s : State) where
   judged_304 (one_collection name) verdict e = read_304 (one_collection name) verdict e
   judged_304 (page name q) verdict e = read_304 (page name q) verdict e
   judged_304 (feature name id) verdict e = read_304 (feature name id) verdict e
+  judged_304 (changes after limit) verdict e = read_304 (changes after limit) verdict e
   judged_304 (batch b) verdict e = absurd (batch_no_304 b verdict e)
 
   needed_304 : (operation : OperationValue) (verdict : Verdict) (needed : Bool)

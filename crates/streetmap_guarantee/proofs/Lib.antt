@@ -9,3 +9,4 @@ pub mod Restarts
 pub mod Judged
 pub mod Tagging
 pub mod TagsOfRuns
+pub mod ChangesAnswered

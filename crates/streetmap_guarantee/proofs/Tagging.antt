@@ -19,7 +19,7 @@ use Rattle.streetmap_ledger.specs.declared.reply.Refusal.{Refusal}
 use Rattle.streetmap_ledger.specs.declared.reply.Fault.{Fault}
 use Rattle.streetmap_ledger.specs.declared.reply.Fault.TheVariants.{Memory, Device, Reopen}
 use Rattle.streetmap_ledger.proofs.Repeat.{either, edited_keys}
-use Rattle.streetmap_routes.specs.Operations.{OperationValue, faulty, landing_page, api_text, conformance_classes, all_collections, one_collection, page, feature, batch}
+use Rattle.streetmap_routes.specs.Operations.{OperationValue, faulty, landing_page, api_text, conformance_classes, all_collections, one_collection, page, feature, changes, batch}
 use Rattle.streetmap_bodies.specs.declared.request_fault.RequestFault.{RequestFault}
 use Rattle.streetmap_bodies.specs.declared.request_fault.RequestFault.TheVariants.{Keeper}
 use Rattle.streetmap_tags.specs.Keys.{is_used}
@@ -80,6 +80,7 @@ acknowledged_first all_collections r bs cs = refl
 acknowledged_first (one_collection name) r bs cs = refl
 acknowledged_first (page name q) r bs cs = refl
 acknowledged_first (feature name id) r bs cs = refl
+acknowledged_first (changes after limit) r bs cs = refl
 acknowledged_first (batch b) r bs cs = by_test (r.status == 200) where
   by_test : (t : Bool) → (if t then b ∷ (bs ++ cs) else bs ++ cs) ≡ (if t then b ∷ bs else bs) ++ cs
   by_test true = refl
@@ -151,6 +152,7 @@ untagged root s all_collections = refl
 untagged root s (one_collection name) = untagged_collection root (summary_in s name)
 untagged root s (page name q) = untagged_page root name q (page_in s name q)
 untagged root s (feature name id) = untagged_feature root name (feature_in s name id)
+untagged root s (changes after limit) = refl
 untagged root s (batch b) = refl
 
 untagged_shut : (root : Text) (operation : OperationValue) → (response_shut root operation).tag ≡ None
@@ -162,6 +164,7 @@ untagged_shut root all_collections = untagged_fault (Keeper Reopen)
 untagged_shut root (one_collection name) = untagged_fault (Keeper Reopen)
 untagged_shut root (page name q) = untagged_fault (Keeper Reopen)
 untagged_shut root (feature name id) = untagged_fault (Keeper Reopen)
+untagged_shut root (changes after limit) = untagged_fault (Keeper Reopen)
 untagged_shut root (batch b) = untagged_fault (Keeper Reopen)
 
 no_tag : {A : Type 0} (o : Option ℕ) (n : ℕ) → o ≡ None → o ≡ Some n → A
@@ -212,6 +215,7 @@ module _ (root : Text) (s : State) where
   judged_has (one_collection name) verdict = reads_have (one_collection name) verdict refl (read_has (batch_count s) (response_in root s (one_collection name)) verdict (untagged root s (one_collection name)))
   judged_has (page name q) verdict = reads_have (page name q) verdict refl (read_has (batch_count s) (response_in root s (page name q)) verdict (untagged root s (page name q)))
   judged_has (feature name id) verdict = reads_have (feature name id) verdict refl (read_has (batch_count s) (response_in root s (feature name id)) verdict (untagged root s (feature name id)))
+  judged_has (changes after limit) verdict = reads_have (changes after limit) verdict refl (read_has (batch_count s) (response_in root s (changes after limit)) verdict (untagged root s (changes after limit)))
   judged_has (batch b) Holds = tagged_has (batch_count (act s b).state) (replied b.key (act s b).reply) refl
   judged_has (batch b) NotModified = held_has (batch_count s) (replied b.key (act s b).reply) (is_used s b.key) refl
   judged_has (batch b) Changed = held_has (batch_count s) (replied b.key (act s b).reply) (is_used s b.key) refl
@@ -387,6 +391,7 @@ shut_304 root all_collections e = fault_304 (Keeper Reopen) e
 shut_304 root (one_collection name) e = fault_304 (Keeper Reopen) e
 shut_304 root (page name q) e = fault_304 (Keeper Reopen) e
 shut_304 root (feature name id) e = fault_304 (Keeper Reopen) e
+shut_304 root (changes after limit) e = fault_304 (Keeper Reopen) e
 shut_304 root (batch b) e = fault_304 (Keeper Reopen) e
 
 -- it is that of the state before the request
@@ -411,6 +416,7 @@ batch_or_read all_collections none = refl
 batch_or_read (one_collection name) none = refl
 batch_or_read (page name q) none = refl
 batch_or_read (feature name id) none = refl
+batch_or_read (changes after limit) none = refl
 batch_or_read (batch b) none = absurd (none b refl)
 
 batch_under_304 : (root : Text) (s : State) (b : BatchValue) (conditions : Option PreconditionsValue) → (response_under root s (batch b) conditions).status ≡ 304 → ⊥

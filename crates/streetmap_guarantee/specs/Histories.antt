@@ -43,18 +43,18 @@ pub record Event : Type 0 where
 
 -- the bytes received say this: a head with its body, or bytes that break a rule of HTTP; or only a
 -- head, if memory ran out for its body
-pub data HasRequest (tags : Bool) (e : Event) : Type 0 where
+pub data HasRequest (site : SiteValue) (e : Event) : Type 0 where
   whole : (h : HeadValue) (body : Text) → IsRequest e.exchange.request h body
-      → e.request ≡ request_of tags h body → HasRequest tags e
+      → e.request ≡ request_of site h body → HasRequest site e
   broken : (bare : Bool) (fault : FramingFault) → Breaks e.exchange.request bare fault
-      → e.request ≡ broken_request bare fault → HasRequest tags e
+      → e.request ≡ broken_request bare fault → HasRequest site e
   no_room : (h : HeadValue) → IsHead e.exchange.request → Frames e.exchange.request (sized h)
-      → e.request ≡ request_of tags h [] → e.response ≡ fault_response (Keeper Memory)
-      → HasRequest tags e
+      → e.request ≡ request_of site h [] → e.response ≡ fault_response (Keeper Memory)
+      → HasRequest site e
 
 -- both texts say so, and the connection closes if the request says so or something failed
-pub record IsHttp (tags : Bool) (e : Event) : Type 0 where
-  pub has_request : HasRequest tags e
+pub record IsHttp (site : SiteValue) (e : Event) : Type 0 where
+  pub has_request : HasRequest site e
   pub closes : e.exchange.closes ≡ closes_with e.request.closes e.response
   pub answers : e.exchange.text ≡ response_text e.exchange.closes e.request.bare e.response
 
@@ -62,7 +62,7 @@ pub record IsHttp (tags : Bool) (e : Event) : Type 0 where
 abbrev pub IsSequential : SiteValue → Server → List Event → Server → Type 0
 IsSequential site old [] new = new ≡ old
 IsSequential site old (e ∷ es) new =
-    IsHttp site.tags e × (next : Server) × Step site e.request.wanted e.response old next
+    IsHttp site e × (next : Server) × Step site e.request.wanted e.response old next
     × IsSequential site next es new
 
 -- a batch before others, if it was acknowledged

@@ -7,3 +7,4 @@ pub mod Town
 pub mod Restarts
 pub mod Tagging
 pub mod TagsOfRuns
+pub mod Changes

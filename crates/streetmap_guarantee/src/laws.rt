@@ -1,4 +1,5 @@
-//! Laws of tags and conditions.
+//! Laws of tags and conditions, and of changes.
+ghost use Rattle.streetmap_guarantee.specs.Changes.{ChangesAreAnswered};
 ghost use Rattle.streetmap_guarantee.specs.Tagging.{OneTagOneState, NotModifiedIsTheSame};
 ghost use Rattle.streetmap_guarantee.specs.Tagging.{NoLostChange};
 
@@ -16,4 +17,10 @@ pub fn not_modified_is_the_same()
 /// a repeat.
 pub fn no_lost_change()
     ensures { NoLostChange }
+{}
+
+/// A request for changes is answered with the lines of the batches after its serial, in order, of
+/// which none is left out.
+pub fn changes_are_answered()
+    ensures { ChangesAreAnswered }
 {}

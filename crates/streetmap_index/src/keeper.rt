@@ -219,6 +219,16 @@ impl<K: Outlined + Tagged> Tagged for IndexedKeeper<K> {
             }
         }
     }
+
+    fn accepted(&mut self, serial: u64) -> Result<Option<KeptBatch>, Fault> {
+        match self.keeper.accepted(serial) {
+            Ok(batch) => Ok(batch),
+            Err(fault) => {
+                self.note_fault(fault);
+                Err(fault)
+            }
+        }
+    }
 }
 
 impl<K: Outlined + KeepsBatches> KeepsBatches for IndexedKeeper<K> {

@@ -11,7 +11,9 @@ use crate::completion::{complete, refuse};
 use crate::journal::{Journal, JournalWriter, line_of};
 use std::alloc::Global;
 use streetmap_geojson::Feature;
-use streetmap_ledger::{Batch, Durable, Fault, Keeper, KeepsBatches, Page, Reply, Summary};
+use streetmap_ledger::{
+    Batch, Durable, Fault, Keeper, KeepsBatches, KeptBatch, Page, Reply, Summary,
+};
 use streetmap_query::Query;
 use streetmap_tags::Tagged;
 
@@ -104,6 +106,10 @@ impl<K: KeepsBatches + Tagged, W: JournalWriter> Tagged for JournaledKeeper<K, W
 
     fn has_key(&mut self, key: &str) -> Result<bool, Fault> {
         self.keeper.has_key(key)
+    }
+
+    fn accepted(&mut self, serial: u64) -> Result<Option<KeptBatch>, Fault> {
+        self.keeper.accepted(serial)
     }
 }
 

@@ -331,6 +331,13 @@ impl Tagged for PlainKeeper {
     fn has_key(&mut self, key: &str) -> Result<bool, Fault> {
         Ok(self.has_key_of(key))
     }
+
+    fn accepted(&mut self, serial: u64) -> Result<Option<streetmap_ledger::KeptBatch>, Fault> {
+        match self.batch_of(serial) {
+            Ok(batch) => Ok(batch),
+            Err(_) => Err(Fault::Memory),
+        }
+    }
 }
 
 impl KeepsBatches for PlainKeeper {

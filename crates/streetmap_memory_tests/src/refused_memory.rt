@@ -83,7 +83,11 @@ fn refused_memory_is_answered_or_not_seen(rt: HostRuntime) -> Result<(), Fail> {
     let Ok(Some(base)) = Base::new(rt.alloc(), "http://localhost/") else {
         return Ok(());
     };
-    let site = Site { base, tags: false };
+    let site = Site {
+        base,
+        tags: false,
+        changes: false,
+    };
     let mut keeper = PlainKeeper::new(rt.alloc());
     let mut reader = STREAM;
     let mut writer = Fixed {

@@ -47,7 +47,11 @@ fn a_failed_flush_ends_a_stream(rt: HostRuntime) -> Result<(), Fail> {
     let Ok(Some(base)) = Base::new(rt.alloc(), "http://localhost/") else {
         return Ok(());
     };
-    let site = Site { base, tags: false };
+    let site = Site {
+        base,
+        tags: false,
+        changes: false,
+    };
     let sink = Sink {
         taken: [0; 8],
         len: 0,

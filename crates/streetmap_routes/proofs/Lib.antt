@@ -1,3 +1,4 @@
 pub mod Decoding
 pub mod Finding
 pub mod Roots
+pub mod NumberTexts

@@ -1,4 +1,6 @@
 pub mod Routes
+pub mod ChangesQuery
+pub mod ChangesView
 pub mod Operations
 pub mod OperationView
 pub mod BaseUrl

@@ -1,5 +1,5 @@
 -- What a request wants, before the state is read. OGC 17-069, section 7.
-use Rattle.std.specs.Prelude.{ℕ, [], ◌∷◌, Bool, false, unwrap_or, ◌||◌, Option, None, Some}
+use Rattle.std.specs.Prelude.{ℕ, [], ◌∷◌, Bool, false, unwrap_or, ◌||◌, ◌&&◌, Option, None, Some}
 use Rattle.std.specs.Prelude.{option_map, option_and_then, Result, Ok, Err, codes, if◌then◌else◌}
 use Rattle.std.specs.Prelude.{◌==◌, bytes_eq, slice_get, nat_lt, length}
 use Rattle.std.specs.List.{before_first, after_first, position_or_len, slice_split}
@@ -16,6 +16,8 @@ use Rattle.streetmap_batch.specs.BatchValue.{BatchValue}
 use Rattle.streetmap_batch.specs.ParsedBatches.{batch_of}
 use Rattle.streetmap_batch.specs.Text.{Text}
 use Rattle.streetmap_batch.specs.declared.batch_fault.BatchFault.{BatchFault}
+use Rattle.streetmap_routes.specs.ChangesQuery.{ChangesValue, changes_of, default_serial}
+use Rattle.streetmap_routes.specs.ChangesQuery.{default_limit}
 use Rattle.streetmap_routes.specs.Routes.{the_rows}
 use Rattle.streetmap_routes.specs.declared.routes.Route.{Route}
 use Rattle.streetmap_routes.specs.declared.routes.Route.TheVariants as routes
@@ -78,6 +80,7 @@ pub data OperationValue : Type 0 where
   one_collection : (name : Text) → OperationValue
   page : (name : Text) → QueryValue → OperationValue
   feature : (name id : Text) → OperationValue
+  changes : (after limit : ℕ) → OperationValue
   batch : BatchValue → OperationValue
 
 -- what a body wants: a batch, or the first fault in it
@@ -147,3 +150,27 @@ unfoldable pub operation_of : Text → Text → Text → OperationValue
 operation_of method target body =
     if begins_with_slash target then placed (resource_at (path_part target)) method
     (query_part target) body else faulty BadTarget
+
+-- ---- changes
+
+-- what a query for changes wants: changes, or the first fault in it
+abbrev pub changes_operation : Result ChangesValue RequestFault → OperationValue
+changes_operation (Ok q) = changes (unwrap_or q.after default_serial)
+    (unwrap_or q.limit default_limit)
+changes_operation (Err fault) = faulty fault
+
+-- what a request for changes wants: by the method, and then by the query
+abbrev pub changes_wanted : (method : Text) → (query : Option Text) → OperationValue
+changes_wanted method query =
+    if allows Reads method then changes_operation (changes_of query)
+    else faulty (MethodNotAllowed Reads)
+
+-- the path of changes
+abbrev pub changes_path : Text
+changes_path = codes "/changes"
+
+-- what is wanted of a service that offers changes or not
+unfoldable pub operation_with : (offered : Bool) → (method target body : Text) → OperationValue
+operation_with offered method target body =
+    if offered && bytes_eq (path_part target) changes_path
+    then changes_wanted method (query_part target) else operation_of method target body

@@ -4,7 +4,8 @@ ghost use Rattle.url.specs.Parts.{serialize};
 ghost use Rattle.streetmap_routes.specs.BaseUrl.{IsBase, is_web as is_web_of};
 ghost use Rattle.streetmap_routes.specs.Routes.{the_rows};
 
-use crate::operations::{Operation, operation_for};
+use crate::changes::operation_with;
+use crate::operations::Operation;
 use crate::routes::{Route, make_router};
 use matchit::Router;
 use std::alloc::{AllocError, Global};
@@ -67,7 +68,7 @@ pub struct Base {
 impl Base {
     ghost use Rattle.std.specs.Prelude.{IfOk, IfSome, Ok};
     ghost use Rattle.url.specs.Parts.{Parts};
-    ghost use Rattle.streetmap_routes.specs.Operations.{operation_of};
+    ghost use Rattle.streetmap_routes.specs.Operations.{operation_with};
     ghost use Rattle.streetmap_routes.specs.OperationView.{operation_value};
     ghost use Rattle.streetmap_routes.specs.BaseUrl.{ReadsBase};
     ghost use Rattle.streetmap_routes.specs.BaseView.{url_of, root_of};
@@ -112,7 +113,8 @@ impl Base {
         without_slash(&self.url)
     }
 
-    /// What a request wants, by its method, its target and its body (OGC 17-069, section 7).
+    /// What a request wants, by its method, its target and its body (OGC 17-069, section 7), of a
+    /// service that offers changes or not.
     ///
     /// # Errors
     ///
@@ -120,13 +122,14 @@ impl Base {
     pub fn operation(
         &self,
         alloc: Global,
+        changes: bool,
         method: &[u8],
         target: &str,
         body: &[u8],
     ) -> Result<Operation, AllocError>
         ensures { IfOk result (λ operation. operation_value operation
-            ≡ operation_of method.now target.now body.now) }
+            ≡ operation_with changes method.now target.now body.now) }
     {
-        operation_for(alloc, &self.router, method, target, body)
+        operation_with(alloc, &self.router, changes, method, target, body)
     }
 }

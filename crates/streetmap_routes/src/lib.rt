@@ -2,16 +2,18 @@
 //!
 //! A target is split at its first question mark; the path is looked up undecoded in the router of
 //! the eight paths of OGC API - Features, and its captured segments are then percent-decoded. The
-//! whole order (the target, the path, the method, the query, the body) is `specs/Ask`,
-//! `operation_of`.
+//! whole order (the target, the path, the method, the query, the body) is `specs/Operations`,
+//! `operation_of`. A service may offer changes too: then the path `/changes` is looked at before
+//! (`operation_with`).
 //!
 //! `Base` is the base of links, a web URL without anything after its host and port; it holds the
 //! router, and `Base::operation` returns what a request wants.
 //!
-//! Modules, in the order of reading: `routes`, `operations`, `base`, `laws`.
+//! Modules, in the order of reading: `routes`, `operations`, `changes`, `base`, `laws`.
 #![tactic(auto)]
 
 mod base;
+mod changes;
 mod laws;
 mod operations;
 mod routes;

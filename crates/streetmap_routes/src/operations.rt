@@ -34,6 +34,8 @@ pub enum Operation {
     Page(String, Query),
     /// The feature of this collection with this id.
     Feature(String, String),
+    /// The batches that were accepted after this serial, at most this number of them.
+    Changes(u64, u32),
     /// A batch that is to be applied.
     Batch(Batch),
 }
@@ -49,7 +51,7 @@ fn methods_of(resource: &Resource) -> Methods
 }
 
 /// Whether a method is one of these.
-fn allows(methods: Methods, method: &[u8]) -> bool
+pub(crate) fn allows(methods: Methods, method: &[u8]) -> bool
     ensures { result ≡ spec.allows methods method.now }
 {
     match methods {
@@ -60,7 +62,7 @@ fn allows(methods: Methods, method: &[u8]) -> bool
 
 /// The path of a target, and the query after it, if any.
 #[tactic(auto, unfolding(crate::specs::Operations::path_part, crate::specs::Operations::query_part))]
-fn split_target(target: &str) -> (&str, Option<&str>)
+pub(crate) fn split_target(target: &str) -> (&str, Option<&str>)
     ensures path { result.0.now ≡ spec.path_part target.now }
     ensures query { option_copied result.1 ≡ spec.query_part target.now }
 {

@@ -444,6 +444,14 @@ impl<S: Alter> Tagged for TableKeeper<S> {
         let used = is_key_used(&mut self.conn, key);
         answer(&mut self.conn, &mut self.shut, used)
     }
+
+    fn accepted(&mut self, serial: u64) -> Result<Option<KeptBatch>, Fault> {
+        if !self.is_open() {
+            return Err(Fault::Reopen);
+        }
+        let batch = batch_of(self.alloc, &mut self.conn, serial);
+        answer(&mut self.conn, &mut self.shut, batch)
+    }
 }
 
 impl<S: Alter> KeepsBatches for TableKeeper<S> {

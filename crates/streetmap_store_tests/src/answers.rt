@@ -6,7 +6,8 @@ use streetmap_routes::Base;
 use streetmap_tags::Tagged;
 use streetmap_web::{Site, serve};
 
-/// A keeper's answers to requests, of a service with tags or without; none if memory runs out.
+/// A keeper's answers to requests, of a service with tags and changes or without both; none if memory
+/// runs out.
 pub(crate) fn answers<K: Tagged>(
     alloc: Global,
     keeper: &mut K,
@@ -14,7 +15,11 @@ pub(crate) fn answers<K: Tagged>(
     requests: &str,
 ) -> Option<Vec<u8>> {
     let base = Base::new(alloc, "http://localhost/").ok()??;
-    let site = Site { base, tags };
+    let site = Site {
+        base,
+        tags,
+        changes: tags,
+    };
     let mut reader = requests.as_bytes();
     let mut writer = BufWriter::new(alloc, Vec::new(alloc)).ok()?;
     let _served = serve(alloc, keeper, &site, &mut reader, &mut writer);

@@ -3,7 +3,7 @@
 use crate::answers::answers;
 use crate::files::{Visit, output_of_new};
 use crate::keepers::{Outcome, OverNew, Task};
-use crate::rows::{CONDITIONAL_COUNT, CONDITIONAL_ROWS, COUNT, ROWS};
+use crate::rows::{COUNT, OPTIONS_COUNT, OPTIONS_ROWS, ROWS};
 use serde_json::Value;
 use sqlite::{Alter, Connection};
 use std::alloc::{AllocError, Global};
@@ -13,13 +13,13 @@ use streetmap_memory::PlainKeeper;
 use streetmap_store::TableKeeper;
 use streetmap_tags::Tagged;
 
-/// The rows of a service with tags or without, a line each.
+/// The rows of a service with tags and changes or without both, a line each.
 fn rows(tags: bool) -> &'static str {
-    if tags { CONDITIONAL_ROWS } else { ROWS }
+    if tags { OPTIONS_ROWS } else { ROWS }
 }
 
 /// What is sent to a new keeper: first what makes the state, and then the requests with their
-/// answers, of a service with tags or without.
+/// answers, of a service with tags and changes or without both.
 #[derive(Clone, Copy)]
 struct Row<'a> {
     tags: bool,
@@ -132,13 +132,13 @@ fn each_keeper_answers_the_rows(rt: HostRuntime) -> Result<(), Fail> {
 }
 
 #[test]
-fn each_keeper_answers_the_rows_with_tags(rt: HostRuntime) -> Result<(), Fail> {
+fn each_keeper_answers_the_rows_with_tags_and_changes(rt: HostRuntime) -> Result<(), Fail> {
     let mut count = 0u64;
     for line in rows(true).lines() {
         let differing = differing_at(rt.alloc(), true, line)?;
         assert_eq!(rt; differing, None, "{line}");
         count = count.saturating_add(1);
     }
-    assert_eq!(rt; count, CONDITIONAL_COUNT);
+    assert_eq!(rt; count, OPTIONS_COUNT);
     Ok(())
 }

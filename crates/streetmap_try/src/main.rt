@@ -85,7 +85,11 @@ fn run(rt: &HostRuntime) -> Result<(), TryFault> {
     let mut service = KeeperService {
         alloc: rt.alloc(),
         keeper: PlainKeeper::new(rt.alloc()),
-        site: Site { base, tags: false },
+        site: Site {
+            base,
+            tags: false,
+            changes: false,
+        },
         log: false.then(|| rt.stderr()),
         watch: Watch::new(rt.stderr(), true),
     };

@@ -1,13 +1,12 @@
 -- Exchanges, one after the other.
 use Rattle.std.proofs.Common.{◌≡◌, ◌++◌, List, [], ◌∷◌, Bool, true, false, refl, sym, subst, ap, ◌∙◌, append_assoc, append-nil}
 use Rattle.std.specs.Prelude.{Option, None, Some, if◌then◌else◌}
-use Rattle.streetmap_batch.specs.Text.{Text}
 use Rattle.streetmap_batch.specs.BatchValue.{BatchValue}
 use Rattle.streetmap_ledger.specs.State.{State}
 use Rattle.streetmap_ledger.specs.Batches.{after_all}
 use Rattle.streetmap_ledger.specs.declared.reply.Cause.{Cause}
 use Rattle.streetmap_ledger.specs.declared.reply.Fault.TheVariants.{Memory, Device}
-use Rattle.streetmap_routes.specs.Operations.{OperationValue, faulty, landing_page, api_text, conformance_classes, all_collections, one_collection, page, feature, batch}
+use Rattle.streetmap_routes.specs.Operations.{OperationValue, faulty, landing_page, api_text, conformance_classes, all_collections, one_collection, page, feature, changes, batch}
 use Rattle.streetmap_web.specs.Site.{SiteValue}
 use Rattle.streetmap_http.specs.Preconditions.{PreconditionsValue}
 use Rattle.streetmap_ledger.specs.Kept.{batch_count}
@@ -19,7 +18,7 @@ use Rattle.streetmap_web.specs.Conditions.{of_keeper, CanBe, answer_by, after}
 use Rattle.streetmap_web.specs.Exchanges.{HttpExchange, IsExchange, GoOn, closes, condition_after, condition_after_all, all_requests, all_answers, answer_bytes, batches_of, with_batch, with_answered, lets_act, may_act, after_batches}
 use Rattle.streetmap_web.proofs.Standings.{fault_closes}
 
-pub GoOn-more : (site : SiteValue) (x : Condition) (es : List HttpExchange) (e : HttpExchange) → GoOn site x es → IsExchange site.tags (condition_after_all x es) e
+pub GoOn-more : (site : SiteValue) (x : Condition) (es : List HttpExchange) (e : HttpExchange) → GoOn site x es → IsExchange site (condition_after_all x es) e
     → closes site (condition_after_all x es) e ≡ false → GoOn site x (es ++ e ∷ [])
 GoOn-more site x [] e h is opens = (is, opens, tt)
 GoOn-more site x (f ∷ es) e (first, stays, more) is opens = (first, stays, GoOn-more site (condition_after x f) es e more is opens)
@@ -60,6 +59,7 @@ batch_acts s all_collections bs = refl
 batch_acts s (one_collection name) bs = refl
 batch_acts s (page name q) bs = refl
 batch_acts s (feature name id) bs = refl
+batch_acts s (changes after limit) bs = refl
 batch_acts s (batch b) bs = refl
 
 -- the batch acts if its verdict lets it

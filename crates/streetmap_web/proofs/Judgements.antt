@@ -1,5 +1,5 @@
 -- Answers by a verdict on the state's tag, which was read before.
-use Rattle.std.proofs.Common.{◌≡◌, ◌≢◌, ◌⊎◌, ℕ, Bool, true, false, refl, sym, ap, subst, ◌∙◌, Option, Some, None, IsSome, Result, Ok, Err, inl, inr, IfOk, OnErr}
+use Rattle.std.proofs.Common.{◌≡◌, ◌≢◌, ◌⊎◌, ℕ, Bool, true, false, refl, sym, ap, subst, ◌∙◌, Option, Some, Result, Ok, Err, inl, inr, IfOk, OnErr}
 use Rattle.std.specs.Prelude.{if◌then◌else◌}
 use Rattle.std.specs.declared.alloc.AllocError.{AllocError}
 use Rattle.streetmap_http.specs.Preconditions.{PreconditionsValue}
@@ -17,7 +17,7 @@ use Rattle.streetmap_ledger.specs.declared.reply.Reply.{Reply}
 use Rattle.streetmap_routes.specs.Operations.{OperationValue, batch}
 use Rattle.streetmap_bodies.specs.declared.request_fault.RequestFault.TheVariants.{Keeper}
 use Rattle.streetmap_tags.specs.Keys.{is_used, IsKeyUsed}
-use Rattle.streetmap_web.specs.Response.{ResponseValue, Wanted, plainly, tagged, instead, changed, is_batch, needs_state, judged, read_judged, batch_judged, state_by, state_in, response_in, response_to, state_to, replied, fault_response, verdict_on}
+use Rattle.streetmap_web.specs.Response.{ResponseValue, Wanted, plainly, tagged, instead, changed, is_batch, needs_state, judged, read_judged, state_by, state_in, response_in, response_to, state_to, replied, fault_response, verdict_on}
 use Rattle.streetmap_web.specs.Judging.{RespondsBy, tag_after, in_place_by, probe}
 use Rattle.streetmap_web.specs.Responds.{Responds, RespondsIn, FaultsIn, FaultsShut, FaultsAny, RespondsToBatch, AppliesBy, IsResponse, response_value}
 use Rattle.streetmap_web.specs.declared.response.Response.{Response}

@@ -29,7 +29,7 @@ abbrev pub exchanges_at : SiteValue → Condition → List HttpExchange → List
 exchanges_at site x [] = []
 exchanges_at site x (w ∷ ws) = exchange_at site x w ∷ exchanges_at site (web.condition_after x w) ws
 
-pub is_answer : (site : SiteValue) (x : Condition) (w : HttpExchange) → IsExchange site.tags x w → IsAnswerTo site x (exchange_at site x w) w
+pub is_answer : (site : SiteValue) (x : Condition) (w : HttpExchange) → IsExchange site x w → IsAnswerTo site x (exchange_at site x w) w
 is_answer site x w is = record { is = is; request = refl; text = refl; closes = refl }
 
 kept_appends : (a b : Option Text) → Keeps a b → Appends a b []
@@ -63,7 +63,7 @@ pub record IsLast (site : SiteValue) (y : Condition) (a : Around) (end : End) (l
   pub ends : EndsSo end (closes_last site y last) unsent left a.input_after
 
 module _ (site : SiteValue) (y : Condition) (a : Around) where
-  one : (end : End) (w : HttpExchange) → IsExchange site.tags y w → Consumes a.input_before a.input_after w.bytes → (part unsent : Text)
+  one : (end : End) (w : HttpExchange) → IsExchange site y w → Consumes a.input_before a.input_after w.bytes → (part unsent : Text)
       → Appends a.output_before a.output_after part
       → web.answer_bytes site y w ≡ part ++ unsent → EndsSo end (web.closes site y w) unsent a.input_after a.input_after → IsLast site y a end (w ∷ [])
   one end w is read part unsent written parts ends = record {

@@ -22,10 +22,10 @@ use Rattle.streetmap_web.proofs.Transitions.{refused_comes}
 module _ {K : Type 0} (model : Model K) (site : SiteValue) (x : Condition) where
   -- a whole request
   whole_answered : (h : HeadValue) (bytes body : Text) (sent : AnswerSent) (old new : K) → IsRequest bytes h body
-      → AnswersOperation model site x (request_of site.tags h body) sent old new
+      → AnswersOperation model site x (request_of site h body) sent old new
       → AnswersRequest model site x bytes sent old new
   whole_answered h bytes body sent old new is (outcome, one) = record {
-    exchange = record { bytes = bytes; request = request_of site.tags h body; outcome = outcome };
+    exchange = record { bytes = bytes; request = request_of site h body; outcome = outcome };
     bytes_are = refl;
     has_request = whole h body is refl;
     comes_out = one;
@@ -72,11 +72,11 @@ said_of bytes h k a b P one other says =
 
 module _ {K : Type 0} (model : Model K) (site : SiteValue) where
   pub whole_answers : (h : HeadValue) (bytes body : Text) (sent : AnswerSent) (old new : K) → IsRequest bytes h body
-      → Answers model site (request_of site.tags h body) sent old new → AnswersOne model site old bytes sent new
+      → Answers model site (request_of site h body) sent old new → AnswersOne model site old bytes sent new
   whole_answers h bytes body sent old new is says = record {
     calls = says.calls;
     answered = λ clean x in_condition. whole_answered model site x h bytes body sent old new is (says.answered clean x in_condition);
-    batch_answered = λ k a one. said_of bytes k h a body (λ k a. AnswersBatch model (request_of site.tags k a) sent old new) one is says.batch_answered;
+    batch_answered = λ k a one. said_of bytes k h a body (λ k a. AnswersBatch model (request_of site k a) sent old new) one is says.batch_answered;
   }
 
   pub broken_answers : (bytes text : Text) (bare : Bool) (fault : FramingFault) (k : K) → Breaks bytes bare fault → RefusesBy text bare fault

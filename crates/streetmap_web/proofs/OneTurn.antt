@@ -36,7 +36,7 @@ unfinished_body head came h cut framed short =
 module _ {K : Type 0} (model : Model K) (site : SiteValue) (x : Condition) (left rest : Option Text) where
   -- an exchange that was acted on, and how its answer was sent
   written_turn : (e : HttpExchange) (closing : Bool) (text : Text) (sent : Sent) (flushed : Bool) (held now : Option Text) (old new : K)
-      → Acted model site.tags x e (around left rest held now) new → ComesOut model site x e.request e.outcome (sent_for site x e) old new
+      → Acted model site x e (around left rest held now) new → ComesOut model site x e.request e.outcome (sent_for site x e) old new
       → closing ≡ closes site x e → text ≡ answer_bytes site x e → SentSays sent text held now
       → TurnComes model (turn_after sent flushed closing) site x (around left rest held now) old new
   written_turn e true text Whole true held now old new acted one closed same written =
@@ -51,10 +51,10 @@ module _ {K : Type 0} (model : Model K) (site : SiteValue) (x : Condition) (left
 
   -- an exchange with this outcome
   sent_turn : (e : HttpExchange) (text : Text) (closing : Bool) (turn : Turn) (held now : Option Text) (old new : K)
-      → HasRequest site.tags e → Consumes left rest e.bytes → ComesOut model site x e.request e.outcome (sent_so text closing) old new
+      → HasRequest site e → Consumes left rest e.bytes → ComesOut model site x e.request e.outcome (sent_so text closing) old new
       → WriteSays turn text closing held now → TurnComes model turn site x (around left rest held now) old new
   sent_turn e text closing turn held now old new has_request read one (sent, flushed, turned, written) =
-      let acted : Acted model site.tags x e (around left rest held now) new = record {
+      let acted : Acted model site x e (around left rest held now) new = record {
         is = record { has_request = has_request; can = one.can };
         read = read;
         in_condition = one.condition;
@@ -66,17 +66,17 @@ module _ {K : Type 0} (model : Model K) (site : SiteValue) (x : Condition) (left
   -- a whole request that was answered
   pub answered_turn : (h : HeadValue) (head body text : Text) (closing : Bool) (turn : Turn) (held now : Option Text) (old new : K)
       → IsHead head → Frames head (sized h) → length body ≡ h.len → Consumes left rest (head ++ body)
-      → AnswersOperation model site x (request_of site.tags h body) (sent_so text closing) old new → WriteSays turn text closing held now
+      → AnswersOperation model site x (request_of site h body) (sent_so text closing) old new → WriteSays turn text closing held now
       → TurnComes model turn site x (around left rest held now) old new
   answered_turn h head body text closing turn held now old new cut framed len read (outcome, one) written =
-      let e : HttpExchange = record { bytes = head ++ body; request = request_of site.tags h body; outcome = outcome } in
-      let has_request : HasRequest site.tags e = whole h body (record { head = head; parts = refl; cut = cut; framed = framed; len = len }) refl in
+      let e : HttpExchange = record { bytes = head ++ body; request = request_of site h body; outcome = outcome } in
+      let has_request : HasRequest site e = whole h body (record { head = head; parts = refl; cut = cut; framed = framed; len = len }) refl in
       sent_turn e text closing turn held now old new has_request read one written
 
   module _ (k : K) (in_condition : IsInCondition model k x) where
     -- memory ran out before the request was acted on
     pub starved_turn : (bytes text : Text) (request : RequestValue) (turn : Turn) (held now : Option Text)
-        → HasRequest site.tags (record { bytes = bytes; request = request; outcome = no_memory }) → Consumes left rest bytes
+        → HasRequest site (record { bytes = bytes; request = request; outcome = no_memory }) → Consumes left rest bytes
         → text ≡ response_text true request.bare (fault_response (Keeper Memory)) → WriteSays turn text true held now
         → TurnComes model turn site x (around left rest held now) k k
     starved_turn bytes text request turn held now has_request read same written =

@@ -1,5 +1,5 @@
 -- The response to a request, by the one call of the keeper that it takes, if it takes one.
-use Rattle.std.proofs.Common.{◌≡◌, true, false, ap, sym, subst, refl, ◌∙◌, Option, Some, None, IsSome, Ok, Err, inl, inr, IfOk, OnErr}
+use Rattle.std.proofs.Common.{◌≡◌, ℕ, true, false, ap, sym, subst, refl, ◌∙◌, Option, Some, None, IsSome, Ok, Err, inl, inr, IfOk, OnErr}
 use Rattle.std.specs.Prelude.{Result}
 use Rattle.std.specs.declared.alloc.AllocError.{AllocError}
 use Rattle.streetmap_batch.specs.Text.{Text}
@@ -13,7 +13,7 @@ use Rattle.streetmap_ledger.specs.declared.reply.Fault.{Fault}
 use Rattle.streetmap_ledger.specs.declared.reply.Fault.TheVariants as faults
 use Rattle.streetmap_ledger.specs.declared.reply.Reply.{Reply}
 use Rattle.streetmap_query.specs.QueryValue.{QueryValue}
-use Rattle.streetmap_routes.specs.Operations.{OperationValue, faulty, landing_page, api_text, conformance_classes, all_collections, one_collection, page, feature, batch}
+use Rattle.streetmap_routes.specs.Operations.{OperationValue, faulty, landing_page, api_text, conformance_classes, all_collections, one_collection, page, feature, changes, batch}
 use Rattle.streetmap_bodies.specs.declared.request_fault.RequestFault.{RequestFault}
 use Rattle.streetmap_bodies.specs.declared.request_fault.RequestFault.TheVariants.{Keeper}
 use Rattle.streetmap_ledger.specs.Batches.{act}
@@ -116,6 +116,9 @@ page_reads root name query = record { has_request = refl; shut = refl; stays = �
 
 pub feature_reads : (root name id : Text) → NeedsRead root (feature name id)
 feature_reads root name id = record { has_request = refl; shut = refl; stays = λ s. refl; no_batch = λ b e. cc }
+
+pub changes_read : (root : Text) (after limit : ℕ) → NeedsRead root (changes after limit)
+changes_read root after limit = record { has_request = refl; shut = refl; stays = λ s. refl; no_batch = λ b e. cc }
 
 pub collection_reads : (root name : Text) → NeedsRead root (one_collection name)
 collection_reads root name = record { has_request = refl; shut = refl; stays = λ s. refl; no_batch = λ b e. cc }

@@ -12,7 +12,7 @@ use Rattle.streetmap_ledger.specs.Summaries.{SummaryValue, summary_in}
 use Rattle.streetmap_ledger.specs.declared.reply.Reply.{Reply}
 use Rattle.streetmap_ledger.specs.declared.reply.Reply.TheVariants.{Accepted, Repeated, Refused}
 use Rattle.streetmap_ledger.specs.declared.reply.Fault.TheVariants as faults
-use Rattle.streetmap_routes.specs.Operations.{OperationValue, faulty, landing_page, api_text, conformance_classes, all_collections, one_collection, page, feature, batch}
+use Rattle.streetmap_routes.specs.Operations.{OperationValue, faulty, landing_page, api_text, conformance_classes, all_collections, one_collection, page, feature, changes, batch}
 use Rattle.streetmap_bodies.specs.declared.request_fault.RequestFault.TheVariants.{Keeper}
 use Rattle.streetmap_batch.specs.BatchValue.{BatchValue}
 use Rattle.streetmap_ledger.specs.Kept.{batch_count}
@@ -58,6 +58,7 @@ never_500 root s all_collections has_request e = absurd (omega (arith, e))
 never_500 root s (one_collection name) has_request e = collection_well root (summary_in s name) e
 never_500 root s (page name q) has_request e = page_well root name q (page_in s name q) e
 never_500 root s (feature name id) has_request e = feature_well root name (feature_in s name id) e
+never_500 root s (changes after limit) has_request e = absurd (omega (arith, e))
 never_500 root s (batch b) has_request e = reply_well b.key (act s b).reply e
 
 -- ---- the same under conditions
@@ -111,6 +112,7 @@ judged_well root s all_collections verdict has_request e = read_well (batch_coun
 judged_well root s (one_collection name) verdict has_request e = read_well (batch_count s) (response_in root s (one_collection name)) verdict (never_500 root s (one_collection name) refl) e
 judged_well root s (page name q) verdict has_request e = read_well (batch_count s) (response_in root s (page name q)) verdict (never_500 root s (page name q) refl) e
 judged_well root s (feature name id) verdict has_request e = read_well (batch_count s) (response_in root s (feature name id)) verdict (never_500 root s (feature name id) refl) e
+judged_well root s (changes after limit) verdict has_request e = read_well (batch_count s) (response_in root s (changes after limit)) verdict (never_500 root s (changes after limit) refl) e
 judged_well root s (batch b) verdict has_request e = batch_well s b verdict e
 
 under_well : (root : Text) (s : State) (operation : OperationValue) (conditions : Option PreconditionsValue) → needs_state operation ≡ true

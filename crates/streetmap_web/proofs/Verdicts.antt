@@ -1,10 +1,9 @@
 -- Tags, and what verdicts on them let happen.
-use Rattle.std.proofs.Common.{◌≡◌, ◌≢◌, ℕ, ◌+◌, Bool, true, false, cond, Option, None, Some, Result, Ok, Err, IfOk, refl, sym, ap, subst, ◌∙◌, nat_lt, nat_eq}
-use Rattle.std.specs.Prelude.{if◌then◌else◌, ◌==◌}
+use Rattle.std.proofs.Common.{◌≡◌, ℕ, ◌+◌, true, false, cond, Option, None, Some, Result, Ok, Err, IfOk, refl, ap, ◌∙◌, nat_lt, nat_eq}
 use Rattle.std.specs.Option.{is_some, option_map}
 use Rattle.std.specs.Cmp.Lexicographic.{pointwise, nat_list_cmp_total}
 use Rattle.std.specs.FinMap.{get, len, insert, values, contains_key, len-insert}
-use Rattle.streetmap_batch.specs.Text.{Text, text_cmp}
+use Rattle.streetmap_batch.specs.Text.{Text}
 use Rattle.streetmap_batch.specs.BatchValue.{BatchValue}
 use Rattle.streetmap_batch.specs.BatchText.{batch_text}
 use Rattle.streetmap_query.specs.QueryValue.{QueryValue}
@@ -18,7 +17,7 @@ use Rattle.streetmap_ledger.specs.declared.reply.Reply.{Reply}
 use Rattle.streetmap_ledger.specs.declared.reply.Reply.TheVariants.{Accepted, Repeated, Refused}
 use Rattle.streetmap_ledger.specs.declared.reply.Fault.TheVariants as faults
 use Rattle.streetmap_ledger.proofs.Repeat.{either, edited_keys}
-use Rattle.streetmap_routes.specs.Operations.{OperationValue, faulty, landing_page, api_text, conformance_classes, all_collections, one_collection, page, feature, batch}
+use Rattle.streetmap_routes.specs.Operations.{OperationValue, faulty, landing_page, api_text, conformance_classes, all_collections, one_collection, page, feature, changes, batch}
 use Rattle.streetmap_bodies.specs.declared.request_fault.RequestFault.TheVariants.{Keeper}
 use Rattle.streetmap_tags.specs.Keys.{is_used}
 use Rattle.streetmap_web.specs.Response.{ResponseValue, instead, is_batch, needs_state, judged, read_judged, state_by, state_in, response_in, response_shut, fault_response, found_page, found_collection}
@@ -80,6 +79,7 @@ read_stays s all_collections read = refl
 read_stays s (one_collection name) read = refl
 read_stays s (page name q) read = refl
 read_stays s (feature name id) read = refl
+read_stays s (changes after limit) read = refl
 read_stays s (batch b) read = cc
 
 pub read_by : (s : State) (operation : OperationValue) (verdict : Verdict) → is_batch operation ≡ false → state_by s operation verdict ≡ s
@@ -97,6 +97,7 @@ read_is_judged root s all_collections verdict read = refl
 read_is_judged root s (one_collection name) verdict read = refl
 read_is_judged root s (page name q) verdict read = refl
 read_is_judged root s (feature name id) verdict read = refl
+read_is_judged root s (changes after limit) verdict read = refl
 read_is_judged root s (batch b) verdict read = cc
 
 -- the collection of a page is there if the page is
@@ -117,6 +118,7 @@ probe_same root s all_collections p = refl
 probe_same root s (one_collection name) p = refl
 probe_same root s (page name q) p = page_probed root name q p (get s.collections name)
 probe_same root s (feature name id) p = refl
+probe_same root s (changes after limit) p = refl
 probe_same root s (batch b) p = refl
 
 pub probe_needs : (operation : OperationValue) → needs_state (probe operation) ≡ needs_state operation
@@ -128,6 +130,7 @@ probe_needs all_collections = refl
 probe_needs (one_collection name) = refl
 probe_needs (page name q) = refl
 probe_needs (feature name id) = refl
+probe_needs (changes after limit) = refl
 probe_needs (batch b) = refl
 
 pub probe_reads : (operation : OperationValue) → is_batch operation ≡ false → is_batch (probe operation) ≡ false
@@ -139,6 +142,7 @@ probe_reads all_collections read = refl
 probe_reads (one_collection name) read = refl
 probe_reads (page name q) read = refl
 probe_reads (feature name id) read = refl
+probe_reads (changes after limit) read = refl
 probe_reads (batch b) read = read
 
 -- ---- requests that need the state
@@ -152,6 +156,7 @@ needed_shut root all_collections needed = refl
 needed_shut root (one_collection name) needed = refl
 needed_shut root (page name q) needed = refl
 needed_shut root (feature name id) needed = refl
+needed_shut root (changes after limit) needed = refl
 needed_shut root (batch b) needed = refl
 
 -- one that needs none reads
@@ -164,4 +169,5 @@ unneeded_reads all_collections unneeded = cc
 unneeded_reads (one_collection name) unneeded = cc
 unneeded_reads (page name q) unneeded = cc
 unneeded_reads (feature name id) unneeded = cc
+unneeded_reads (changes after limit) unneeded = cc
 unneeded_reads (batch b) unneeded = cc

@@ -19,4 +19,4 @@ pub record AnswersOne {K : Type 0} (model : Model K) (site : SiteValue) (old : K
   pub answered : model.is_clean new → (x : Condition) → IsInCondition model old x
       → AnswersRequest model site x bytes sent old new
   pub batch_answered : (h : HeadValue) (body : Text) → IsRequest bytes h body
-      → AnswersBatch model (request_of site.tags h body) sent old new
+      → AnswersBatch model (request_of site h body) sent old new

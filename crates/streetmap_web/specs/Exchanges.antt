@@ -30,13 +30,13 @@ pub record HttpExchange : Type 0 where
 
 -- the bytes are this request: a head with its body, or bytes that break a rule of framing; if
 -- memory ran out for the body, they are only the head
-pub data HasRequest (tags : Bool) (e : HttpExchange) : Type 0 where
+pub data HasRequest (site : SiteValue) (e : HttpExchange) : Type 0 where
   whole : (h : HeadValue) (body : Text) → IsRequest e.bytes h body
-      → e.request ≡ request_of tags h body → HasRequest tags e
+      → e.request ≡ request_of site h body → HasRequest site e
   broken : (bare : Bool) (fault : FramingFault) → Breaks e.bytes bare fault
-      → e.request ≡ broken_request bare fault → HasRequest tags e
+      → e.request ≡ broken_request bare fault → HasRequest site e
   no_room : (h : HeadValue) → IsHead e.bytes → Frames e.bytes (sized h)
-      → e.request ≡ request_of tags h [] → e.outcome ≡ no_memory → HasRequest tags e
+      → e.request ≡ request_of site h [] → e.outcome ≡ no_memory → HasRequest site e
 
 -- the answer of a keeper in this condition
 abbrev pub response : SiteValue → Condition → HttpExchange → ResponseValue
@@ -59,14 +59,14 @@ abbrev pub condition_after : Condition → HttpExchange → Condition
 condition_after x e = after x e.request.wanted e.outcome
 
 -- the request is one of the stream, and has a possible outcome
-pub record IsExchange (tags : Bool) (x : Condition) (e : HttpExchange) : Type 0 where
-  pub has_request : HasRequest tags e
+pub record IsExchange (site : SiteValue) (x : Condition) (e : HttpExchange) : Type 0 where
+  pub has_request : HasRequest site e
   pub can : CanBe x e.request.wanted e.outcome
 
 -- exchanges in a row, each of which leaves the connection open
 abbrev pub GoOn : SiteValue → Condition → List HttpExchange → Type 0
 GoOn site x [] = ⊤
-GoOn site x (e ∷ es) = IsExchange site.tags x e × (closes site x e ≡ false)
+GoOn site x (e ∷ es) = IsExchange site x e × (closes site x e ≡ false)
     × GoOn site (condition_after x e) es
 
 -- the bytes of the requests

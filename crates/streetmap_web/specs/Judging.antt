@@ -1,5 +1,5 @@
 -- Answers to a request under conditions, once the state's tag is known.
-use Rattle.std.specs.Prelude.{◌≡◌, ℕ, Option, Some, Result}
+use Rattle.std.specs.Prelude.{◌≡◌, ℕ, Some, Result}
 use Rattle.streetmap_http.specs.Preconditions.{PreconditionsValue}
 use Rattle.streetmap_batch.specs.Text.{Text}
 use Rattle.streetmap_batch.specs.BatchValue.{BatchValue}
@@ -11,7 +11,7 @@ use Rattle.streetmap_ledger.specs.declared.reply.Cause.{Cause}
 use Rattle.streetmap_ledger.specs.declared.reply.Fault.{Fault}
 use Rattle.streetmap_ledger.specs.declared.reply.Reply.{Reply}
 use Rattle.streetmap_ledger.specs.declared.reply.Reply.TheVariants.{Accepted, Repeated, Refused}
-use Rattle.streetmap_routes.specs.Operations.{OperationValue, page, one_collection, batch}
+use Rattle.streetmap_routes.specs.Operations.{OperationValue, page, one_collection, changes, batch}
 use Rattle.streetmap_web.specs.Response.{ResponseValue, judged, state_by, not_modified, changed}
 use Rattle.streetmap_web.specs.Conditions.{ByCalls}
 use Rattle.streetmap_web.specs.Responds.{RespondsIn, RespondsShut, RespondsAny, RespondsToBatch}
@@ -31,9 +31,11 @@ in_place_by n Holds = changed
 in_place_by n NotModified = not_modified n
 in_place_by n Changed = changed
 
--- a read that has the same status, and takes less: for a page its collection
+-- a read that has the same status, and takes less: for a page its collection, and no change for
+-- changes
 abbrev pub probe : OperationValue → OperationValue
 probe (page name q) = one_collection name
+probe (changes after limit) = changes after 0
 probe operation = operation
 
 -- A request was responded to between two keepers, by a verdict on the state's tag: if the first

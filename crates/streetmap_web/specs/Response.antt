@@ -6,6 +6,7 @@ use Rattle.streetmap_http.specs.AnswerHead.{head_text}
 use Rattle.streetmap_http.specs.declared.answer_head.AnswerHead.{AnswerHead}
 use Rattle.streetmap_http.specs.declared.answer_head.MediaType.{MediaType}
 use Rattle.streetmap_http.specs.declared.answer_head.MediaType.TheVariants.{Json, GeoJson, Html}
+use Rattle.streetmap_http.specs.declared.answer_head.MediaType.TheVariants.{Journal}
 use Rattle.streetmap_http.specs.declared.answer_head.Methods.{Methods}
 use Rattle.streetmap_http.specs.declared.fault.FramingFault.{FramingFault}
 use Rattle.streetmap_http.specs.Framing.{HeadValue, is_bare}
@@ -21,6 +22,7 @@ use Rattle.streetmap_ledger.specs.State.{State}
 use Rattle.streetmap_ledger.specs.Batches.{act}
 use Rattle.streetmap_ledger.specs.Kept.{batch_count}
 use Rattle.streetmap_tags.specs.Keys.{is_used}
+use Rattle.streetmap_tags.specs.Changes.{changes_in}
 use Rattle.streetmap_ledger.specs.Pages.{PageValue, page_in, feature_in}
 use Rattle.streetmap_ledger.specs.Summaries.{SummaryValue, summary_in, summaries_in}
 use Rattle.streetmap_ledger.specs.declared.reply.Reply.{Reply}
@@ -29,14 +31,16 @@ use Rattle.streetmap_ledger.specs.declared.reply.Fault.TheVariants.{Reopen}
 use Rattle.streetmap_routes.specs.Operations.{OperationValue, faulty, landing_page, api_text}
 use Rattle.streetmap_routes.specs.Operations.{conformance_classes, all_collections, one_collection}
 use Rattle.streetmap_routes.specs.Operations.{page}
-use Rattle.streetmap_routes.specs.Operations.{feature, batch, operation_of}
+use Rattle.streetmap_routes.specs.Operations.{feature, changes, batch, operation_with}
 use Rattle.streetmap_bodies.specs.Bodies.{landing_data, api_document, conformance_data}
 use Rattle.streetmap_bodies.specs.Bodies.{collections_data, collection_data, page_data}
 use Rattle.streetmap_bodies.specs.Bodies.{linked_feature_data}
+use Rattle.streetmap_bodies.specs.Changes.{changes_text}
 use Rattle.streetmap_bodies.specs.Replies.{reply_body}
 use Rattle.streetmap_bodies.specs.RequestFaults.{status_of, allow_of, fault_body}
 use Rattle.streetmap_bodies.specs.declared.request_fault.RequestFault.{RequestFault}
 use Rattle.streetmap_bodies.specs.declared.request_fault.RequestFault.TheVariants as faults
+use Rattle.streetmap_web.specs.Site.{SiteValue}
 use Rattle.streetmap_web.specs.declared.verdict.Verdict.{Verdict}
 use Rattle.streetmap_web.specs.declared.verdict.Verdict.TheVariants.{Holds, NotModified, Changed}
 
@@ -108,6 +112,7 @@ response_in root s all_collections = found Json
 response_in root s (one_collection name) = found_collection root (summary_in s name)
 response_in root s (page name q) = found_page root name q (page_in s name q)
 response_in root s (feature name id) = found_feature root name (feature_in s name id)
+response_in root s (changes after limit) = found Journal (changes_text (changes_in s after limit))
 response_in root s (batch b) = replied b.key (act s b).reply
 
 -- the answer of a shut keeper: as always if the request needs no state, and else that the keeper
@@ -121,6 +126,7 @@ response_shut root all_collections = fault_response (faults.Keeper Reopen)
 response_shut root (one_collection name) = fault_response (faults.Keeper Reopen)
 response_shut root (page name q) = fault_response (faults.Keeper Reopen)
 response_shut root (feature name id) = fault_response (faults.Keeper Reopen)
+response_shut root (changes after limit) = fault_response (faults.Keeper Reopen)
 response_shut root (batch b) = fault_response (faults.Keeper Reopen)
 
 -- whether the request needs the state
@@ -133,6 +139,7 @@ needs_state all_collections = true
 needs_state (one_collection name) = true
 needs_state (page name q) = true
 needs_state (feature name id) = true
+needs_state (changes after limit) = true
 needs_state (batch b) = true
 
 -- the state afterwards: that after the batch, or else the same
@@ -272,10 +279,11 @@ readable_under p operation =
 abbrev pub wanted_of : (tags : Bool) → PreconditionsValue → OperationValue → Wanted
 wanted_of tags p operation = if tags then readable_under p operation else plainly operation
 
--- that of a head and a body, of a service that gives tags or not
-abbrev pub request_of : (tags : Bool) → HeadValue → Text → RequestValue
-request_of tags h body = record {
-  wanted = wanted_of tags h.preconditions (operation_of h.method h.target body);
+-- that of a head and a body, of a service that gives tags or not, and offers changes or not
+abbrev pub request_of : SiteValue → HeadValue → Text → RequestValue
+request_of site h body = record {
+  wanted = wanted_of site.tags h.preconditions
+      (operation_with site.changes h.method h.target body);
   closes = h.closes;
   bare = is_bare h.method;
 }

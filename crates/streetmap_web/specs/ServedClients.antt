@@ -19,7 +19,7 @@ use Rattle.streetmap_web.specs.Conditions.{Condition, IsInCondition}
 -- the exchange is this request of the web, answered by a keeper in this condition
 pub record IsAnswerTo (site : SiteValue) (x : Condition) (e : Exchange) (w : web.HttpExchange)
     : Type 0 where
-  pub is : web.IsExchange site.tags x w
+  pub is : web.IsExchange site x w
   pub request : w.bytes ≡ e.request
   pub text : e.text ≡ web.answer_bytes site x w
   pub closes : e.closes ≡ web.closes site x w

@@ -1,5 +1,5 @@
 -- A stream that was served: requests with their answers, and the turn that ended it.
-use Rattle.std.specs.Prelude.{◌≡◌, ◌≢◌, ℕ, ◌<◌, ◌+◌, ◌++◌, List, [], ◌∷◌, Bool, true, false}
+use Rattle.std.specs.Prelude.{◌≡◌, ◌≢◌, ℕ, ◌<◌, ◌+◌, ◌++◌, List, [], ◌∷◌, true, false}
 use Rattle.std.specs.Prelude.{length, take, Option, nat_lt, if◌then◌else◌}
 use Rattle.std.specs.Io.KnownBytes.{Consumes, Appends, Keeps, IsAtEnd}
 use Rattle.streetmap_http.specs.Head.{IsBlank}
@@ -36,9 +36,9 @@ around input_before input_after output_before output_after = record {
 
 -- a request was read and acted on: its bytes are off the reader, and the keeper is in the condition
 -- after it
-pub record Acted {K : Type 0} (model : Model K) (tags : Bool) (x : Condition) (e : HttpExchange)
+pub record Acted {K : Type 0} (model : Model K) (site : SiteValue) (x : Condition) (e : HttpExchange)
     (a : Around) (new : K) : Type 0 where
-  pub is : IsExchange tags x e
+  pub is : IsExchange site x e
   pub read : Consumes a.input_before a.input_after e.bytes
   pub in_condition : IsInCondition model new (condition_after x e)
 
@@ -50,15 +50,15 @@ pub record AnswersNothing {K : Type 0} (model : Model K) (x : Condition) (a : Ar
 
 -- what a turn did
 abbrev pub TurnSays : {K : Type 0} → Model K → Turn → SiteValue → Condition → Around → K → Type 0
-TurnSays model Open site x a new = (e : HttpExchange) × Acted model site.tags x e a new
+TurnSays model Open site x a new = (e : HttpExchange) × Acted model site x e a new
     × Appends a.output_before a.output_after (answer_bytes site x e) × (closes site x e ≡ false)
-TurnSays model Closed site x a new = (e : HttpExchange) × Acted model site.tags x e a new
+TurnSays model Closed site x a new = (e : HttpExchange) × Acted model site x e a new
     × Appends a.output_before a.output_after (answer_bytes site x e) × (closes site x e ≡ true)
 TurnSays model (WriteFailed begun) site x a new =
-    (e : HttpExchange) × Acted model site.tags x e a new × (n : ℕ)
+    (e : HttpExchange) × Acted model site x e a new × (n : ℕ)
     × (n < length (answer_bytes site x e)) × (begun ≡ nat_lt 0 n)
     × Appends a.output_before a.output_after (take n (answer_bytes site x e))
-TurnSays model FlushFailed site x a new = (e : HttpExchange) × Acted model site.tags x e a new
+TurnSays model FlushFailed site x a new = (e : HttpExchange) × Acted model site x e a new
     × Appends a.output_before a.output_after (answer_bytes site x e)
 TurnSays model Ended site x a new = AnswersNothing model x a new × (bytes : Text) × IsBlank bytes
     × Consumes a.input_before a.input_after bytes × IsAtEnd a.input_after

@@ -13,7 +13,7 @@ pub record AnswersRequest {K : Type 0} (model : Model K) (site : SiteValue) (x :
     (bytes : Text) (sent : AnswerSent) (old new : K) : Type 0 where
   pub exchange : HttpExchange
   pub bytes_are : exchange.bytes ≡ bytes
-  pub has_request : HasRequest site.tags exchange
+  pub has_request : HasRequest site exchange
   pub comes_out : ComesOut model site x exchange.request exchange.outcome sent old new
 
 -- requests in a row, each answered over the keeper that the one before left

@@ -132,14 +132,15 @@ fn try_answer<K: Tagged>(
     body: &[u8],
 ) -> Result<(Answer, bool), Fault>
     ensures { Sends K.model (root_of site.now.base)
-        (request_of site.now.tags (head_value request.entry) body.now)
+        (request_of (site_value site.now) (head_value request.entry) body.now)
         keeper.old keeper.new result }
 {
     let Ok(room) = String::with_capacity(alloc, HEAD_ROOM) else {
         return Err(Fault::Memory);
     };
     let base = &site.base;
-    let Ok(operation) = base.operation(alloc, request.method, request.target, body) else {
+    let (method, target) = (request.method, request.target);
+    let Ok(operation) = base.operation(alloc, site.changes, method, target, body) else {
         return Err(Fault::Memory);
     };
     let wanted = wanted_of(site.tags, request.preconditions, operation);
@@ -162,7 +163,7 @@ pub(crate) fn answer_to<K: Tagged>(
     body: &[u8],
 ) -> (Answer, bool)
     ensures { Answers K.model (site_value site.now)
-        (request_of site.now.tags (head_value request.entry) body.now)
+        (request_of (site_value site.now) (head_value request.entry) body.now)
         (sent_so (answer_text result.0) result.1) keeper.old keeper.new }
 {
     match try_answer(alloc, keeper, site, request, body) {

@@ -14,7 +14,9 @@ ghost use Rattle.streetmap_web.specs.Responds.{response_value, IsResponse, Respo
 ghost use Rattle.streetmap_web.specs.Wants.{wanted_value};
 ghost use Rattle.streetmap_web.specs.declared.verdict.Verdict.TheVariants as verdicts;
 
-use crate::respond::{BODY_ROOM, faulty, or_starved, replied, respond_collection, respond_to};
+use crate::respond::{
+    BODY_ROOM, faulty, or_starved, replied, respond_changes, respond_collection, respond_to,
+};
 use crate::response::Response;
 use crate::verdict::{Verdict, needs_state, verdict_on};
 use http::StatusCode;
@@ -122,7 +124,7 @@ fn judge_batch<K: Tagged>(
 }
 
 /// A read that has the same status, and takes less.
-fn respond_probe<K: Keeper>(
+fn respond_probe<K: Tagged>(
     alloc: Global,
     keeper: &mut K,
     root: &str,
@@ -133,6 +135,7 @@ fn respond_probe<K: Keeper>(
 {
     match operation {
         Operation::Page(name, _) => respond_collection(alloc, keeper, root, name.as_str()),
+        Operation::Changes(after, _) => respond_changes(alloc, keeper, *after, 0),
         _ => respond_to(alloc, keeper, root, operation),
     }
 }
@@ -178,7 +181,7 @@ fn instead(
 }
 
 /// Answers a read by a verdict.
-fn judge_read<K: Keeper>(
+fn judge_read<K: Tagged>(
     alloc: Global,
     keeper: &mut K,
     root: &str,

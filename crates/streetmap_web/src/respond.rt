@@ -6,30 +6,33 @@ ghost use Rattle.serde_json.specs.Written.{compact_text};
 ghost use Rattle.streetmap_query.specs.Views.{query_value};
 ghost use Rattle.streetmap_batch.specs.Text.{Text};
 ghost use Rattle.streetmap_batch.specs.BatchView.{batch_value};
+ghost use Rattle.streetmap_ledger.specs.KeptView.{keyed_batches};
 ghost use Rattle.streetmap_ledger.specs.PageView.{page_value};
 ghost use Rattle.streetmap_ledger.specs.SummaryView.{summary_value, summary_values};
 ghost use Rattle.streetmap_routes.specs.Operations as spec;
 ghost use Rattle.streetmap_web.specs.Response as spec_response;
 ghost use Rattle.streetmap_web.specs.Response.{fault_response, found, plainly};
 ghost use Rattle.streetmap_bodies.specs.Bodies as spec_bodies;
+ghost use Rattle.streetmap_bodies.specs.Changes as spec_changes;
 ghost use Rattle.streetmap_routes.specs.OperationView.{operation_value};
 ghost use Rattle.streetmap_web.specs.Responds.{response_value, IsResponse, Responds};
 ghost use Rattle.streetmap_http.specs.declared.answer_head.MediaType.TheVariants.{Json, GeoJson};
-ghost use Rattle.streetmap_http.specs.declared.answer_head.MediaType.TheVariants.{Html};
+ghost use Rattle.streetmap_http.specs.declared.answer_head.MediaType.TheVariants.{Html, Journal};
 
 use crate::response::Response;
 use http::StatusCode;
 use std::alloc::{AllocError, Global};
 use streetmap_batch::Batch;
 use streetmap_bodies::{
-    RequestFault, api_text, collection_text, collections_text, conformance_text, feature_text,
-    landing_text, page_text, push_fault, push_reply_body,
+    RequestFault, api_text, changes_text, collection_text, collections_text, conformance_text,
+    feature_text, landing_text, page_text, push_fault, push_reply_body,
 };
 use streetmap_geojson::Feature;
 use streetmap_http::MediaType;
-use streetmap_ledger::{Fault, Keeper, Page, Reply, Summary};
+use streetmap_ledger::{Fault, Keeper, KeptBatch, Page, Reply, Summary};
 use streetmap_query::Query;
 use streetmap_routes::Operation;
+use streetmap_tags::{Tagged, changes};
 
 /// The room that is allocated for the body of the answer to a batch before the batch is applied.
 /// With that of the head, 256 bytes, it is 1,024.
@@ -262,6 +265,31 @@ fn respond_collections<K: Keeper>(
     }
 }
 
+/// The answer with batches.
+fn found_changes(alloc: Global, batches: &[KeptBatch]) -> Result<Response, AllocError>
+    ensures { IfOk result (λ b. response_value b ≡ spec_response.found Journal
+        (spec_changes.changes_text (keyed_batches batches.now))) }
+{
+    let body = changes_text(alloc, batches)?;
+    Ok(found(MediaType::Journal, body))
+}
+
+/// Reads the batches after a serial.
+pub(crate) fn respond_changes<K: Tagged>(
+    alloc: Global,
+    keeper: &mut K,
+    after: u64,
+    limit: u32,
+) -> Result<Response, Fault>
+    ensures { (root : Text) → Responds K.model root (plainly (spec.changes after limit)) IsResponse
+        keeper.old keeper.new result }
+{
+    match changes(alloc, keeper, after, limit) {
+        Ok(batches) => or_starved(found_changes(alloc, batches.as_slice())),
+        Err(fault) => Err(fault),
+    }
+}
+
 /// The answer with the landing page.
 fn found_landing(alloc: Global, root: &str) -> Result<Response, AllocError>
     ensures { IfOk result (λ b. response_value b ≡
@@ -297,7 +325,7 @@ fn found_conformance(alloc: Global) -> Result<Response, AllocError>
 }
 
 /// Answers a request.
-pub(crate) fn respond_to<K: Keeper>(
+pub(crate) fn respond_to<K: Tagged>(
     alloc: Global,
     keeper: &mut K,
     root: &str,
@@ -317,6 +345,7 @@ pub(crate) fn respond_to<K: Keeper>(
         Operation::Feature(name, id) => {
             respond_feature(alloc, keeper, root, name.as_str(), id.as_str())
         }
+        Operation::Changes(after, limit) => respond_changes(alloc, keeper, *after, *limit),
         Operation::Batch(batch) => respond_batch(alloc, keeper, batch),
     }
 }

@@ -8,4 +8,6 @@ pub struct Site {
     pub base: Base,
     /// Whether its answers have tags, and its requests conditions.
     pub tags: bool,
+    /// Whether it answers `/changes` with the accepted batches.
+    pub changes: bool,
 }

@@ -31,6 +31,7 @@ pub(crate) fn needs_state(operation: &Operation) -> bool
         | Operation::OneCollection(_)
         | Operation::Page(_, _)
         | Operation::Feature(_, _)
+        | Operation::Changes(_, _)
         | Operation::Batch(_) => true,
     }
 }

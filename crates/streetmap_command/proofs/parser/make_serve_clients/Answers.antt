@@ -9,7 +9,8 @@ returns-clause-app c =
     let five = c.with_argument-command-4.ensures.app _ _ four c.flag_arg.ensures.rule c.flag_arg.ensures.local in
     let six = c.with_argument-command-5.ensures.app _ _ five c.option_arg-3.ensures.rule c.option_arg-3.ensures.local in
     let seven = c.with_argument-command-6.ensures.app _ _ six c.flag_arg-2.ensures.rule c.flag_arg-2.ensures.local in
-    c.with_argument.ensures.app _ _ seven c.flag_arg-3.ensures.rule c.flag_arg-3.ensures.local
+    let eight = c.with_argument-command-7.ensures.app _ _ seven c.flag_arg-3.ensures.rule c.flag_arg-3.ensures.local in
+    c.with_argument.ensures.app _ _ eight c.flag_arg-4.ensures.rule c.flag_arg-4.ensures.local
 
 pub returns-clause-local : goal.returns-clause-local
 returns-clause-local c =
@@ -20,4 +21,5 @@ returns-clause-local c =
     let five = c.with_argument-command-4.ensures.local four c.flag_arg.ensures.local in
     let six = c.with_argument-command-5.ensures.local five c.option_arg-3.ensures.local in
     let seven = c.with_argument-command-6.ensures.local six c.flag_arg-2.ensures.local in
-    c.with_argument.ensures.local seven c.flag_arg-3.ensures.local
+    let eight = c.with_argument-command-7.ensures.local seven c.flag_arg-3.ensures.local in
+    c.with_argument.ensures.local eight c.flag_arg-4.ensures.local

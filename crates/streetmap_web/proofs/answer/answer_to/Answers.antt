@@ -8,11 +8,11 @@ use Rattle.streetmap_web.proofs.answer.answer_to.Goals as goal
 
 pub returns-in-Ok : goal.returns-in-Ok
 returns-in-Ok g c =
-    ok_answered g.K.Keeper.model (site_value c.args.site.now) (request_of c.args.site.now.tags (head_value c.args.request) c.args.body.now) c.args.keeper.now
+    ok_answered g.K.Keeper.model (site_value c.args.site.now) (request_of (site_value c.args.site.now) (head_value c.args.request) c.args.body.now) c.args.keeper.now
     c.try_answer.new.keeper c.in-Ok.answer c.in-Ok.ensures
 
 pub returns-in-Err : goal.returns-in-Err
 returns-in-Err g c =
-    err_answered g.K.Keeper.model (site_value c.args.site.now) (request_of c.args.site.now.tags (head_value c.args.request) c.args.body.now) c.args.keeper.now
+    err_answered g.K.Keeper.model (site_value c.args.site.now) (request_of (site_value c.args.site.now) (head_value c.args.request) c.args.body.now) c.args.keeper.now
     c.try_answer.new.keeper c.in-Err.fault _ c.in-Err.ensures
     (c.fixed.ensures ∙ ap (λ bare. response_text true bare (fault_response (Keeper c.in-Err.fault))) c.is_bare.ensures)

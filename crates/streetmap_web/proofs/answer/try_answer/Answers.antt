@@ -11,17 +11,17 @@ use Rattle.streetmap_web.proofs.answer.try_answer.Goals as goal
 
 pub returns-in_default : goal.returns-in_default
 returns-in_default g c =
-    let request = request_of c.args.site.now.tags (head_value c.args.request) c.args.body.now in
+    let request = request_of (site_value c.args.site.now) (head_value c.args.request) c.args.body.now in
     not_called g.K.Keeper.model (site_value c.args.site.now).root request.wanted (IsSentFor request) c.args.keeper.now
 
 pub returns-in_default-operation : goal.returns-in_default-operation
 returns-in_default-operation g c =
-    let request = request_of c.args.site.now.tags (head_value c.args.request) c.args.body.now in
+    let request = request_of (site_value c.args.site.now) (head_value c.args.request) c.args.body.now in
     not_called g.K.Keeper.model (site_value c.args.site.now).root request.wanted (IsSentFor request) c.args.keeper.now
 
 pub returns-in-Ok-respond : goal.returns-in-Ok-respond
 returns-in-Ok-respond g c =
-    let request = request_of c.args.site.now.tags (head_value c.args.request) c.args.body.now in
+    let request = request_of (site_value c.args.site.now) (head_value c.args.request) c.args.body.now in
     let response = c.in-Ok-respond.response in
     let closing = c.closes-closing.result in
     response_sent g.K.Keeper.model (site_value c.args.site.now) request c.args.keeper.now c.respond.new.keeper c.root.result.now (wanted_value c.wanted_of-wanted.result)
@@ -31,7 +31,7 @@ returns-in-Ok-respond g c =
 
 pub returns-in-Err : goal.returns-in-Err
 returns-in-Err g c =
-    fault_unsent g.K.Keeper.model (site_value c.args.site.now) (request_of c.args.site.now.tags (head_value c.args.request) c.args.body.now) c.args.keeper.now c.respond.new.keeper
+    fault_unsent g.K.Keeper.model (site_value c.args.site.now) (request_of (site_value c.args.site.now) (head_value c.args.request) c.args.body.now) c.args.keeper.now c.respond.new.keeper
     c.root.result.now (wanted_value c.wanted_of-wanted.result) c.in-Err.fault c.root.ensures.value
     (c.wanted_of-wanted.ensures ∙ ap (wanted_of c.args.site.now.tags (preconditions_value c.args.request.preconditions)) c.in-Ok-operation.ensures)
     c.in-Err.ensures

@@ -30,3 +30,8 @@ pub returns-in-Batch : goal.returns-in-Batch
 returns-in-Batch g c =
     subst (λ (a : OperationValue). Responds g.K.Keeper.model c.args.root.now (plainly a) IsResponse c.args.keeper.now c.respond_batch.new.keeper c.respond_batch.result)
     (sym (ap operation_value c.in-Batch.is)) (c.respond_batch.ensures c.args.root.now)
+
+pub returns-in-Changes : goal.returns-in-Changes
+returns-in-Changes g c =
+    subst (λ (a : OperationValue). Responds g.K.Keeper.model c.args.root.now (plainly a) IsResponse c.args.keeper.now c.respond_changes.new.keeper c.respond_changes.result)
+    (sym (ap operation_value c.in-Changes.is)) (c.respond_changes.ensures c.args.root.now)

@@ -25,7 +25,7 @@ returns-in_default-clause-says g c = λ clean bytes left x cut framed read h.
     let held = g.W.Write.contents c.args.writer.now in
     let now = g.W.Write.contents c.write_answer.new.writer in
     let text = c.fixed.ensures ∙ ap (λ bare. response_text true bare (fault_response (Keeper Memory))) c.is_bare-bare.ensures in
-    starved_turn model site x left rest keeper h bytes (answer_text c.fixed.result) (request_of site.tags head []) c.write_answer.result held now
+    starved_turn model site x left rest keeper h bytes (answer_text c.fixed.result) (request_of site head []) c.write_answer.result held now
     (no_room head cut framed refl refl) read text c.write_answer.ensures.says
 
 -- what filling says once it is known how it ended

@@ -1,0 +1,13 @@
+-- The site of a service of clients.
+use Rattle.streetmap_command.specs.declared.command.Connections.{Connections}
+use Rattle.streetmap_routes.specs.BaseView.{root_of}
+use Rattle.streetmap_routes.specs.declared.base.Base.{Base}
+use Rattle.streetmap_web.specs.Site.{SiteValue}
+
+-- its base, with the tags and the changes that its options give
+abbrev pub site_of : Base → Connections → SiteValue
+site_of base connections = record {
+  root = root_of base;
+  tags = connections.conditional;
+  changes = connections.changes;
+}

@@ -1,0 +1,2 @@
+pub mod NextChange
+pub mod NoneLeftOut
