@@ -17,8 +17,9 @@ RESTARTS = 2
 # What a reader may be answered besides a page: that a follower has no such collection yet, and
 # half an answer (0) of one that is killed.
 ALLOWED = {0, 404}
-# In bytes: how much more a follower may write before its disk is full, and a feature's text.
-ROOM, TEXT = 400_000, 20_000
+# In bytes: how much more a follower may write before its disk is full, and a feature's text. How
+# many batches fill it at most: the longest file may be a log that begins again.
+ROOM, TEXT, MOST_BATCHES = 400_000, 20_000, 100
 
 
 def check_readers(load: Load, site: Site, what: str) -> None:
@@ -138,7 +139,7 @@ def check_full_disk(site: Site) -> None:
     full.start()
     with Load(site.port, ["filling"], READERS) as load:
         number = 0
-        while not is_failed(served) and number < 20:
+        while not is_failed(served) and number < MOST_BATCHES:
             fill(client, served, number)
             number += 1
         site.context.check("its disk is full", is_failed(served), True)
