@@ -1,8 +1,9 @@
 """docs/openapi.json is an OpenAPI document, and describes each request and answer of the rows.
 
-The rows are those of examples/http.jsonl, and those of examples/conditional.jsonl with tags. A
-request for one of the eight paths, by a method that is described, has an answer whose status, media
-type, tag and body are described. Any other has an error.
+The rows are those of examples/http.jsonl, those of examples/conditional.jsonl with tags, and those
+of examples/changes.jsonl with changes. A request for one of the paths, by a method that is
+described, has an answer whose status, media type, tag and body are described. Any other has an
+error.
 """
 
 import json
@@ -31,7 +32,10 @@ PATHS = {
     "/collections/{collectionId}/items",
     "/collections/{collectionId}/items/{featureId}",
     "/batches",
+    "/changes",
 }
+# The files of rows.
+ROWS = ("http.jsonl", "conditional.jsonl", "changes.jsonl")
 
 
 @dataclass(frozen=True)
@@ -147,7 +151,7 @@ def check_document(context: Context, description: Description) -> None:
     """What OpenAPI 3.0 requires of each document, as far as this one has it."""
     document = description.document
     context.check("the version of OpenAPI", document["openapi"][:4], "3.0.")
-    context.check("the eight paths", set(document["paths"]), PATHS)
+    context.check("the paths", set(document["paths"]), PATHS)
     lost = [it for it in references(document) if description.found(it) is None]
     context.check("references that name nothing", lost, [])
     jsonschema.Draft7Validator.check_schema(description.schemas["components"]["schemas"])
@@ -177,7 +181,7 @@ def check_exchange(context: Context, description: Description, what: str, it: Ex
         context.check(f"{what}: media type", [media] if media else [], list(content))
     has_tag, headers = "etag" in it.fields, (response or {}).get("headers", {})
     context.check(f"{what}: tag", (has_tag, "ETag" in headers) in TAGGED, True)
-    if it.method != "HEAD" and media in content and media != "text/html":
+    if it.method != "HEAD" and media and media in content and media.endswith("json"):
         context.check(f"{what}: body", description.faults(content[media]["schema"], it.body), [])
     if it.status == "200" and it.method == "POST":
         schema = {"$ref": "#/components/schemas/Batch"}
@@ -188,7 +192,7 @@ def run(context: Context) -> None:
     description = Description(json.loads(DOCUMENT.read_text()))
     check_document(context, description)
     seen: set[str | None] = set()
-    for row in [*rows_of("http.jsonl"), *rows_of("conditional.jsonl")]:
+    for row in (row for name in ROWS for row in rows_of(name)):
         for exchange in exchanges(row["sent"], row["written"]):
             check_exchange(context, description, row["what"], exchange)
             if exchange.status == "200":
