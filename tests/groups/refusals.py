@@ -1,7 +1,8 @@
 """Failed allocations: the same answers, or a fault of memory and the state as it was.
 
-They fail in `lines`; in `pipe` over a file, and in `serve` for one of many clients, with a
-journal and without; and in `create`, `import`, `load`, `apply`, `batches`, `export` and `check`.
+They fail in `lines`; in `pipe` over a file, with conditions and without, and in `serve` for one of
+many clients, with a journal and without; and in `create`, `import`, `load`, `apply`, `batches`,
+`export` and `check`.
 A stream is answered as with memory, or by a prefix of that and then the 503 or 500 that closes
 the connection, or it ends out of memory before the first answer; one of many clients may be
 let go after any answer. Opened again with memory, the file holds the state before the batch or the
@@ -63,6 +64,19 @@ COLLECTIONS = get("/collections") + get("/collections/lamps")
 STREAM = COLLECTIONS + PAGE + COLLECTIONS + SECOND + COLLECTIONS + PAGE
 STREAM += get("/collections/lamps/items/L9")
 BEFORE_BATCH = 5
+
+
+def under(sent: bytes, field: str) -> bytes:
+    """A request with a further field."""
+    return sent.replace(b"\r\n\r\n", f"\r\n{field}\r\n\r\n".encode(), 1)
+
+
+# The same with conditions: a page that the client has, changes, and a batch under the tag.
+CHANGES = get("/changes?after=0&limit=9")
+CONDITIONAL = COLLECTIONS + PAGE + under(PAGE, 'If-None-Match: "1"') + CHANGES
+CONDITIONAL += under(SECOND, 'If-Match: "1"') + CHANGES + under(PAGE, 'If-Match: "9", "1"')
+CONDITIONAL += under(SECOND.replace(b'"second"', b'"later1"'), 'If-Match: "1"') + PAGE
+OPTIONS = ("--conditional", "--changes")
 # Features, a line each, and a collection of them; and a line of a journal.
 LINES = (
     '{"type":"Feature","id":"L7","geometry":{"type":"Point","coordinates":[7,7]},'
@@ -301,6 +315,11 @@ def run(context: Context) -> None:
     check_create(refuser)
     check_stream(refuser, "pipe", lambda it, file: refuser.start(it, "pipe", file, sent=STREAM))
     check_stream(refuser, "serve", lambda it, file: serve_one(refuser, it, file))
+    check_stream(
+        refuser,
+        "pipe under conditions",
+        lambda it, file: refuser.start(it, "pipe", file, *OPTIONS, sent=CONDITIONAL),
+    )
     check_journal(refuser)
     into: list[Word] = ["--key", "second", "--collection", "lamps"]
     check_command(refuser, "import", text_path(context, "text.json", TEXT), *into)
