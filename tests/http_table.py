@@ -20,8 +20,8 @@ TABLE = ROOT / "crates" / "streetmap_store_tests" / "src" / "rows.rt"
 SOURCE = """\
 //! The rows of HTTP, a JSON object a line: what it shows, the batches that are there before, the
 //! bytes of the requests, and all bytes of the answers. `tests/http_table.py` writes this file from
-//! `examples/http.jsonl`, `examples/conditional.jsonl` and `examples/changes.jsonl`: change those, and
-//! write this one again.
+//! `examples/http.jsonl`, `examples/conditional.jsonl` and `examples/changes.jsonl`: change those,
+//! and write this one again.
 
 /// The number of rows of a service without tags and changes.
 pub(crate) const COUNT: u64 = {count};

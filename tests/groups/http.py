@@ -1,8 +1,9 @@
 """Rows of HTTP to the byte, each over a file of its own, and bodies at their limits.
 
-A row (examples/http.jsonl; examples/conditional.jsonl of a service with tags, examples/changes.jsonl
-of one with tags and changes) has the batches that are there before, the bytes of the requests, and
-all bytes of the answers. A proved test runs the same rows over other keepers, from a table.
+A row (examples/http.jsonl; examples/conditional.jsonl of a service with tags,
+examples/changes.jsonl of one with tags and changes) has the batches that are there before, the
+bytes of the requests, and all bytes of the answers. A proved test runs the same rows over other
+keepers, from a table.
 """
 
 import json

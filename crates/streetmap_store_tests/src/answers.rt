@@ -6,8 +6,8 @@ use streetmap_routes::Base;
 use streetmap_tags::Tagged;
 use streetmap_web::{Site, serve};
 
-/// A keeper's answers to requests, of a service with tags and changes or without both; none if memory
-/// runs out.
+/// A keeper's answers to requests, of a service with tags and changes or without both; none if
+/// memory runs out.
 pub(crate) fn answers<K: Tagged>(
     alloc: Global,
     keeper: &mut K,
