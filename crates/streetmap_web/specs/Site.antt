@@ -4,8 +4,8 @@ use Rattle.streetmap_batch.specs.Text.{Text}
 use Rattle.streetmap_routes.specs.BaseView.{root_of}
 use Rattle.streetmap_web.specs.declared.site.Site.{Site}
 
--- the base of its links without its last slash, whether its answers have tags, and whether it offers
--- changes
+-- the base of its links without its last slash, whether its answers have tags, and whether it
+-- offers changes
 pub record SiteValue : Type 0 where
   pub root : Text
   pub tags : Bool
