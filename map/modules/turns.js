@@ -8,8 +8,8 @@ import { say } from "./words.js";
 /** The longest pause after the first time, and after any, in seconds. */
 const FIRST = 0.5;
 const LONGEST = 8;
-/** From this time on the person is told. */
-const TOLD = 6;
+/** From this time on the page says so. */
+const CROWDED = 6;
 
 /**
  * @param {number} times how often others came first, one after the other
@@ -22,15 +22,15 @@ export function pauseAfter(times, random = Math.random) {
 
 /**
  * @param {number | undefined} times
- * @returns {boolean} whether that is often enough to be told
+ * @returns {boolean} whether that is often enough for the page to say so
  */
 export function isCrowded(times) {
-  return times >= TOLD;
+  return times >= CROWDED;
 }
 
 /**
  * @param {number} times
- * @returns {string} what the person is told; no text as long as that is not needed
+ * @returns {string} what the page says; no text as long as that is not needed
  */
 export function crowdedText(times) {
   if (!isCrowded(times)) return "";

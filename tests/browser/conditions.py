@@ -181,7 +181,7 @@ def follower_of(made: Site, running: contextlib.ExitStack) -> int:
 
 
 def crowded(context: Context) -> None:
-    """Others come first each time: the page goes on, and tells it after a few times."""
+    """Others come first each time: the page goes on, and says so after a few times."""
     with lamp_site(context, "crowded", TAGS) as (made, page):
         change(page, "L01", kind="mine")
         made.relay.before = lambda _: void(made.edit(f"other-{len(made.relay.batches)}"))

@@ -134,7 +134,7 @@ def check_lines(refuser: Refuser) -> None:
         is_whole = ended.stdout.endswith(b"\n") or not ended.stdout
         begun = whole.stdout.startswith(ended.stdout) and is_whole
         refuser.check("lines", number, ended, same or (wants_memory(ended) and begun))
-        counted["as with memory" if same else "ended for want of memory"] += 1
+        counted["as with memory" if same else "ended out of memory"] += 1
     print(f"  lines: {dict(counted)}")
 
 
@@ -190,7 +190,7 @@ def how_it_ended(ended: Ended, whole: Ended, lets_go: bool) -> str | None:
     if ended.stdout == whole.stdout and ended.returncode == 0:
         return "as with memory"
     if wants_memory(ended) and not ended.stdout:
-        return "ended for want of memory before the first answer"
+        return "ended out of memory before the first answer"
     unopened = ended.returncode == 3 and ended.stderr.endswith(b"streetmap: device\n")
     if unopened and not ended.stdout:
         return "the file was not opened"
@@ -199,9 +199,9 @@ def how_it_ended(ended: Ended, whole: Ended, lets_go: bool) -> str | None:
         begun = b"HTTP/1.1 ".join(answers[: count + 1])
         rest = ended.stdout[len(begun) :]
         if lets_go and ended.returncode == 0 and ended.stdout == begun:
-            return "let go behind an answer"
+            return "let go after an answer"
         if ended.stdout.startswith(begun) and rest[:12] in (b"HTTP/1.1 503", b"HTTP/1.1 500"):
-            return f"{rest[9:12].decode()} behind an answer"
+            return f"{rest[9:12].decode()} after an answer"
     return None
 
 
@@ -274,7 +274,7 @@ def check_command(refuser: Refuser, name: str, *more: Word) -> None:
         allowed = same or unopened or (begun and found in (before, after))
         last = (again.returncode, again.stdout, refuser.page(file))
         refuser.check(name, number, ended, allowed and last == (0, whole.stdout, after))
-        kind = "the file was not opened" if unopened else "ended for want of memory"
+        kind = "the file was not opened" if unopened else "ended out of memory"
         counted["as with memory" if same else kind] += 1
     print(f"  {name}: {dict(counted)}")
 

@@ -14,7 +14,7 @@ from messages import Answer, batch, feature, get, open_collection, point, put, r
 
 # Of each client, in the short form and in the long one.
 ROUNDS, SLOW_ROUNDS = 100, 1000
-# After at most so many further batches the server is killed, and at most so many seconds later.
+# The most further batches before the server is killed, and the most seconds after the last one.
 MOST_BETWEEN, MOST_LATER = 6, 0.005
 # In seconds: before a request is sent again that was not answered.
 PAUSE = 0.01

@@ -37,7 +37,7 @@ test("pauses are of random length, grow, and have a bound", () => {
   assert.equal(pauseAfter(3, () => 0.25), 0.5);
 });
 
-test("the person is told after a few times, and not before", () => {
+test("the page says so after a few times, and not before", () => {
   assert.equal(crowdedText(5), "");
   assert.match(crowdedText(6), /^6 times another batch/);
   assert.deepEqual([isCrowded(undefined), isCrowded(5), isCrowded(6)], [false, false, true]);
