@@ -14,9 +14,9 @@ added: deploy/nginx.conf has its form. A figure that cannot be had is left out.
     streetmap_journal_whole         0 if something after that line is no whole line
     streetmap_bytes                 of a `part`: file, log (beside it), journal (all its files)
     streetmap_free_bytes            of the disk with the file
-    streetmap_copy_up               1 if the database of a `copy` answers
+    streetmap_copy_up               1 if the database or the server of a `copy` answers
     streetmap_copy_serial           the last serial of a `copy`: table and mirror (of DATABASE), or
-                                    source (of a follower)
+                                    source (of a follower; of a server if it gives tags)
     streetmap_requests_total        answers of nginx, by `method` and `status`
     streetmap_request_seconds       their times, a histogram
 
@@ -36,8 +36,9 @@ from dataclasses import dataclass
 from pathlib import Path
 from typing import BinaryIO
 
+from journal_changes import Changes, is_address, login_of
 from journal_files import ending_of, last_line, parts_of
-from journal_lines import Away, Fault
+from journal_lines import Away, Fault, path_of
 from prometheus_client import CollectorRegistry, Counter, Histogram, start_http_server
 from prometheus_client.core import GaugeMetricFamily, Metric
 from prometheus_client.registry import Collector
@@ -56,7 +57,7 @@ FIGURES: dict[str, tuple[str, list[str]]] = {
     "streetmap_journal_whole": ("whether the journal ends with a whole line", []),
     "streetmap_bytes": ("sizes of the files", ["part"]),
     "streetmap_free_bytes": ("what is free on the disk of the file", []),
-    "streetmap_copy_up": ("whether the database of a copy answers", ["copy"]),
+    "streetmap_copy_up": ("whether what has a copy answers", ["copy"]),
     "streetmap_copy_serial": ("the last serial of a copy", ["copy"]),
 }
 # A figure of a town: its name, its labels beside the town, and its value.
@@ -109,6 +110,8 @@ class Town:
             with contextlib.suppress(Away, Fault):
                 line = last_line(Path(source))
                 yield "streetmap_copy_serial", ["source"], line.serial if line else 0
+        if is_address(source):
+            yield from self.of_server(source)
         for kind, dsn in (("table", self.setting("DATABASE")), ("source", source)):
             if dsn.startswith(("postgresql://", "postgres://")):
                 yield from self.of_database(kind, dsn)
@@ -119,6 +122,20 @@ class Town:
         line = last_line(journal)
         yield "streetmap_serial", [], line.serial if line else 0
         yield "streetmap_journal_whole", [], ending_of(parts[-1].path).is_whole
+
+    def of_server(self, address: str) -> Iterator[Figure]:
+        """The last serial of the server whose changes are followed."""
+        login, authority = (path_of(self.setting(it)) for it in ("SOURCE_LOGIN", "SOURCE_CA"))
+        try:
+            server = Changes(address, login_of(login), authority, ANSWER_SECONDS)
+            serial = server.last_serial()
+            server.disconnect()
+        except (Away, Fault):
+            yield "streetmap_copy_up", ["source"], 0
+            return
+        yield "streetmap_copy_up", ["source"], 1
+        if serial is not None:
+            yield "streetmap_copy_serial", ["source"], serial
 
     def of_database(self, kind: str, dsn: str) -> Iterator[Figure]:
         """The last serials of a table, and of a mirror beside it."""

@@ -9,6 +9,7 @@ import base64
 import http.client
 import ipaddress
 import os
+import re
 import shlex
 import ssl
 import time
@@ -31,6 +32,8 @@ QUICK_SECONDS, IDLE_SECONDS, LATE_SECONDS = 0.03, 0.2, 30
 AT_ONCE, MOST_OF_ANSWER = 1000, (9 << 20) + MOST_OF_LINE
 # Answers of a server, or of a proxy before it, that is away for now.
 PASSING = (408, 429, 500, 502, 503, 504)
+# The tag of a state, which a proxy that compresses marks as weak. A serial that no batch has.
+TAG, BEYOND = re.compile(r'(?:W/)?"(0|[1-9][0-9]*)"'), (1 << 63) - 1
 
 
 def is_address(text: str) -> bool:
@@ -67,7 +70,13 @@ class Changes:
     there with what was read.
     """
 
-    def __init__(self, address: str, login: str = "", authority: Path | None = None) -> None:
+    def __init__(
+        self,
+        address: str,
+        login: str = "",
+        authority: Path | None = None,
+        answer_seconds: int = ANSWER_SECONDS,
+    ) -> None:
         parts = urlsplit(address)
         self.address, self.host, self.port = address, parts.hostname or "", parts.port
         self.path = parts.path or "/"
@@ -75,6 +84,8 @@ class Changes:
         if login and self.trusted is None and not is_this_machine(self.host):
             raise Fault("bad_login", "a password is sent over https, or to this machine", status=2)
         self.fields = {"Authorization": basic(login)} if login else {}
+        self.connect_seconds = min(CONNECT_SECONDS, answer_seconds)
+        self.answer_seconds = answer_seconds
         self.connection: http.client.HTTPConnection | None = None
         # The last line that was taken. The serial after which there was nothing, and the tag of
         # that answer.
@@ -105,6 +116,12 @@ class Changes:
                 last, digest = line.serial, line.digest(digest)
             self.digested = last, digest
         return digest
+
+    def last_serial(self) -> int | None:
+        """The last serial of the server, by the tag of an answer without lines; None if it gives no
+        tags."""
+        found = TAG.fullmatch(self.requested(BEYOND, 1)[1])
+        return int(found[1]) if found else None
 
     def wait(self) -> None:
         is_late = time.monotonic() - self.moment > LATE_SECONDS
@@ -164,13 +181,13 @@ class Changes:
         if self.connection is None:
             given = (self.host, self.port)
             if self.trusted is None:
-                made = http.client.HTTPConnection(*given, timeout=CONNECT_SECONDS)
+                made = http.client.HTTPConnection(*given, timeout=self.connect_seconds)
             else:
                 made = http.client.HTTPSConnection(
-                    *given, timeout=CONNECT_SECONDS, context=self.trusted
+                    *given, timeout=self.connect_seconds, context=self.trusted
                 )
             made.connect()
-            made.sock.settimeout(ANSWER_SECONDS)
+            made.sock.settimeout(self.answer_seconds)
             self.connection = made
         return self.connection
 

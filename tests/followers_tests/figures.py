@@ -5,7 +5,6 @@ from dataclasses import dataclass
 from pathlib import Path
 
 from followers_tests.load import Client, batch_text
-from followers_tests.postgres import Database
 from followers_tests.processes import DEPLOY, Process, Script, running, wait_until
 from followers_tests.site import Served, Site
 from harness import free_port
@@ -17,7 +16,8 @@ NAMED = re.compile(r"streetmap_[a-z_]+")
 
 @dataclass(frozen=True)
 class Figures:
-    """An exporter over settings of the primary and of the left follower."""
+    """An exporter over settings of the primary and of the followers: one by its database, and one
+    by its changes."""
 
     site: Site
     process: Process
@@ -26,8 +26,9 @@ class Figures:
     def new(cls, site: Site) -> "Figures":
         folder, port = site.context.folder / "settings", free_port()
         folder.mkdir()
-        write(folder, site.first, "DATABASE", site.primary)
-        write(folder, site.left, "SOURCE", site.primary)
+        write(folder, site.first, "DATABASE", site.primary.dsn)
+        write(folder, site.left, "SOURCE", site.primary.dsn)
+        write(folder, site.right, "SOURCE", f"{site.first.url}/changes")
         (folder / "broken.conf").write_bytes(b"\xff")
         log = site.context.folder / site.nginx.name / "access.log"
         words: list[str | Path] = ["--settings", folder, "--data", site.context.folder]
@@ -48,8 +49,8 @@ class Figures:
         return self.read().get((f"streetmap_{name}", labels))
 
 
-def write(folder: Path, served: Served, name: str, database: Database) -> None:
-    lines = [f"PORT={served.port}", f"JOURNAL={served.journal}", f"{name}={database.dsn}", ""]
+def write(folder: Path, served: Served, name: str, value: str) -> None:
+    lines = [f"PORT={served.port}", f"JOURNAL={served.journal}", f"{name}={value}", ""]
     (folder / f"{served.file.name}.conf").write_text("\n".join(lines))
 
 
@@ -77,6 +78,8 @@ def check_whole(figures: Figures) -> None:
         ("bytes", "part=file,town=first", site.first.file.stat().st_size),
         ("copy_up", "copy=table,town=first", 1),
         ("copy_serial", "copy=source,town=left", reply["serial"]),
+        ("copy_up", "copy=source,town=right", 1),
+        ("copy_serial", "copy=source,town=right", reply["serial"]),
     ):
         check(f"{name} {labels}", found.get((f"streetmap_{name}", labels)), wanted)
     check("what is free", found["streetmap_free_bytes", "town=first"] > 0, True)
@@ -100,6 +103,9 @@ def check_away(figures: Figures) -> None:
     site.primary.process.kill()
     check("a database is away", figures.of("copy_up", "copy=table,town=first"), 0)
     site.primary.process.start()
+    site.first.process.kill()
+    check("a server with changes is away", figures.of("copy_up", "copy=source,town=right"), 0)
+    site.first.process.start()
     log = site.context.folder / site.nginx.name / "access.log"
     labels = "method=GET,status=404"
     before = figures.of("requests_total", labels) or 0
