@@ -4,4 +4,5 @@
 mod flat;
 mod fronts;
 mod numbers;
+mod positions;
 mod texts;
