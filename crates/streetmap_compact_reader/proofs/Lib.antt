@@ -3,3 +3,7 @@ pub mod QuotedFronts
 pub mod PositionFronts
 pub mod Listed
 pub mod KeptPositions
+pub mod RingFronts
+pub mod GeometryFronts
+pub mod MemberFronts
+pub mod CompactFacts

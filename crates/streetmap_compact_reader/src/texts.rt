@@ -1,6 +1,7 @@
 //! Texts without escapes (RFC 8259, section 7).
 ghost use Rattle.std.specs.Prelude.{◌≡◌, ◌++◌, ◌∷◌, ◌≤◌, IfSome, IsTrue, take, length};
 ghost use Rattle.std.specs.List.{list_all};
+ghost use Rattle.std.specs.Str.{is_utf8};
 ghost use Rattle.serde_json.specs.Data.{string};
 ghost use Rattle.serde_json.specs.Written.{compact_text};
 ghost use Rattle.streetmap_feature_text.specs.Plain.{is_plain};
@@ -31,6 +32,7 @@ fn plain_len(bytes: &[u8]) -> usize
 fn take_unquoted(rest: &str) -> Option<(&str, &str)>
     ensures text { IfSome result (λ r. rest.now ≡ r.0.now ++ 34 ∷ r.1.now) }
     ensures plain { IfSome result (λ r. IsTrue (list_all is_plain r.0.now)) }
+    ensures utf8 { IfSome result (λ r. IsTrue (is_utf8 r.0.now)) }
 {
     let bytes = rest.as_bytes();
     let end = plain_len(bytes);
@@ -43,7 +45,8 @@ fn take_unquoted(rest: &str) -> Option<(&str, &str)>
 
 /// A text in quotes, if it has no escape, and what follows it.
 pub(crate) fn take_text(rest: &str) -> Option<(&str, &str)>
-    ensures { IfSome result (λ r. rest.now ≡ compact_text (string r.0.now) ++ r.1.now) }
+    ensures text { IfSome result (λ r. rest.now ≡ compact_text (string r.0.now) ++ r.1.now) }
+    ensures utf8 { IfSome result (λ r. IsTrue (is_utf8 r.0.now)) }
 {
     let (text, rest) = take_unquoted(after_byte(rest, b'"')?)?;
     Some((text, rest))
