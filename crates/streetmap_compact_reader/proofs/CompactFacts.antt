@@ -21,7 +21,7 @@ use Rattle.streetmap_feature_text.proofs.Again as again
 use Rattle.streetmap_feature_text.proofs.WrittenFeatures.{text_is_json}
 use Rattle.streetmap_feature_text.proofs.WrittenParts.{feature_text_is}
 use Rattle.streetmap_compact_reader.specs.declared.flat.Flat.{Flat}
-use Rattle.streetmap_compact_reader.specs.Fronts.{IsGeometryFront, ArePropertiesFront}
+use Rattle.streetmap_compact_reader.specs.Fronts.{IsGeometryFront, AreProperties}
 use Rattle.streetmap_compact_reader.specs.Compact.{IsCompactOf}
 
 -- what is written for a feature reads as that feature, with the time that its property says
@@ -49,11 +49,10 @@ read_again : (property : Option (List ℕ)) (text : List ℕ) (f : FeatureValue)
 read_again property text f h written said =
     ap (λ r. r >>= feature property) (ap json_of written ∙ text_is_json f h) ∙ wholes.feature_again None property (feature_data f) f (timed_again property f h said)
 
-
-pub compact_feature : (property : Option (List ℕ)) (text opened placed identified named described typed end id : List ℕ) (extent : Option BoxValue) (found : Option Flat) (time : Option IntervalValue)
+pub compact_feature : (property : Option (List ℕ)) (text opened placed identified named described typed id : List ℕ) (extent : Option BoxValue) (found : Option Flat) (time : Option IntervalValue)
     → text ≡ codes "{\"geometry\":" ++ opened → IsGeometryFront opened placed extent → placed ≡ codes ",\"id\":" ++ identified → identified ≡ compact_text (string id) ++ named → is_utf8 id ≡ true → is_id id ≡ true
-    → named ≡ codes ",\"properties\":" ++ described → (p : ArePropertiesFront described typed property found) → typed ≡ codes ",\"type\":\"Feature\"}" ++ end → end ≡ [] → time_of property p.properties ≡ Ok time → IsCompactOf property text id extent time
-compact_feature property text opened placed identified named described typed end id extent found time a g b i utf8 is c p d ended said =
+    → named ≡ codes ",\"properties\":" ++ described → (p : AreProperties described typed property found) → typed ≡ codes ",\"type\":\"Feature\"}" → time_of property p.properties ≡ Ok time → IsCompactOf property text id extent time
+compact_feature property text opened placed identified named described typed id extent found time a g b i utf8 is c p d said =
     let f : FeatureValue = record { id = id; geometry = g.geometry; properties = p.properties; time = time } in
     let h : IsFeature f = record {
       named = is;
@@ -71,7 +70,7 @@ compact_feature property text opened placed identified named described typed end
     let id_text = compact_text (string id) in
     let said_text = compact_text p.properties in
     let written : text ≡ compact_text (feature_data f) =
-    a ∙ ap (λ (t : List ℕ). codes "{\"geometry\":" ++ t) (g.text ∙ ap (λ (t : List ℕ). placed_text ++ t) (b ∙ ap (λ (t : List ℕ). codes ",\"id\":" ++ t) (i ∙ ap (λ (t : List ℕ). id_text ++ t) (c ∙ ap (λ (t : List ℕ). codes ",\"properties\":" ++ t) (p.text ∙ ap (λ (t : List ℕ). said_text ++ t) (d ∙ ap (λ (t : List ℕ). codes ",\"type\":\"Feature\"}" ++ t) ended))))))
+    a ∙ ap (λ (t : List ℕ). codes "{\"geometry\":" ++ t) (g.text ∙ ap (λ (t : List ℕ). placed_text ++ t) (b ∙ ap (λ (t : List ℕ). codes ",\"id\":" ++ t) (i ∙ ap (λ (t : List ℕ). id_text ++ t) (c ∙ ap (λ (t : List ℕ). codes ",\"properties\":" ++ t) (p.text ∙ ap (λ (t : List ℕ). said_text ++ t) d)))))
     ∙ feature_text_is f in
     record {
       feature = f;

@@ -8,7 +8,7 @@ use Rattle.streetmap_grid.specs.WellFormed.{IsInGrid}
 use Rattle.streetmap_grid.specs.Extent.{positions_extent, extent_of}
 use Rattle.streetmap_feature_text.specs.Written.{position_data, coordinates_data, name_of}
 use Rattle.streetmap_feature_text.proofs.WrittenParts.{simple_parts, simple_text_is}
-use Rattle.streetmap_compact_reader.specs.Fronts.{ArePositions, ArePolygonFront, AreCoordinates, IsGeometryFront}
+use Rattle.streetmap_compact_reader.specs.Fronts.{ArePositions, IsPolygonFront, AreCoordinates, IsGeometryFront}
 use Rattle.streetmap_compact_reader.specs.declared.positions.Positions.{Positions}
 use Rattle.streetmap_compact_reader.proofs.RingFronts.{line_count_is}
 
@@ -47,7 +47,7 @@ points_front before typed after kept h type =
       reaches = h.are.reaches;
     }
 
-pub polygon_front : (before typed after : List ℕ) (extent : BoxValue) → ArePolygonFront before typed extent → typed ≡ codes ",\"type\":\"Polygon\"}" ++ after → AreCoordinates before after extent
+pub polygon_front : (before typed after : List ℕ) (extent : BoxValue) → IsPolygonFront before typed extent → typed ≡ codes ",\"type\":\"Polygon\"}" ++ after → AreCoordinates before after extent
 polygon_front before typed after extent h type = record {
   simple = values.polygon h.rings;
   text = h.text ∙ ap (λ (t : List ℕ). compact_text (coordinates_data (values.polygon h.rings)) ++ t) type;

@@ -11,7 +11,7 @@ use Rattle.streetmap_grid.specs.Extent.{positions_extent, union}
 use Rattle.streetmap_grid.specs.Ring.{last_from, edge_area, edges_area, double_area}
 use Rattle.streetmap_grid.proofs.Growing.{extent_both, positions_extent_is, same_extent}
 use Rattle.streetmap_geojson.specs.ParsedGeometries.{max_positions}
-use Rattle.streetmap_compact_reader.specs.Fronts.{IsOf}
+use Rattle.streetmap_compact_reader.specs.Fronts.{IsKeptOf}
 use Rattle.streetmap_compact_reader.specs.declared.positions.Positions.{Positions}
 
 pub last_more : (a : PositionValue) (bs : List PositionValue) (q : PositionValue) → last_from a (bs ++ q ∷ []) ≡ q
@@ -35,8 +35,8 @@ extent_joined p ps q qs =
     (positions_extent_is p (ps ++ (q ∷ qs)))
     (extent_both (p ∷ ps) (q ∷ qs) (positions_extent (p ∷ ps)) (positions_extent (q ∷ qs)) (positions_extent_is p ps) (positions_extent_is q qs))
 
-pub next_kept : (first : PositionValue) (others : List PositionValue) (next : PositionValue) (kept more : Positions) → IsOf first others kept → kept.count < 100000 → more.count ≡ kept.count + 1 → position_value more.first ≡ position_value kept.first
-    → box_value more.extent ≡ union (box_value kept.extent) (positions_extent (next ∷ [])) → position_value more.last ≡ next → more.area ≡ kept.area +ℤ edge_area (position_value kept.last, next) → IsInGrid next → IsOf first (others ++ next ∷ []) more
+pub next_kept : (first : PositionValue) (others : List PositionValue) (next : PositionValue) (kept more : Positions) → IsKeptOf first others kept → kept.count < 100000 → more.count ≡ kept.count + 1 → position_value more.first ≡ position_value kept.first
+    → box_value more.extent ≡ union (box_value kept.extent) (positions_extent (next ∷ [])) → position_value more.last ≡ next → more.area ≡ kept.area +ℤ edge_area (position_value kept.last, next) → IsInGrid next → IsKeptOf first (others ++ next ∷ []) more
 next_kept first others next kept more h few count start extent last area inside =
     record {
       starts = start ∙ h.starts;

@@ -16,7 +16,7 @@ use Rattle.streetmap_feature_text.specs.Written.{number_data}
 use Rattle.streetmap_compact_reader.specs.declared.flat.Flat.{Flat}
 use Rattle.streetmap_compact_reader.specs.declared.flat.Flat.TheVariants as flat
 use Rattle.streetmap_compact_reader.specs.Flat.{flat_data, found_or}
-use Rattle.streetmap_compact_reader.specs.Fronts.{AreMembers, ArePropertiesFront}
+use Rattle.streetmap_compact_reader.specs.Fronts.{AreMembers, AreProperties}
 
 -- ---- values
 
@@ -164,7 +164,7 @@ all_members start rest after last property found h e = record {
 
 -- ---- properties
 
-pub object_front : (before opened after : List ℕ) (property : Option (List ℕ)) (found : Option Flat) → before ≡ 123 ∷ opened → AreMembers opened after property found → ArePropertiesFront before after property found
+pub object_front : (before opened after : List ℕ) (property : Option (List ℕ)) (found : Option Flat) → before ≡ 123 ∷ opened → AreMembers opened after property found → AreProperties before after property found
 object_front before opened after property found brace h = record {
   properties = object h.members;
   text = brace ∙ ap (λ (t : List ℕ). 123 ∷ t) h.text;
@@ -179,7 +179,7 @@ none_said : (property : Option (List ℕ)) → IfSome property (λ p. (let none 
 none_said None = tt
 none_said (Some p) = refl
 
-pub empty_front : (before opened after : List ℕ) (property : Option (List ℕ)) → before ≡ 123 ∷ opened → opened ≡ 125 ∷ after → ArePropertiesFront before after property None
+pub empty_front : (before opened after : List ℕ) (property : Option (List ℕ)) → before ≡ 123 ∷ opened → opened ≡ 125 ∷ after → AreProperties before after property None
 empty_front before opened after property brace closed = record {
   properties = object no_members;
   text = brace ∙ ap (λ (t : List ℕ). 123 ∷ t) closed;
@@ -190,7 +190,7 @@ empty_front before opened after property brace closed = record {
   said = none_said property;
 }
 
-pub null_front : (before after : List ℕ) (property : Option (List ℕ)) → before ≡ codes "null" ++ after → ArePropertiesFront before after property None
+pub null_front : (before after : List ℕ) (property : Option (List ℕ)) → before ≡ codes "null" ++ after → AreProperties before after property None
 null_front before after property text = record {
   properties = null;
   text = text;

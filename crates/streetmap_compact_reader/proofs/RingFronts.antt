@@ -11,7 +11,7 @@ use Rattle.streetmap_grid.specs.WellFormed.{IsRing}
 use Rattle.streetmap_grid.specs.Extent.{positions_extent, polygon_vertices, union}
 use Rattle.streetmap_grid.specs.Ring.{is_same, is_wrong, is_right, is_closed, is_oriented_polygon}
 use Rattle.streetmap_geojson.specs.Meaning.{counts, line_count, polygon_count}
-use Rattle.streetmap_compact_reader.specs.Fronts.{IsOf, ArePositions, IsRingFront, AreRings, ArePolygonFront}
+use Rattle.streetmap_compact_reader.specs.Fronts.{IsKeptOf, ArePositions, IsRingFront, AreRings, IsPolygonFront}
 use Rattle.streetmap_compact_reader.specs.declared.positions.Positions.{Positions}
 use Rattle.streetmap_compact_reader.proofs.KeptPositions.{extent_joined}
 

@@ -24,33 +24,33 @@ use Rattle.streetmap_compact_reader.specs.declared.positions.Positions.{Position
 use Rattle.streetmap_compact_reader.specs.Flat.{flat_data}
 
 -- what is kept is that of these positions: the first one and the others
-pub record IsOf (first : PositionValue) (others : List PositionValue) (kept : Positions) : Type 0
-    where
-  pub starts : position_value kept.first ≡ first
-  pub inside : All IsInGrid (first ∷ others)
-  pub counted : kept.count ≡ length (first ∷ others)
-  pub few : kept.count ≤ max_positions
-  pub reaches : box_value kept.extent ≡ positions_extent (first ∷ others)
-  pub ends : position_value kept.last ≡ last_from first others
-  pub around : kept.area ≡ double_area (first ∷ others)
+pub record IsKeptOf (first : PositionValue) (others : List PositionValue) (kept : Positions) : Type 0
+  where
+    pub starts : position_value kept.first ≡ first
+    pub inside : All IsInGrid (first ∷ others)
+    pub counted : kept.count ≡ length (first ∷ others)
+    pub few : kept.count ≤ max_positions
+    pub reaches : box_value kept.extent ≡ positions_extent (first ∷ others)
+    pub ends : position_value kept.last ≡ last_from first others
+    pub around : kept.area ≡ double_area (first ∷ others)
 
 -- an array of positions, of which this is kept
 pub record ArePositions (before after : List ℕ) (kept : Positions) : Type 0 where
   pub first : PositionValue
   pub others : List PositionValue
   pub text : before ≡ compact_text (line_data (first ∷ others)) ++ after
-  pub are : IsOf first others kept
+  pub are : IsKeptOf first others kept
 
 -- a ring that runs in the right direction, of which this is kept
 pub record IsRingFront (hole : Bool) (before after : List ℕ) (kept : Positions) : Type 0 where
   pub first : PositionValue
   pub others : List PositionValue
   pub text : before ≡ compact_text (line_data (first ∷ others)) ++ after
-  pub are : IsOf first others kept
+  pub are : IsKeptOf first others kept
   pub ring : IsRing (first ∷ others)
   pub right : IsTrue (is_right hole (first ∷ others))
 
--- the rings of a polygon: so many positions, with this extent
+-- the rings of a polygon, with that number of positions and this extent
 pub record AreRings (exterior : List PositionValue) (holes : List (List PositionValue)) (count : ℕ)
     (extent : BoxValue) : Type 0 where
   pub rings : IsPolygon (exterior ∷ holes)
@@ -60,7 +60,7 @@ pub record AreRings (exterior : List PositionValue) (holes : List (List Position
   pub reaches : extent ≡ positions_extent (polygon_vertices (exterior ∷ holes))
 
 -- an array of the rings of a polygon with this extent
-pub record ArePolygonFront (before after : List ℕ) (extent : BoxValue) : Type 0 where
+pub record IsPolygonFront (before after : List ℕ) (extent : BoxValue) : Type 0 where
   pub rings : List (List PositionValue)
   pub text : before ≡ compact_text (polygon_data rings) ++ after
   pub made : IsPolygon rings
@@ -102,7 +102,7 @@ pub record AreMembers (before after : List ℕ) (name : Option (List ℕ)) (foun
   pub said : IfSome name (λ n. get_member n members ≡ option_map flat_data found)
 
 -- the properties of a feature; the one of that name, if a name is given, is the one found
-pub record ArePropertiesFront (before after : List ℕ) (name : Option (List ℕ))
+pub record AreProperties (before after : List ℕ) (name : Option (List ℕ))
     (found : Option Flat) : Type 0 where
   pub properties : Data
   pub text : before ≡ compact_text properties ++ after

@@ -1,5 +1,5 @@
 //! Features, read from their compact texts (RFC 7946, section 3.2).
-ghost use Rattle.std.specs.Prelude.{IfSome, option_map};
+ghost use Rattle.std.specs.Prelude.{◌≡◌, IfSome, IsTrue, codes, option_map};
 ghost use Rattle.streetmap_grid.specs.Views.{box_value};
 ghost use Rattle.streetmap_moment.specs.Views.{interval_value};
 ghost use Rattle.streetmap_compact_reader.specs.Compact.{IsCompactOf};
@@ -25,14 +25,21 @@ pub struct CompactFeature<'a> {
     pub time: Option<Interval>,
 }
 
-/// The feature whose compact text this is, with its time by the property of that name, or no time
-/// without a name; none if the text has not the usual form, which says nothing of it.
+/// Whether this is the last member of a feature, and nothing follows it.
+fn is_end(typed: &str) -> bool
+    ensures { IsTrue result → typed.now ≡ codes ",\"type\":\"Feature\"}" }
+{
+    typed == ",\"type\":\"Feature\"}"
+}
+
+/// The feature whose compact text this is, with its time by the property of that name, or without
+/// a time if no name is given. None says nothing of the text. No memory is taken.
 ///
-/// The usual form is compact JSON (RFC 8259) of a Feature (RFC 7946, section 3.2) with exactly the
+/// What is read is compact JSON (RFC 8259) of a Feature (RFC 7946, section 3.2) with exactly the
 /// members `geometry`, `id`, `properties` and `type`, in this order. The geometry is null, a Point,
-/// a MultiPoint, a LineString or a Polygon. Texts have no escapes, the properties are null or an
-/// object whose names are in byte order and whose values are texts, whole numbers of at most 15
-/// digits, true, false or null. It takes no memory.
+/// a MultiPoint, a LineString or a Polygon of at most 100,000 positions. The properties are null or
+/// an object with its names in byte order, whose values are texts, whole numbers of at most 15
+/// digits, true, false or null. No text has an escape.
 pub fn read_compact<'a>(text: &'a str, time_property: Option<&str>) -> Option<CompactFeature<'a>>
     ensures { IfSome result (λ c. IsCompactOf (option_map (λ s. s.now) time_property.entry)
         text.now c.id.now (option_map box_value c.extent) (option_map interval_value c.time)) }
@@ -42,8 +49,7 @@ pub fn read_compact<'a>(text: &'a str, time_property: Option<&str>) -> Option<Co
     let (id, named) = take_text(after(placed, ",\"id\":")?)?;
     let described = after(named, ",\"properties\":")?;
     let (found, typed) = take_properties(described, time_property)?;
-    let end = after(typed, ",\"type\":\"Feature\"}")?;
-    if !end.is_empty() || !is_id(id) {
+    if !is_end(typed) || !is_id(id) {
         return None;
     }
     let time = time_under(time_property, found)?;

@@ -6,27 +6,30 @@ ghost use Rattle.streetmap_grid.specs.Views.{position_value, box_value};
 ghost use Rattle.streetmap_grid.specs.Extent.{positions_extent};
 ghost use Rattle.streetmap_grid.specs.Ring.{edge_area};
 ghost use Rattle.streetmap_feature_text.specs.Written.{height_text, position_data};
-ghost use Rattle.streetmap_compact_reader.specs.Fronts.{IsOf, ArePositions};
+ghost use Rattle.streetmap_compact_reader.specs.Fronts.{IsKeptOf, ArePositions};
 
 use crate::fronts::{after_byte, first_byte};
 use crate::numbers::take_number;
 use streetmap_grid::{GridBox, Position};
 
-/// What is kept of the positions of an array, of which there is one at least.
+/// The greatest number of positions of a feature.
+pub(crate) const MAX_POSITIONS: usize = 100_000;
+
+/// What is kept of the positions of an array, one at least.
 #[derive(Clone, Copy)]
 pub(crate) struct Positions {
-    /// How many they are.
+    /// Their number, from 1 to 100,000.
     pub(crate) count: usize,
     /// Their extent, in millimetres.
     pub(crate) extent: GridBox,
     pub(crate) first: Position,
     pub(crate) last: Position,
-    /// Twice the area between their edges and the origin, in square millimetres: above zero for a
+    /// The sum over their edges of `ax * by - bx * ay`, in square millimetres: above zero for a
     /// ring that runs counterclockwise.
     pub(crate) area: i64,
 }
 
-/// A height, if there is one, the bracket that closes its position, and what follows.
+/// A height, if any, with the bracket that closes its position, and what follows it.
 fn take_height(rest: &str) -> Option<(Option<i64>, &str)>
     ensures { IfSome result (λ r. rest.now ≡ height_text r.0 ++ 93 ∷ r.1.now) }
 {
@@ -69,7 +72,7 @@ pub(crate) fn extent_at(position: Position) -> GridBox
     }
 }
 
-/// Twice the area between an edge and the origin, in square millimetres, if it is not too large.
+/// Twice the area between an edge and the origin, in square millimetres, if it fits.
 fn edge_area(from: Position, to: Position) -> Option<i64>
     ensures { IfSome result (λ area. area ≡ edge_area (position_value from, position_value to)) }
 {
@@ -79,12 +82,9 @@ fn edge_area(from: Position, to: Position) -> Option<i64>
     Some(area)
 }
 
-/// The most positions of a feature that is read.
-pub(crate) const MAX_POSITIONS: usize = 100_000;
-
 /// What is kept of one position.
 fn kept_of(position: Position) -> Positions
-    ensures { IsOf (position_value position) [] result }
+    ensures { IsKeptOf (position_value position) [] result }
 {
     Positions {
         count: 1,
@@ -95,10 +95,10 @@ fn kept_of(position: Position) -> Positions
     }
 }
 
-/// What is kept of the positions with one more, unless they are too many or the area is too large.
+/// What is kept of the positions with one more, unless they are too many or the sum does not fit.
 fn with_next(kept: Positions, next: Position) -> Option<Positions>
     ensures { IfSome result (λ more. (first : PositionValue) (others : List PositionValue)
-        → IsOf first others kept → IsOf first (others ++ position_value next ∷ []) more) }
+        → IsKeptOf first others kept → IsKeptOf first (others ++ position_value next ∷ []) more) }
 {
     if kept.count >= MAX_POSITIONS {
         return None;

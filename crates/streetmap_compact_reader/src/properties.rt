@@ -8,7 +8,7 @@ ghost use Rattle.serde_json.specs.Find.{get_member};
 ghost use Rattle.serde_json.specs.Written.{compact_text};
 ghost use Rattle.streetmap_json.specs.ExactData.{is_exact};
 ghost use Rattle.streetmap_compact_reader.specs.Flat.{flat_data, found_or};
-ghost use Rattle.streetmap_compact_reader.specs.Fronts.{AreMembers, ArePropertiesFront};
+ghost use Rattle.streetmap_compact_reader.specs.Fronts.{AreMembers, AreProperties};
 
 use crate::flat::{Flat, take_flat};
 use crate::fronts::{after, after_byte};
@@ -42,13 +42,7 @@ fn found_with<'a>(
     };
     match found {
         Some(_) => found,
-        None => {
-            if property == name {
-                Some(value)
-            } else {
-                None
-            }
-        }
+        None => { if property == name { Some(value) } else { None } }
     }
 }
 
@@ -86,7 +80,7 @@ pub(crate) fn take_properties<'a>(
     rest: &'a str,
     property: Option<&str>,
 ) -> Option<(Option<Flat<'a>>, &'a str)>
-    ensures { IfSome result (λ r. ArePropertiesFront rest.now r.1.now
+    ensures { IfSome result (λ r. AreProperties rest.now r.1.now
         (option_map (λ s. s.now) property.entry) r.0) }
 {
     let Some(opened) = after_byte(rest, b'{') else {

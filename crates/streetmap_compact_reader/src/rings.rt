@@ -2,7 +2,7 @@
 ghost use Rattle.std.specs.Prelude.{◌≡◌, IfSome};
 ghost use Rattle.streetmap_grid.specs.Ring.{is_same, is_wrong};
 ghost use Rattle.streetmap_grid.specs.Views.{position_value, box_value};
-ghost use Rattle.streetmap_compact_reader.specs.Fronts.{IsRingFront, ArePolygonFront};
+ghost use Rattle.streetmap_compact_reader.specs.Fronts.{IsRingFront, IsPolygonFront};
 
 use crate::fronts::after_byte;
 use crate::positions::{MAX_POSITIONS, Positions, take_positions};
@@ -36,7 +36,7 @@ fn take_ring(rest: &str, hole: bool) -> Option<(Positions, &str)>
 
 /// The extent of the rings of a polygon, and what follows their array.
 pub(crate) fn take_rings(rest: &str) -> Option<(GridBox, &str)>
-    ensures { IfSome result (λ r. ArePolygonFront rest.now r.1.now (box_value r.0)) }
+    ensures { IfSome result (λ r. IsPolygonFront rest.now r.1.now (box_value r.0)) }
 {
     let (exterior, following) = take_ring(after_byte(rest, b'[')?, false)?;
     let mut count = exterior.count;

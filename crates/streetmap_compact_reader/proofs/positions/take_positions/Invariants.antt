@@ -3,7 +3,7 @@ use denote.Text.{Utf8}
 use denote.Shadow.{shadow}
 use Rattle.streetmap_grid.specs.Values.{PositionValue}
 use Rattle.streetmap_feature_text.specs.Written.{position_data}
-use Rattle.streetmap_compact_reader.specs.Fronts.{IsOf}
+use Rattle.streetmap_compact_reader.specs.Fronts.{IsKeptOf}
 use Rattle.streetmap_compact_reader.proofs.Listed.{Listed}
 use Rattle.streetmap_compact_reader.proofs.positions.take_positions.Given as goal
 
@@ -14,7 +14,7 @@ invariant-loop-apart l = record {
   first : PositionValue;
   others : List PositionValue;
   text : Listed position_data l.fn.rest l.after (first ∷ others);
-  are : IsOf first others l.kept;
+  are : IsKeptOf first others l.kept;
 }
 
 abbrev pub decreases-loop-apart : goal.decreases-loop-apart
