@@ -1,5 +1,5 @@
 -- A geometry at the front of a text, from its coordinates and its type.
-use Rattle.std.proofs.Common.{◌≡◌, ℕ, ◌≤◌, true, List, [], ◌∷◌, ◌++◌, Option, None, Some, codes, refl, ap, sym, ◌∙◌, arith, append_assoc}
+use Rattle.std.proofs.Common.{◌≡◌, ℕ, ◌≤◌, List, [], ◌∷◌, ◌++◌, None, Some, codes, refl, ap, ◌∙◌, arith, append_assoc}
 use Rattle.serde_json.specs.Written.{compact_text}
 use Rattle.streetmap_grid.specs.Values as values
 use Rattle.streetmap_grid.specs.Values.{PositionValue, SimpleValue, BoxValue}
@@ -7,7 +7,7 @@ use Rattle.streetmap_grid.specs.Views.{box_value}
 use Rattle.streetmap_grid.specs.WellFormed.{IsInGrid}
 use Rattle.streetmap_grid.specs.Extent.{positions_extent, extent_of}
 use Rattle.streetmap_feature_text.specs.Written.{position_data, coordinates_data, name_of}
-use Rattle.streetmap_feature_text.proofs.WrittenParts.{simple_parts, simple_text_is}
+use Rattle.streetmap_feature_text.proofs.WrittenParts.{simple_text_is}
 use Rattle.streetmap_compact_reader.specs.Fronts.{ArePositions, IsPolygonFront, AreCoordinates, IsGeometryFront}
 use Rattle.streetmap_compact_reader.specs.declared.positions.Positions.{Positions}
 use Rattle.streetmap_compact_reader.proofs.RingFronts.{line_count_is}

@@ -1,5 +1,5 @@
 -- What is kept of positions, with one more of them.
-use Rattle.std.proofs.Common.{◌≡◌, ℕ, ◌+◌, ◌<◌, ◌≤◌, ℤ, pos, ◌+ℤ◌, List, [], ◌∷◌, ◌++◌, All, length, refl, ap, ap₂, sym, ◌∙◌, arith}
+use Rattle.std.proofs.Common.{◌≡◌, ◌+◌, ◌<◌, ℤ, pos, ◌+ℤ◌, List, [], ◌∷◌, ◌++◌, refl, ap, ap₂, sym, ◌∙◌, arith}
 use Rattle.std.proofs.lemmas.Int.{ints}
 use Rattle.std.proofs.lemmas.List.{length-append}
 use Rattle.std.proofs.lemmas.List.Elements.{All-push}
@@ -8,9 +8,8 @@ use Rattle.streetmap_grid.specs.Views.{position_value, box_value}
 use Rattle.streetmap_grid.specs.WellFormed.{IsInGrid}
 use Rattle.streetmap_grid.specs.Edges.{edges_from}
 use Rattle.streetmap_grid.specs.Extent.{positions_extent, union}
-use Rattle.streetmap_grid.specs.Ring.{last_from, edge_area, edges_area, double_area}
+use Rattle.streetmap_grid.specs.Ring.{last_from, edge_area, edges_area}
 use Rattle.streetmap_grid.proofs.Growing.{extent_both, positions_extent_is, same_extent}
-use Rattle.streetmap_geojson.specs.ParsedGeometries.{max_positions}
 use Rattle.streetmap_compact_reader.specs.Fronts.{IsKeptOf}
 use Rattle.streetmap_compact_reader.specs.declared.positions.Positions.{Positions}
 

@@ -1,5 +1,5 @@
 -- Members of an object, read one after another.
-use Rattle.std.proofs.Common.{◌≡◌, ℕ, ◌≤◌, true, false, ◌&&◌, Bool, IsTrue, IfSome, List, [], ◌∷◌, ◌++◌, Option, None, Some, option_map, Less, Equal, Greater, ℤ, pos, negsuc, refl, ap, ap₂, subst, sym, ◌∙◌, arith, append_assoc, codes}
+use Rattle.std.proofs.Common.{◌≡◌, ℕ, ◌≤◌, true, false, IfSome, List, ◌∷◌, ◌++◌, Option, None, Some, option_map, Less, Equal, Greater, ℤ, pos, negsuc, refl, ap, subst, sym, ◌∙◌, arith, append_assoc, codes}
 use Rattle.std.specs.Ordering.{nat_cmp, is_lt, is_eq, match_ordering}
 use Rattle.std.specs.declared.cmp.Ordering.{Ordering}
 use Rattle.std.specs.Borrow.{Bor}
@@ -9,7 +9,7 @@ use Rattle.std.proofs.lemmas.Bool.{and_parts}
 use Rattle.std.proofs.lemmas.Cmp.{nat_list_cmp_total}
 use Rattle.std.proofs.lemmas.Map.Text.{is_eq-slice_cmp}
 use Rattle.serde_json.specs.Data.{Data, null, object, string, Members, no_members, member, depth, members_depth}
-use Rattle.serde_json.specs.Find.{get_member, of_integer}
+use Rattle.serde_json.specs.Find.{get_member}
 use Rattle.serde_json.specs.Written.{compact_text, members_text, has_float, members_have_float}
 use Rattle.streetmap_json.specs.ExactData.{is_exact, is_before, are_exact_members}
 use Rattle.streetmap_feature_text.specs.Written.{number_data}

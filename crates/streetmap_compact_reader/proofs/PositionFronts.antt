@@ -1,8 +1,8 @@
 -- A position at the front of a text, from its parts.
-use Rattle.std.proofs.Common.{◌≡◌, ℕ, ℤ, List, [], ◌∷◌, ◌++◌, Option, ap, sym, ◌∙◌, append_assoc}
+use Rattle.std.proofs.Common.{◌≡◌, ℕ, ℤ, List, [], ◌∷◌, ◌++◌, Option, ap, ◌∙◌, append_assoc}
 use Rattle.serde_json.specs.Written.{compact_text}
 use Rattle.streetmap_feature_text.specs.Written.{number_data, height_text, position_data}
-use Rattle.streetmap_feature_text.proofs.WrittenParts.{position_parts, position_text_is}
+use Rattle.streetmap_feature_text.proofs.WrittenParts.{position_text_is}
 
 regrouped : (a b c after : List ℕ) → 91 ∷ (a ++ (44 ∷ (b ++ (c ++ 93 ∷ after)))) ≡ (91 ∷ (a ++ (44 ∷ (b ++ (c ++ 93 ∷ []))))) ++ after
 regrouped a b c after = simp append_assoc

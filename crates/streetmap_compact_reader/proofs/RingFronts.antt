@@ -1,7 +1,7 @@
 -- Rings of a polygon, one after another.
-use Rattle.std.proofs.Common.{◌≡◌, ℕ, ◌+◌, ◌≤◌, ◌&&◌, Bool, true, false, not, IsTrue, List, [], ◌∷◌, ◌++◌, All, length, refl, ap, ap₂, sym, ◌∙◌, arith, append_assoc, ℤ}
+use Rattle.std.proofs.Common.{◌≡◌, ℕ, ◌+◌, ◌≤◌, ◌&&◌, Bool, true, false, not, IsTrue, List, [], ◌∷◌, ◌++◌, length, refl, ap, ap₂, sym, ◌∙◌, arith, append_assoc, ℤ}
 use Rattle.std.specs.List.{list_all, flat_map}
-use Rattle.std.proofs.lemmas.List.{length-append, append-nil}
+use Rattle.std.proofs.lemmas.List.{append-nil}
 use Rattle.std.proofs.lemmas.List.Elements.{All-push, All-cons, All-nil}
 use Rattle.std.proofs.lemmas.List.Folds.{list_all-append}
 use Rattle.std.proofs.lemmas.Grind.{flat_map-append}
@@ -9,9 +9,9 @@ use Rattle.streetmap_grid.specs.Values.{PositionValue, BoxValue}
 use Rattle.streetmap_grid.specs.Views.{position_value, box_value}
 use Rattle.streetmap_grid.specs.WellFormed.{IsRing}
 use Rattle.streetmap_grid.specs.Extent.{positions_extent, polygon_vertices, union}
-use Rattle.streetmap_grid.specs.Ring.{is_same, is_wrong, is_right, is_closed, is_oriented_polygon}
-use Rattle.streetmap_geojson.specs.Meaning.{counts, line_count, polygon_count}
-use Rattle.streetmap_compact_reader.specs.Fronts.{IsKeptOf, ArePositions, IsRingFront, AreRings, IsPolygonFront}
+use Rattle.streetmap_grid.specs.Ring.{is_same, is_wrong, is_right, is_closed}
+use Rattle.streetmap_geojson.specs.Meaning.{counts, line_count}
+use Rattle.streetmap_compact_reader.specs.Fronts.{ArePositions, IsRingFront, AreRings}
 use Rattle.streetmap_compact_reader.specs.declared.positions.Positions.{Positions}
 use Rattle.streetmap_compact_reader.proofs.KeptPositions.{extent_joined}
 

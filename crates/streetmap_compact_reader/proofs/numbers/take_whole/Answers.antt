@@ -1,4 +1,4 @@
-use Rattle.std.proofs.Common.{◌≡◌, ◌<◌, ◌^◌, ap, sym, ◌∙◌, ◌++◌, decimal, arith, rules}
+use Rattle.std.proofs.Common.{ap, sym, ◌∙◌, ◌++◌, decimal, arith, rules}
 use Rattle.streetmap_compact_reader.proofs.Digits.{first_digit, more_digits}
 use Rattle.streetmap_compact_reader.proofs.numbers.take_whole.Goals as goal
 

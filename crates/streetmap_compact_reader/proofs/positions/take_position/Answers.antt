@@ -1,4 +1,4 @@
-use Rattle.std.proofs.Common.{List, ℕ, ◌++◌, ap, sym, ◌∙◌, FitsSigned, w64, rules}
+use Rattle.std.proofs.Common.{◌++◌, ap, sym, ◌∙◌, FitsSigned, w64, rules}
 use Rattle.std.proofs.lemmas.Int.{to_z-of_z}
 use Rattle.serde_json.specs.Written.{compact_text}
 use Rattle.streetmap_grid.specs.Values.{PositionValue}

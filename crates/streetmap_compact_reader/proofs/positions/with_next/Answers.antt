@@ -1,8 +1,7 @@
-use Rattle.std.proofs.Common.{◌≡◌, ◌+ℤ◌, refl, ◌∙◌, ap, arith, FitsSigned, w64, rules}
-use Rattle.std.proofs.lemmas.Int.{ints, to_z-of_z}
+use Rattle.std.proofs.Common.{refl, ◌∙◌, ap, arith}
+use Rattle.std.proofs.lemmas.Int.{ints}
 use Rattle.streetmap_grid.specs.Views.{position_value, box_value}
 use Rattle.streetmap_grid.specs.Extent.{union}
-use Rattle.streetmap_grid.specs.Ring.{edge_area}
 use Rattle.streetmap_grid.proofs.Facts.{position_facts}
 use Rattle.streetmap_compact_reader.proofs.KeptPositions.{next_kept}
 use Rattle.streetmap_compact_reader.proofs.positions.with_next.Goals as goal
