@@ -24,15 +24,15 @@ use Rattle.streetmap_compact_reader.specs.declared.positions.Positions.{Position
 use Rattle.streetmap_compact_reader.specs.Flat.{flat_data}
 
 -- what is kept is that of these positions: the first one and the others
-pub record IsKeptOf (first : PositionValue) (others : List PositionValue) (kept : Positions) : Type 0
-  where
-    pub starts : position_value kept.first ≡ first
-    pub inside : All IsInGrid (first ∷ others)
-    pub counted : kept.count ≡ length (first ∷ others)
-    pub few : kept.count ≤ max_positions
-    pub reaches : box_value kept.extent ≡ positions_extent (first ∷ others)
-    pub ends : position_value kept.last ≡ last_from first others
-    pub around : kept.area ≡ double_area (first ∷ others)
+pub record IsKeptOf (first : PositionValue) (others : List PositionValue) (kept : Positions)
+    : Type 0 where
+  pub starts : position_value kept.first ≡ first
+  pub inside : All IsInGrid (first ∷ others)
+  pub counted : kept.count ≡ length (first ∷ others)
+  pub few : kept.count ≤ max_positions
+  pub reaches : box_value kept.extent ≡ positions_extent (first ∷ others)
+  pub ends : position_value kept.last ≡ last_from first others
+  pub around : kept.area ≡ double_area (first ∷ others)
 
 -- an array of positions, of which this is kept
 pub record ArePositions (before after : List ℕ) (kept : Positions) : Type 0 where

@@ -39,7 +39,8 @@ fn is_end(typed: &str) -> bool
 /// members `geometry`, `id`, `properties` and `type`, in this order. The geometry is null, a Point,
 /// a MultiPoint, a LineString or a Polygon of at most 100,000 positions. The properties are null or
 /// an object with its names in byte order, whose values are texts, whole numbers of at most 15
-/// digits, true, false or null. No text has an escape.
+/// digits, true, false or null. No text has an escape, and the time property, if the feature has
+/// it, is null or the text of a time (`streetmap_moment::read_property`).
 pub fn read_compact<'a>(text: &'a str, time_property: Option<&str>) -> Option<CompactFeature<'a>>
     ensures { IfSome result (λ c. IsCompactOf (option_map (λ s. s.now) time_property.entry)
         text.now c.id.now (option_map box_value c.extent) (option_map interval_value c.time)) }

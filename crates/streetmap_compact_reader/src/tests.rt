@@ -36,7 +36,7 @@ fn usual_texts_are_read(rt: HostRuntime) {
     assert!(rt; line.id == "w é");
     assert!(rt; corners(&line) == Some((-20, -5, 3, 7)));
     let hall =
-        "{\"geometry\":{\"coordinates\":[[[0,0],[9,0],[9,9],[0,9],[0,0]],[[1,1],[1,2],[2,2],[1,1]]],\
+        "{\"geometry\":{\"coordinates\":[[[0,0],[9,0],[9,9],[0,0]],[[2,1],[3,2],[3,1],[2,1]]],\
         \"type\":\"Polygon\"},\"id\":\"H\",\"properties\":{},\"type\":\"Feature\"}";
     let hall = read_compact(hall, None).expect(&rt, "the hall");
     assert!(rt; corners(&hall) == Some((0, 0, 9, 9)));
