@@ -9,7 +9,7 @@ ghost use Rattle.streetmap_bodies.specs.Bodies as spec;
 use crate::links::{collection_href, feature_href, link};
 use serde_json::{Map, Value, json, put};
 use std::alloc::{AllocError, Global};
-use streetmap_feature_text::write_feature;
+use streetmap_feature_text::{PackedFeature, write_feature};
 use streetmap_geojson::Feature;
 
 /// The links of a feature.
@@ -67,13 +67,13 @@ pub fn feature_text(
     alloc: Global,
     root: &str,
     name: &str,
-    feature: &Feature,
+    feature: &PackedFeature,
 ) -> Result<String, AllocError>
     ensures { IfOk result (λ text. string_bytes text
-        ≡ compact_text (spec.linked_feature_data root.now name.now (feature_value feature.now))) }
+        ≡ compact_text (spec.linked_feature_data root.now name.now feature.now)) }
 {
     feature.facts();
-    let value = linked_feature(alloc, root, name, feature)?;
+    let value = linked_feature(alloc, root, name, &feature.unpack(alloc)?)?;
     let text = value.to_string(alloc)?;
     Ok(text)
 }

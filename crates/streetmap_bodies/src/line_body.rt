@@ -8,8 +8,7 @@ ghost use Rattle.streetmap_bodies.specs.LineTexts.{next_text};
 
 use crate::links::add_number;
 use std::alloc::{AllocError, Global};
-use streetmap_feature_text::{push_feature, push_features, push_quoted};
-use streetmap_geojson::Feature;
+use streetmap_feature_text::{PackedFeature, push_features, push_quoted};
 use streetmap_ledger::Page;
 
 /// The text of a feature, as a line shows it: without links.
@@ -17,12 +16,10 @@ use streetmap_ledger::Page;
 /// # Errors
 ///
 /// Only that memory runs out.
-pub fn line_feature_text(alloc: Global, feature: &Feature) -> Result<String, AllocError>
+pub fn line_feature_text(alloc: Global, feature: &PackedFeature) -> Result<String, AllocError>
     ensures { IfOk result (λ text. string_bytes text ≡ compact_text (feature_data feature.now)) }
 {
-    let mut out = String::new(alloc);
-    push_feature(alloc, &mut out, feature)?;
-    Ok(out)
+    String::from_str(alloc, feature.text())
 }
 
 /// Appends the member `next`, if any.
@@ -53,7 +50,7 @@ pub fn line_page_text(alloc: Global, page: &Page) -> Result<String, AllocError>
     let features = page.features.as_slice();
     let mut out = String::new(alloc);
     out.push_str("{\"features\":")?;
-    push_features(alloc, &mut out, features)?;
+    push_features(&mut out, features)?;
     add_next(alloc, &mut out, &page.next)?;
     out.push_str(",\"numberMatched\":")?;
     add_number(&mut out, page.matched)?;

@@ -119,7 +119,7 @@ pub fn page_text(
     let features = page.features.as_slice();
     let mut out = String::new(alloc);
     add(&mut out, "{\"features\":")?;
-    push_features(alloc, &mut out, features)?;
+    push_features(&mut out, features)?;
     add(&mut out, ",\"links\":")?;
     add_page_links(alloc, &mut out, root, name, query, &page.next)?;
     add(&mut out, ",\"numberMatched\":")?;

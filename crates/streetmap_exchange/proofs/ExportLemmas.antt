@@ -420,8 +420,8 @@ module _ {K T : Type 0} {model : Model K} {a b : K} where
   end_reads (Err (Stopped Reopen)) (inr f) reads = absurd f
 
 -- the features of a page, as they were passed on
-pub page_part : (later : Bool) (fs gs : List FeatureValue) → fs ≡ gs → part_text later (map feature_value fs) ≡ part_text later gs
-page_part later fs gs h = ap (part_text later) (map-id fs ∙ h)
+pub page_part : (later : Bool) (fs gs : List FeatureValue) → fs ≡ gs → part_text later fs ≡ part_text later gs
+page_part later fs gs h = ap (part_text later) h
 
 -- whether features come before the next page: some came before this one, or it has some
 pub some_before : (b b' x : Bool) → b ≡ true → b' ≡ b → (b || x) ≡ b'

@@ -2,7 +2,6 @@
 ghost use Rattle.std.specs.Prelude.{◌≡◌, ◌++◌, Err, OnOk, OnErr, IfErr, map, string_bytes};
 ghost use Rattle.std.specs.Prelude.{codes};
 ghost use Rattle.std.specs.Io.KnownBytes.{Appends};
-ghost use Rattle.streetmap_geojson.specs.FeatureView.{feature_value};
 ghost use Rattle.streetmap_ledger.specs.PageView.{page_value};
 ghost use Rattle.streetmap_ledger.specs.State.{State};
 ghost use Rattle.streetmap_replay.specs.Calls.{AreReads};
@@ -13,8 +12,8 @@ ghost use Rattle.streetmap_exchange.specs.Exports.{ShowsPart, part_text};
 use crate::fault::ExportFault;
 use std::alloc::{AllocError, Global};
 use std::io::Write;
-use streetmap_feature_text::{push_comma, push_feature};
-use streetmap_geojson::{Feature, Id};
+use streetmap_feature_text::{PackedFeature, push_comma};
+use streetmap_geojson::Id;
 use streetmap_ledger::{Keeper, Page};
 use streetmap_query::Query;
 use streetmap_text_lines::WriteFault;
@@ -59,18 +58,17 @@ pub(crate) fn next_id(page: Page) -> Option<Id>
 /// Appends features as they are in an array, each after a comma; the first has one only if others
 /// come before it.
 fn push_part(
-    alloc: Global,
     out: &mut String,
-    features: &[Feature],
+    features: &[PackedFeature],
     later: bool,
 ) -> Result<(), AllocError>
     ensures { OnOk result (string_bytes out.new
-        ≡ string_bytes out.old ++ part_text later (map feature_value features.now)) }
+        ≡ string_bytes out.old ++ part_text later features.now) }
 {
     let mut following = later;
     for feature in features {
         push_comma(out, following)?;
-        push_feature(alloc, out, feature)?;
+        out.push_str(feature.text())?;
         following = true;
     }
     Ok(())
@@ -95,20 +93,20 @@ pub(crate) fn write_bytes<W: Write>(writer: &mut W, bytes: &[u8]) -> Result<(), 
 pub(crate) fn write_part<W: Write>(
     alloc: Global,
     writer: &mut W,
-    features: &[Feature],
+    features: &[PackedFeature],
     later: bool,
 ) -> Result<(), ExportFault>
     ensures ok { OnOk result (Appends (W.contents writer.old) (W.contents writer.new)
-        (part_text later (map feature_value features.now))) }
+        (part_text later features.now)) }
     ensures err { OnErr result (AppendsBeginning (W.contents writer.old) (W.contents writer.new)
-        (part_text later (map feature_value features.now))) }
+        (part_text later features.now)) }
     ensures less { result ≡ Err ExportFault.WriteFailed →
         AppendsLess (W.contents writer.old) (W.contents writer.new)
-        (part_text later (map feature_value features.now)) }
+        (part_text later features.now) }
     ensures fault { IfErr result IsWriteFault }
 {
     let mut text = String::new(alloc);
-    push_part(alloc, &mut text, features, later)?;
+    push_part(&mut text, features, later)?;
     write_bytes(writer, text.as_str().as_bytes())
 }
 

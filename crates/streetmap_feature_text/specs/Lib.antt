@@ -4,4 +4,3 @@ pub mod Ends
 pub mod PackedIntervalView
 pub mod Packed
 pub mod WrittenFeatures
-pub mod Outlines

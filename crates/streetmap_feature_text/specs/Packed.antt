@@ -42,3 +42,12 @@ pub record IsPacked (text : List ℕ) (extent : Option BoxValue) (id : Option Pa
   pub written : text ≡ compact_text (feature_data packed)
   pub reaches : extent ≡ option_map extent_of packed.geometry
   pub named : IfSome id (λ part. IsPartOf part text packed.id)
+
+-- the text is the compact text of this feature, with this id, this extent and this time
+pub record IsFoundIn (text id : List ℕ) (extent : Option BoxValue) (time : Option IntervalValue)
+    (f : FeatureValue) : Type 0 where
+  pub is : IsFeature f
+  pub written : text ≡ compact_text (feature_data f)
+  pub named : id ≡ f.id
+  pub reaches : extent ≡ option_map extent_of f.geometry
+  pub timed : time ≡ f.time

@@ -211,36 +211,3 @@ pub fn push_feature(alloc: Global, out: &mut String, feature: &Feature) -> Resul
     push_properties(alloc, out, feature)?;
     out.push_str(",\"type\":\"Feature\"}")
 }
-
-/// Appends the array of features, in their order. If memory runs out, a prefix of it may have been
-/// appended.
-pub fn push_features(
-    alloc: Global,
-    out: &mut String,
-    features: &[Feature],
-) -> Result<(), AllocError>
-    ensures { OnOk result (string_bytes out.new
-        ≡ string_bytes out.old ++ compact_text
-        (array_of feature_data (map feature_value features.now))) }
-{
-    out.push_str("[")?;
-    let mut later = false;
-    for feature in features {
-        push_comma(out, later)?;
-        push_feature(alloc, out, feature)?;
-        later = true;
-    }
-    out.push_str("]")
-}
-
-/// The compact JSON text of a collection, as `write_collection` writes its value.
-pub fn collection_text(alloc: Global, features: &[Feature]) -> Result<String, AllocError>
-    ensures { IfOk result (λ text. string_bytes text
-        ≡ compact_text (collection_data (map feature_value features.now))) }
-{
-    let mut out = String::new(alloc);
-    out.push_str("{\"features\":")?;
-    push_features(alloc, &mut out, features)?;
-    out.push_str(",\"type\":\"FeatureCollection\"}")?;
-    Ok(out)
-}

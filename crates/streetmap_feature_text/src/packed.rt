@@ -1,20 +1,18 @@
 //! Features that are kept as their texts.
-ghost use Rattle.std.specs.Prelude.{◌≡◌, IfOk, IfSome, option_map};
+ghost use Rattle.std.specs.Prelude.{◌≡◌, ◌↔◌, IfOk, IfSome, IsTrue, option_map, string_bytes};
 ghost use Rattle.serde_json.specs.Written.{compact_text};
 ghost use Rattle.streetmap_grid.specs.Views.{box_value};
 ghost use Rattle.streetmap_grid.specs.Extent.{extent_of};
 ghost use Rattle.streetmap_moment.specs.Views.{interval_value};
 ghost use Rattle.streetmap_geojson.specs.Fault.{Gives};
-ghost use Rattle.streetmap_geojson.specs.FeatureValue.{retimed};
+ghost use Rattle.streetmap_geojson.specs.FeatureValue.{FeatureValue, retimed};
 ghost use Rattle.streetmap_geojson.specs.FeatureView.{feature_value};
 ghost use Rattle.streetmap_geojson.specs.FeatureInvariant.{IsFeature};
 ghost use Rattle.streetmap_feature_text.specs.Written.{feature_data};
-ghost use Rattle.streetmap_feature_text.specs.Outlines.{outline_of};
-ghost use Rattle.streetmap_feature_text.specs.Packed.{feature_in_text, IsPartOf};
+ghost use Rattle.streetmap_feature_text.specs.Packed.{feature_in_text, IsPartOf, IsFoundIn};
 
-use crate::outline::Outline;
 use crate::packed_interval::PackedInterval;
-use crate::written_feature::WrittenFeature;
+use crate::written_feature::{WrittenFeature, text_of};
 use bytes::Bytes;
 use json::Scratch;
 use memchr::memmem;
@@ -118,11 +116,90 @@ impl PackedFeature {
         Ok(PackedFeature { kept })
     }
 
+    /// Packs a feature, whose compact text is written for it.
+    ///
+    /// # Errors
+    ///
+    /// `AllocError` if memory runs out.
+    pub fn of(alloc: Global, feature: &Feature) -> Result<PackedFeature, AllocError>
+        ensures { IfOk result (λ p. p ≡ feature.now) }
+    {
+        feature.facts();
+        let text = Bytes::from_string(text_of(alloc, feature)?)?;
+        let id = id_in(text.as_slice(), feature.id().as_bytes());
+        let kept = Packing {
+            text,
+            extent: feature.extent(),
+            time: PackedInterval::new(feature.time()),
+            id,
+        };
+        let kept = Box::new(alloc, kept)?;
+        Ok(PackedFeature { kept })
+    }
+
+    /// The feature of a compact text, of which these were found: its id, the extent of its geometry,
+    /// in millimetres, and its time.
+    ///
+    /// # Errors
+    ///
+    /// `AllocError` if memory runs out.
+    pub fn from_text(
+        alloc: Global,
+        text: &str,
+        id: &str,
+        extent: Option<GridBox>,
+        time: Option<Interval>,
+    ) -> Result<PackedFeature, AllocError>
+        requires { (f : FeatureValue) × IsFoundIn text.now id.now (option_map box_value extent)
+            (option_map interval_value time) f }
+        ensures { IfOk result (λ p. (f : FeatureValue) → IsFoundIn text.now id.now
+            (option_map box_value extent) (option_map interval_value time) f → p ≡ f) }
+    {
+        let text = Bytes::copy_from_slice(alloc, text.as_bytes())?;
+        let id = id_in(text.as_slice(), id.as_bytes());
+        let kept = Packing {
+            text,
+            extent,
+            time: PackedInterval::new(time),
+            id,
+        };
+        let kept = Box::new(alloc, kept)?;
+        Ok(PackedFeature { kept })
+    }
+
+    /// An equal feature, which shares the memory of the text.
+    ///
+    /// # Errors
+    ///
+    /// `AllocError` if memory runs out.
+    pub fn copy(&self, alloc: Global) -> Result<PackedFeature, AllocError>
+        ensures { IfOk result (λ p. p ≡ self.now) }
+    {
+        let kept = Packing {
+            text: self.kept.text.clone()?,
+            extent: self.kept.extent,
+            time: self.kept.time,
+            id: self.kept.id,
+        };
+        let kept = Box::new(alloc, kept)?;
+        Ok(PackedFeature { kept })
+    }
+
     /// What is true of every feature.
     pub fn facts(&self)
         ensures { IsFeature self.now }
     {
         let _ = &self.kept.time;
+    }
+
+    /// The compact text of the feature, without its time.
+    pub fn text(&self) -> &str
+        ensures { result.now ≡ compact_text (feature_data self.now) }
+    {
+        match simdutf8::basic::from_utf8(self.kept.text.as_slice()) {
+            Ok(text) => text,
+            Err(_) => unreachable!(),
+        }
     }
 
     /// The extent of the geometry, in millimetres; none without a geometry.
@@ -139,16 +216,6 @@ impl PackedFeature {
         self.kept.time.time()
     }
 
-    /// What is known of the feature without reading it.
-    pub fn outline(&self) -> Outline
-        ensures { result ≡ outline_of self.now }
-    {
-        Outline {
-            extent: self.kept.extent,
-            time: self.kept.time,
-        }
-    }
-
     /// The bytes of the id, if the text has exactly these bytes. None if it does not, since one of
     /// them is written as an escape: then the caller must read the feature.
     pub fn unescaped_id(&self) -> Option<&[u8]>
@@ -160,7 +227,43 @@ impl PackedFeature {
         }
     }
 
+    /// The id, 1 to 128 bytes.
+    ///
+    /// # Errors
+    ///
+    /// `AllocError` if memory runs out.
+    pub fn id(&self, alloc: Global) -> Result<String, AllocError>
+        ensures { IfOk result (λ id. string_bytes id ≡ self.now.id) }
+    {
+        self.facts();
+        match self.unescaped_id() {
+            Some(id) => match std::str::from_utf8(id) {
+                Ok(id) => String::from_str(alloc, id),
+                Err(_) => unreachable!(),
+            },
+            None => String::from_str(alloc, self.unpack(alloc)?.id()),
+        }
+    }
+
+    /// Whether the feature has this id.
+    ///
+    /// # Errors
+    ///
+    /// `AllocError` if memory runs out.
+    pub fn is_named(&self, alloc: Global, id: &str) -> Result<bool, AllocError>
+        ensures { IfOk result (λ named. IsTrue named ↔ (id.now ≡ self.now.id)) }
+    {
+        match self.unescaped_id() {
+            Some(own) => Ok(own == id.as_bytes()),
+            None => Ok(self.unpack(alloc)?.id() == id),
+        }
+    }
+
     /// The feature, read from its text.
+    ///
+    /// # Errors
+    ///
+    /// `AllocError` if memory runs out; the caller may try again.
     pub fn unpack(&self, alloc: Global) -> Result<Feature, AllocError>
         ensures { IfOk result (λ f. f ≡ self.now) }
     {

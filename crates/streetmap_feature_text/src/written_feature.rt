@@ -91,7 +91,7 @@ fn may_have_time(feature: &Feature) -> bool {
 }
 
 /// The compact text of a feature.
-fn text_of(alloc: Global, feature: &Feature) -> Result<String, AllocError>
+pub(crate) fn text_of(alloc: Global, feature: &Feature) -> Result<String, AllocError>
     ensures { IfOk result (λ text. string_bytes text ≡ compact_text (feature_data feature.now)) }
 {
     let mut text = String::with_capacity(alloc, TEXT_ROOM)?;

@@ -10,7 +10,7 @@ use Rattle.streetmap_ledger.specs.Pages.{page_over, is_candidate}
 use Rattle.streetmap_ledger.specs.PageView.{page_value}
 use Rattle.streetmap_ledger.specs.Folds.{IsFoldOf, HoldsCandidates}
 use Rattle.streetmap_ledger.specs.declared.fold.PageFold.{PageFold}
-use Rattle.streetmap_outlines.specs.declared.kept.KeptOutline.{KeptOutline}
+use Rattle.streetmap_ledger.specs.declared.outline.FeatureOutline.{FeatureOutline}
 use Rattle.streetmap_ledger.specs.declared.page.Page.{Page}
 use Rattle.streetmap_outlines.specs.Outlines.{Pairs}
 use Rattle.streetmap_outlines.specs.Outlines.{IsOutlineOf, AreListedChunksOf}
@@ -19,16 +19,16 @@ use Rattle.streetmap_outlines.specs.declared.chunk.Chunk.{Chunk}
 use Rattle.streetmap_outlines.specs.declared.chunks.Chunks.{Chunks}
 
 -- a page examines the feature with this outline
-abbrev pub IsExamined : QueryValue → KeptOutline → Type 0
+abbrev pub IsExamined : QueryValue → FeatureOutline → Type 0
 IsExamined q o = (f : FeatureValue) → IsOutlineOf o f → is_candidate q f ≡ true
 
 -- the features have the ids of the outlines, one by one
-abbrev pub HaveIds : List KeptOutline → List FeatureValue → Type 0
-HaveIds os fs = map (λ (o : KeptOutline). string_bytes o.id) os
+abbrev pub HaveIds : List FeatureOutline → List FeatureValue → Type 0
+HaveIds os fs = map (λ (o : FeatureOutline). string_bytes o.id) os
     ≡ map (λ (f : FeatureValue). f.id) fs
 
 -- if all were taken, the features with these outlines were met after those met before
-abbrev pub TakesRun : Text → List KeptOutline → PageFold → PageFold → State → Bool → Type 0
+abbrev pub TakesRun : Text → List FeatureOutline → PageFold → PageFold → State → Bool → Type 0
 TakesRun name os old new s taken =
     IsTrue taken → (c : Collection) (q : QueryValue) (met fs : List FeatureValue)
     → get s.collections name ≡ Some c → Pairs c.features os fs → IsFoldOf q old met

@@ -10,7 +10,7 @@ use crate::knowledge::learn;
 use crate::page::page_with;
 use crate::summaries::{collection_with, collections_with};
 use std::alloc::Global;
-use streetmap_geojson::Feature;
+use streetmap_feature_text::PackedFeature;
 use streetmap_ledger::{
     Batch, Durable, Fault, Keeper, KeepsBatches, KeptBatch, Outlined, Page, Reply, Summary,
 };
@@ -168,7 +168,7 @@ impl<K: Outlined> Keeper for IndexedKeeper<K> {
         }
     }
 
-    fn feature(&mut self, collection: &str, id: &str) -> Result<Option<Feature>, Fault> {
+    fn feature(&mut self, collection: &str, id: &str) -> Result<Option<PackedFeature>, Fault> {
         match self.keeper.feature(collection, id) {
             Ok(found) => Ok(found),
             Err(fault) => {

@@ -14,7 +14,7 @@ use streetmap_batch::Edit;
 use streetmap_feature_text::WrittenFeature;
 use streetmap_ledger::FeatureOutline;
 use streetmap_moment::Interval;
-use streetmap_outlines::{Chunks, KeptOutline};
+use streetmap_outlines::Chunks;
 
 /// A collection's title, the property that the times of its features are read from, and their
 /// outlines.
@@ -30,12 +30,11 @@ fn outline_of(
     alloc: Global,
     feature: &WrittenFeature,
     time: Option<Interval>,
-) -> Result<KeptOutline, AllocError>
+) -> Result<FeatureOutline, AllocError>
     ensures { IfOk result (λ outline.
         IsOutlineOf outline (retimed feature.now (option_map interval_value time))) }
 {
-    let outline = FeatureOutline::new(alloc, feature.id(), feature.extent(), time)?;
-    Ok(KeptOutline::of(outline))
+    FeatureOutline::new(alloc, feature.id(), feature.extent(), time)
 }
 
 impl OutlinedCollection {

@@ -15,10 +15,10 @@ ghost use Rattle.streetmap_index.specs.OutlinePages.{TakesOutlined, IsOutlinedPa
 use crate::outlined::OutlinedCollection;
 use crate::run::{run_length, take_run};
 use std::alloc::Global;
-use streetmap_ledger::{Fault, Outlined, Page, PageFold};
+use streetmap_ledger::{Fault, FeatureOutline, Outlined, Page, PageFold};
 use streetmap_outlines::{
-    Chunk, Chunks, KeptOutline, all_come_after, comes_after, count_selected, is_candidate,
-    is_passed_over, is_selected, is_unmarked, lies_outside, window_of,
+    Chunk, Chunks, all_come_after, comes_after, count_selected, is_candidate, is_passed_over,
+    is_selected, is_unmarked, lies_outside, window_of,
 };
 use streetmap_query::Query;
 
@@ -28,7 +28,7 @@ const MOST_READ: usize = 2000;
 
 /// Counts the next candidate if its outline shows that it is selected and the page does not show
 /// it, and returns whether it did.
-fn count_unread(query: &Query, fold: &mut PageFold<'_>, outline: &KeptOutline) -> bool
+fn count_unread(query: &Query, fold: &mut PageFold<'_>, outline: &FeatureOutline) -> bool
     ensures counted { IsTrue result → (fs : List FeatureValue) (f : FeatureValue)
         → IsOutlineOf outline.now f → IsFeature f → IsFoldOf (query_value query.now) fold.old fs
         → IsFoldOf (query_value query.now) fold.new (fs ++ f ∷ []) }
@@ -47,7 +47,7 @@ fn count_unread(query: &Query, fold: &mut PageFold<'_>, outline: &KeptOutline) -
 
 /// Takes the next feature if its outline says enough, and returns whether it did. Otherwise the
 /// feature is a candidate, and has to be taken itself.
-fn take_unread(query: &Query, fold: &mut PageFold<'_>, outline: &KeptOutline) -> bool
+fn take_unread(query: &Query, fold: &mut PageFold<'_>, outline: &FeatureOutline) -> bool
     ensures taken { IsTrue result → (fs : List FeatureValue) (f : FeatureValue)
         → IsOutlineOf outline.now f → IsFeature f
         → HoldsCandidates (query_value query.now) fold.old fs

@@ -7,22 +7,22 @@ ghost use Rattle.streetmap_query.specs.Views.{query_value};
 ghost use Rattle.streetmap_ledger.specs.Folds.{IsFoldOf};
 ghost use Rattle.streetmap_ledger.specs.Keep.{IsRead};
 ghost use Rattle.streetmap_index.specs.OutlinePages.{IsExamined, HaveIds, TakesRun};
-ghost use Rattle.streetmap_outlines.specs.declared.kept.KeptOutline.{KeptOutline};
+ghost use Rattle.streetmap_ledger.specs.declared.outline.FeatureOutline.{FeatureOutline};
 
 use std::alloc::{AllocError, Global};
-use streetmap_geojson::Feature;
-use streetmap_ledger::{Fault, Outlined, PageFold};
-use streetmap_outlines::{KeptOutline, comes_after, is_candidate, is_selected};
+use streetmap_feature_text::PackedFeature;
+use streetmap_ledger::{Fault, FeatureOutline, Outlined, PageFold};
+use streetmap_outlines::{comes_after, is_candidate, is_selected};
 use streetmap_query::Query;
 
-/// How many features are read together at least, if their outlines have rowids. One takes some 4.5
+/// How many features are read together at least, if their outlines have hints. One takes some 4.5
 /// microseconds alone, and a run takes 14, and 2 more for each: 5 are read sooner alone, and 6
 /// together.
 const SHORTEST_RUN: usize = 6;
 
 /// Whether a page that has room reads the feature with this outline: it examines it, and the
 /// outline does not show that it is only counted.
-fn is_due(query: &Query, outline: &KeptOutline) -> bool
+fn is_due(query: &Query, outline: &FeatureOutline) -> bool
     ensures { IsTrue result → IsExamined (query_value query.now) outline.now }
 {
     is_candidate(query, outline) && (comes_after(query, outline) || !is_selected(query, outline))
@@ -30,7 +30,7 @@ fn is_due(query: &Query, outline: &KeptOutline) -> bool
 
 /// How many of these outlines, from the first on and `most` at most, are of features that a page
 /// reads one after the other.
-pub(crate) fn run_length(query: &Query, outlines: &[KeptOutline], most: usize) -> usize
+pub(crate) fn run_length(query: &Query, outlines: &[FeatureOutline], most: usize) -> usize
     ensures within { result ≤ length outlines.now }
     ensures examined { All (IsExamined (query_value query.now)) (take result outlines.now) }
 {
@@ -43,20 +43,26 @@ pub(crate) fn run_length(query: &Query, outlines: &[KeptOutline], most: usize) -
 }
 
 /// Whether the feature has the id of the outline in this place.
-fn has_id(outlines: &[KeptOutline], place: usize, feature: &Feature) -> bool
-    ensures { IsTrue result → (o : KeptOutline) × (slice_get outlines.now place ≡ Some o)
-        × (string_bytes o.id ≡ feature.now.id) }
+fn has_id(
+    alloc: Global,
+    outlines: &[FeatureOutline],
+    place: usize,
+    feature: &PackedFeature,
+) -> Result<bool, AllocError>
+    ensures { IfOk result (λ has. IsTrue has → (o : FeatureOutline)
+        × (slice_get outlines.now place ≡ Some o) × (string_bytes o.id ≡ feature.now.id)) }
 {
     match outlines.get(place) {
-        Some(outline) => outline.id.as_str() == feature.id(),
-        None => false,
+        Some(outline) => feature.is_named(alloc, outline.id.as_str()),
+        None => Ok(false),
     }
 }
 
 /// Takes the next features, and returns whether they are those with these outlines.
 fn take_all(
-    outlines: &[KeptOutline],
-    features: Vec<Feature>,
+    alloc: Global,
+    outlines: &[FeatureOutline],
+    features: Vec<PackedFeature>,
     fold: &mut PageFold<'_>,
 ) -> Result<bool, AllocError>
     ensures { IfOk result (λ taken. IsTrue taken → HaveIds outlines.now features.items
@@ -65,7 +71,7 @@ fn take_all(
 {
     let mut place = 0;
     for feature in features {
-        if !has_id(outlines, place, &feature) {
+        if !has_id(alloc, outlines, place, &feature)? {
             return Ok(false);
         }
         fold.take(feature)?;
@@ -77,9 +83,10 @@ fn take_all(
 /// Takes the next features, which are those with these outlines, as the keeper has them, and
 /// returns whether they exist, with none between them.
 fn take_between<K: Outlined>(
+    alloc: Global,
     keeper: &mut K,
     collection: &str,
-    outlines: &[KeptOutline],
+    outlines: &[FeatureOutline],
     first: &str,
     last: &str,
     fold: &mut PageFold<'_>,
@@ -88,7 +95,7 @@ fn take_between<K: Outlined>(
         (TakesRun collection.now outlines.now fold.old fold.new) }
 {
     match keeper.features(collection, first, last) {
-        Ok(Some(features)) => match take_all(outlines, features, fold) {
+        Ok(Some(features)) => match take_all(alloc, outlines, features, fold) {
             Ok(taken) => Ok(taken),
             Err(_) => Err(Fault::Memory),
         },
@@ -100,20 +107,16 @@ fn take_between<K: Outlined>(
 /// Takes the next feature, which is the one with this outline, as the keeper has it, and returns
 /// whether it exists.
 fn take_one<K: Outlined>(
-    alloc: Global,
     keeper: &mut K,
     collection: &str,
-    outline: &KeptOutline,
+    outline: &FeatureOutline,
     fold: &mut PageFold<'_>,
 ) -> Result<bool, Fault>
     requires { K.model.cause keeper.old ≡ None }
     ensures { IsRead K.model keeper.old keeper.new result
         (TakesRun collection.now (outline.now ∷ []) fold.old fold.new) }
 {
-    let Ok(outline) = outline.to_feature_outline(alloc) else {
-        return Err(Fault::Memory);
-    };
-    match keeper.feature_outlined(collection, &outline) {
+    match keeper.feature_outlined(collection, outline) {
         Ok(Some(feature)) => match fold.take(feature) {
             Ok(()) => Ok(true),
             Err(_) => Err(Fault::Memory),
@@ -126,10 +129,9 @@ fn take_one<K: Outlined>(
 /// Takes the next features, which are those with these outlines, as the keeper has each, and
 /// returns whether they exist.
 fn take_each<K: Outlined>(
-    alloc: Global,
     keeper: &mut K,
     collection: &str,
-    outlines: &[KeptOutline],
+    outlines: &[FeatureOutline],
     fold: &mut PageFold<'_>,
 ) -> Result<bool, Fault>
     requires { K.model.cause keeper.old ≡ None }
@@ -137,7 +139,7 @@ fn take_each<K: Outlined>(
         (TakesRun collection.now outlines.now fold.old fold.new) }
 {
     for outline in outlines {
-        match take_one(alloc, keeper, collection, outline, fold) {
+        match take_one(keeper, collection, outline, fold) {
             Ok(true) => {}
             Ok(false) => return Ok(false),
             Err(fault) => return Err(fault),
@@ -147,13 +149,13 @@ fn take_each<K: Outlined>(
 }
 
 /// Takes the next features, which are those with these outlines, as the keeper has them, and
-/// returns whether they exist: each alone if they are few and their rows are known, else by the ids
+/// returns whether they exist: each alone if they are few and their places are known, else by the ids
 /// of the first and the last.
 pub(crate) fn take_run<K: Outlined>(
     alloc: Global,
     keeper: &mut K,
     collection: &str,
-    outlines: &[KeptOutline],
+    outlines: &[FeatureOutline],
     fold: &mut PageFold<'_>,
 ) -> Result<bool, Fault>
     requires { K.model.cause keeper.old ≡ None }
@@ -161,10 +163,10 @@ pub(crate) fn take_run<K: Outlined>(
         (TakesRun collection.now outlines.now fold.old fold.new) }
 {
     match outlines {
-        [first, .., last] if outlines.len() >= SHORTEST_RUN || first.rowid.is_none() => {
+        [first, .., last] if outlines.len() >= SHORTEST_RUN || first.hint.is_none() => {
             let (first, last) = (first.id.as_str(), last.id.as_str());
-            take_between(keeper, collection, outlines, first, last, fold)
+            take_between(alloc, keeper, collection, outlines, first, last, fold)
         }
-        _ => take_each(alloc, keeper, collection, outlines, fold),
+        _ => take_each(keeper, collection, outlines, fold),
     }
 }

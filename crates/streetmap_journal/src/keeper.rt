@@ -10,7 +10,7 @@ ghost use Rattle.streetmap_journal.specs.Written.{OfReply};
 use crate::completion::{complete, refuse};
 use crate::journal::{Journal, JournalWriter, line_of};
 use std::alloc::Global;
-use streetmap_geojson::Feature;
+use streetmap_feature_text::PackedFeature;
 use streetmap_ledger::{
     Batch, Durable, Fault, Keeper, KeepsBatches, KeptBatch, Page, Reply, Summary,
 };
@@ -86,7 +86,7 @@ impl<K: KeepsBatches, W: JournalWriter> Keeper for JournaledKeeper<K, W> {
         self.keeper.page(collection, query)
     }
 
-    fn feature(&mut self, collection: &str, id: &str) -> Result<Option<Feature>, Fault> {
+    fn feature(&mut self, collection: &str, id: &str) -> Result<Option<PackedFeature>, Fault> {
         self.keeper.feature(collection, id)
     }
 

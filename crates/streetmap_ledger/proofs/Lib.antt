@@ -10,3 +10,4 @@ pub mod Hiding
 pub mod Serials
 pub mod AllThere
 pub mod Nexts
+pub mod SameBox

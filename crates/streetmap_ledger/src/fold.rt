@@ -8,15 +8,15 @@ ghost use Rattle.streetmap_ledger.specs.Pages.{last_id};
 use crate::Page;
 use crate::selection::{comes_after, comes_after_unread, is_candidate, selects, selects_unread};
 use std::alloc::{AllocError, Global};
-use streetmap_feature_text::Outline;
-use streetmap_geojson::Feature;
+use streetmap_feature_text::PackedFeature;
 use streetmap_query::Query;
 
 /// The page of the features taken so far. It holds at most the query's `limit` of them.
 #[derive(Drop)]
 pub struct PageFold<'a> {
+    alloc: Global,
     query: &'a Query,
-    features: Vec<Feature>,
+    features: Vec<PackedFeature>,
     matched: u64,
     more: bool,
     examined: u64,
@@ -28,7 +28,6 @@ impl<'a> PageFold<'a> {
     ghost use Rattle.std.specs.Prelude.{true, false, if◌then◌else◌};
     ghost use Rattle.streetmap_geojson.specs.FeatureValue.{FeatureValue};
     ghost use Rattle.streetmap_geojson.specs.FeatureInvariant.{IsFeature};
-    ghost use Rattle.streetmap_feature_text.specs.Outlines.{outline_of};
     ghost use Rattle.streetmap_query.specs.QueryValue.{QueryValue};
     ghost use Rattle.streetmap_query.specs.Views.{query_value};
     ghost use Rattle.streetmap_ledger.specs.Pages.{page_of, saturated, selects as selects_of};
@@ -42,6 +41,7 @@ impl<'a> PageFold<'a> {
         ensures { IsFoldOf (query_value query.now) result [] }
     {
         PageFold {
+            alloc,
             query,
             features: Vec::new(alloc),
             matched: 0,
@@ -67,44 +67,46 @@ impl<'a> PageFold<'a> {
 
     /// Takes the next feature, and keeps it if the page shows it. If memory runs out for that, it
     /// is not counted.
-    pub fn take(&mut self, feature: Feature) -> Result<(), AllocError>
+    pub fn take(&mut self, feature: PackedFeature) -> Result<(), AllocError>
         ensures ok { (q : QueryValue) (fs : List FeatureValue) → IsFoldOf q self.old fs
             → OnOk result (IsFoldOf q self.new (fs ++ feature ∷ [])) }
         ensures err { (q : QueryValue) (fs : List FeatureValue) → IsFoldOf q self.old fs
             → OnErr result (IsFoldOf q self.new fs) }
     {
-        if self.pass_hidden(&feature) {
+        if self.pass_hidden(&feature)? {
             return Ok(());
         }
         self.show(feature)
     }
 
     /// Counts the next feature if the page does not show it, and returns whether it did.
-    fn pass_hidden(&mut self, feature: &Feature) -> bool
-        ensures passed { IsTrue result → (q : QueryValue) (fs : List FeatureValue)
-            → IsFoldOf q self.old fs → IsFoldOf q self.new (fs ++ feature.now ∷ []) }
-        ensures unchanged { result ≡ false → self.new ≡ self.old }
-        ensures selected { result ≡ false
-            → selects_of (query_value self.old.query.now) feature.now ≡ true }
-        ensures following { result ≡ false
-            → comes_after_of (query_value self.old.query.now).after feature.now ≡ true }
-        ensures room { result ≡ false
-            → length self.old.features.items < self.old.query.now.limit }
+    fn pass_hidden(&mut self, feature: &PackedFeature) -> Result<bool, AllocError>
+        ensures passed { IfOk result (λ hidden. IsTrue hidden → (q : QueryValue)
+            (fs : List FeatureValue) → IsFoldOf q self.old fs
+            → IsFoldOf q self.new (fs ++ feature.now ∷ [])) }
+        ensures unchanged { IfOk result (λ hidden. hidden ≡ false → self.new ≡ self.old) }
+        ensures failed { OnErr result (self.new ≡ self.old) }
+        ensures selected { IfOk result (λ hidden. hidden ≡ false
+            → selects_of (query_value self.old.query.now) feature.now ≡ true) }
+        ensures following { IfOk result (λ hidden. hidden ≡ false
+            → comes_after_of (query_value self.old.query.now).after feature.now ≡ true) }
+        ensures room { IfOk result (λ hidden. hidden ≡ false
+            → length self.old.features.items < self.old.query.now.limit) }
     {
-        if !selects(self.query, feature) {
+        if !selects(self.alloc, self.query, feature)? {
             self.skip_unselected();
-            return true;
+            return Ok(true);
         }
-        let following = comes_after(self.query, feature);
+        let following = comes_after(self.alloc, self.query, feature)?;
         if following && !self.is_full() {
-            return false;
+            return Ok(false);
         }
         self.count_hidden(following);
-        true
+        Ok(true)
     }
 
     /// Shows the next feature.
-    fn show(&mut self, feature: Feature) -> Result<(), AllocError>
+    fn show(&mut self, feature: PackedFeature) -> Result<(), AllocError>
         requires { length self.old.features.items < self.old.query.now.limit }
         ensures ok { (q : QueryValue) (fs : List FeatureValue) → IsFoldOf q self.old fs
             → selects_of q feature ≡ true → comes_after_of q.after feature ≡ true
@@ -169,21 +171,19 @@ impl<'a> PageFold<'a> {
         self.count(false);
     }
 
-    /// Counts the next candidate if its outline and its id, if that is known, say that the page
-    /// does not show it, and returns whether it did.
-    fn pass_candidate(&mut self, outline: &Outline, id: Option<&[u8]>) -> bool
-        ensures passed { IsTrue result
-            → (q : QueryValue) (fs : List FeatureValue) (f : FeatureValue)
-            → outline.now ≡ outline_of f → IsFeature f → IfSome id.entry (λ known. known.now ≡ f.id)
-            → IsFoldOf q self.old fs → IsFoldOf q self.new (fs ++ f ∷ []) }
+    /// Counts the next candidate if its extent, its time and its id say that the page does not show
+    /// it, and returns whether it did.
+    fn pass_candidate(&mut self, feature: &PackedFeature) -> bool
+        ensures passed { IsTrue result → (q : QueryValue) (fs : List FeatureValue)
+            → IsFoldOf q self.old fs → IsFoldOf q self.new (fs ++ feature.now ∷ []) }
         ensures unchanged { result ≡ false → self.new ≡ self.old }
     {
-        match selects_unread(self.query, outline) {
+        match selects_unread(self.query, feature) {
             Some(false) => {
                 self.skip_unselected();
                 true
             }
-            Some(true) => match comes_after_unread(self.query, id) {
+            Some(true) => match comes_after_unread(self.query, feature) {
                 Some(following) if !following || self.is_full() => {
                     self.count_hidden(following);
                     true
@@ -194,18 +194,17 @@ impl<'a> PageFold<'a> {
         }
     }
 
-    /// Takes the next feature if its outline and its id, if that is known, say enough, and returns
-    /// whether it did. Otherwise the feature is a candidate, and has to be taken itself.
-    pub fn take_unread(&mut self, outline: &Outline, id: Option<&[u8]>) -> bool
-        ensures taken { IsTrue result
-            → (q : QueryValue) (fs : List FeatureValue) (f : FeatureValue)
-            → outline.now ≡ outline_of f → IsFeature f → IfSome id.entry (λ known. known.now ≡ f.id)
-            → HoldsCandidates q self.old fs → HoldsCandidates q self.new (fs ++ f ∷ []) }
-        ensures unchanged { result ≡ false → self.new ≡ self.old }
-        ensures candidate { result ≡ false → (f : FeatureValue) → outline.now ≡ outline_of f
-            → is_candidate_of (query_value self.old.query.now) f ≡ true }
+    /// Takes the next feature, if it is a candidate of the query: a copy of it is kept if the page
+    /// shows it. If memory runs out for that, it is not counted.
+    pub fn examine(&mut self, feature: &PackedFeature) -> Result<(), AllocError>
+        ensures { (q : QueryValue) (fs : List FeatureValue) → HoldsCandidates q self.old fs
+            → OnOk result (HoldsCandidates q self.new (fs ++ feature.now ∷ [])) }
     {
-        !is_candidate(self.query, outline) || self.pass_candidate(outline, id)
+        feature.facts();
+        if !is_candidate(self.query, feature) || self.pass_candidate(feature) {
+            return Ok(());
+        }
+        self.take(feature.copy(self.alloc)?)
     }
 
     /// The page of the features taken.
@@ -219,6 +218,7 @@ impl<'a> PageFold<'a> {
             None
         };
         let PageFold {
+            alloc: _,
             query: _,
             features,
             matched,
@@ -242,14 +242,14 @@ fn more_after(more: bool, following: bool, count: u64) -> bool
 }
 
 /// The id of the last feature.
-fn last_of(alloc: Global, features: &[Feature]) -> Result<Option<String>, AllocError>
+fn last_of(alloc: Global, features: &[PackedFeature]) -> Result<Option<String>, AllocError>
     ensures value { IfOk result (λ id. option_map string_bytes id ≡ last_id features.now) }
     ensures named { IfOk result (λ id. ForSome id (λ text. IsTrue (is_id (string_bytes text)))) }
 {
     match features.last() {
         Some(feature) => {
             feature.facts();
-            Ok(Some(String::from_str(alloc, feature.id())?))
+            Ok(Some(feature.id(alloc)?))
         }
         None => Ok(None),
     }

@@ -11,7 +11,7 @@ ghost use Rattle.streetmap_ledger.specs.Keep.{AreSummaries, RunEnds, RunShuts};
 use crate::{Fault, Page, Reply, Run, Summary};
 use std::alloc::Global;
 use streetmap_batch::Batch;
-use streetmap_geojson::Feature;
+use streetmap_feature_text::PackedFeature;
 use streetmap_query::Query;
 
 /// Represents a state, answers reads of it, and acts on it by batches.
@@ -42,7 +42,7 @@ pub trait Keeper {
         ensures { IsRead model self.old self.new result (IsPageOf collection.now query.now) };
 
     /// A feature; none if the collection does not exist, or has no such feature.
-    fn feature(&mut self, collection: &str, id: &str) -> Result<Option<Feature>, Fault>
+    fn feature(&mut self, collection: &str, id: &str) -> Result<Option<PackedFeature>, Fault>
         ensures { IsRead model self.old self.new result (IsFeatureOf collection.now id.now) };
 
     /// The summary of a collection; none if the collection does not exist.

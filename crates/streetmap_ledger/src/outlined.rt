@@ -3,7 +3,7 @@ ghost use Rattle.std.specs.Prelude.{string_bytes};
 ghost use Rattle.streetmap_ledger.specs.Keep.{IsRead, IsFeatureOf, IsRunOf, AreOutlinesOf};
 
 use crate::{Fault, FeatureOutline, Keeper};
-use streetmap_geojson::Feature;
+use streetmap_feature_text::PackedFeature;
 
 /// A keeper that an index can be kept of: it returns the outlines of features without reading the
 /// features, and reads together those whose ids are next to each other.
@@ -14,7 +14,7 @@ pub trait Outlined: Keeper {
         &mut self,
         collection: &str,
         outline: &FeatureOutline,
-    ) -> Result<Option<Feature>, Fault>
+    ) -> Result<Option<PackedFeature>, Fault>
         ensures { IsRead Self.model self.old self.new result
             (IsFeatureOf collection.now (string_bytes outline.now.id)) }
     {
@@ -28,7 +28,7 @@ pub trait Outlined: Keeper {
         collection: &str,
         first: &str,
         last: &str,
-    ) -> Result<Option<Vec<Feature>>, Fault>
+    ) -> Result<Option<Vec<PackedFeature>>, Fault>
         ensures { IsRead Self.model self.old self.new result
             (IsRunOf collection.now first.now last.now) };
 

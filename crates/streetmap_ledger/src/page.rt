@@ -3,13 +3,13 @@ ghost use Rattle.std.specs.Prelude.{IsTrue, string_bytes};
 ghost use Rattle.std.specs.Option.{ForSome};
 ghost use Rattle.streetmap_geojson.specs.Id.{is_id};
 
-use streetmap_geojson::Feature;
+use streetmap_feature_text::PackedFeature;
 
 /// A page of a collection.
 #[derive(Drop)]
 pub struct Page {
-    /// The features shown, in byte order of ids.
-    pub features: Vec<Feature>,
+    /// The features shown, as their texts, in byte order of ids.
+    pub features: Vec<PackedFeature>,
     /// How many features of the collection are selected, whatever `after` and `limit` are; 2^64 - 1
     /// if the number is larger.
     pub matched: u64,

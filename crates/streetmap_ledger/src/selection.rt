@@ -1,5 +1,5 @@
 //! How a query selects a feature.
-ghost use Rattle.std.specs.Prelude.{◌≡◌, Option, IfSome, IsTrue, true, option_map};
+ghost use Rattle.std.specs.Prelude.{◌≡◌, Option, IfOk, IfSome, IsTrue, Some, true, option_map};
 ghost use Rattle.streetmap_grid.specs.Extent.{extent_of};
 ghost use Rattle.streetmap_grid.specs.Values.{GeometryValue};
 ghost use Rattle.streetmap_grid.specs.Meeting.{geometry_meets};
@@ -7,29 +7,42 @@ ghost use Rattle.streetmap_grid.specs.Views.{box_value};
 ghost use Rattle.streetmap_moment.specs.Views.{interval_value};
 ghost use Rattle.streetmap_moment.specs.Meeting.{meets, seconds_overlap};
 ghost use Rattle.streetmap_geojson.specs.FeatureValue.{FeatureValue};
-ghost use Rattle.streetmap_geojson.specs.FeatureInvariant.{IsFeature, IsGeometryIf};
-ghost use Rattle.streetmap_feature_text.specs.Outlines.{outline_of};
+ghost use Rattle.streetmap_geojson.specs.FeatureInvariant.{IsGeometryIf};
 ghost use Rattle.streetmap_query.specs.Views.{query_value};
 ghost use Rattle.streetmap_ledger.specs.Pages.{passes, requested_interval, selects as selects_of};
 ghost use Rattle.streetmap_ledger.specs.Pages.{comes_after as comes_after_of, extent_overlaps};
 ghost use Rattle.streetmap_ledger.specs.Pages.{is_candidate as is_candidate_of};
 
-use streetmap_feature_text::Outline;
-use streetmap_geojson::Feature;
+use std::alloc::{AllocError, Global};
+use streetmap_feature_text::PackedFeature;
 use streetmap_grid::GridBox;
 use streetmap_moment::Interval;
 use streetmap_query::Query;
 
-/// Whether the feature's geometry meets the query's box, if any.
-fn meets_box(query: &Query, feature: &Feature) -> bool
-    ensures { result ≡ passes geometry_meets feature.now.geometry (query_value query.now).bbox }
+/// Whether the feature has a geometry that meets the box: the geometry is read from its text.
+fn meets_area(alloc: Global, feature: &PackedFeature, area: &GridBox) -> Result<bool, AllocError>
+    ensures { IfOk result (λ met. met
+        ≡ passes geometry_meets feature.now.geometry (Some (box_value area.now))) }
 {
+    match feature.unpack(alloc)?.geometry() {
+        None => Ok(false),
+        Some(geometry) => Ok(geometry.meets(area)),
+    }
+}
+
+/// Whether the feature's geometry meets the query's box, if any. The geometry is read only if its
+/// extent does not decide it.
+fn meets_box(alloc: Global, query: &Query, feature: &PackedFeature) -> Result<bool, AllocError>
+    ensures { IfOk result (λ met. met
+        ≡ passes geometry_meets feature.now.geometry (query_value query.now).bbox) }
+{
+    feature.facts();
+    if lies_within_box(query, feature.extent()) {
+        return Ok(true);
+    }
     match &query.bbox {
-        None => true,
-        Some(area) => match feature.geometry() {
-            None => false,
-            Some(geometry) => geometry.meets(area),
-        },
+        None => Ok(true),
+        Some(area) => meets_area(alloc, feature, area),
     }
 }
 
@@ -48,19 +61,42 @@ fn meets_interval(query: &Query, time: Option<Interval>) -> bool
 }
 
 /// Whether the query selects the feature.
-pub fn selects(query: &Query, feature: &Feature) -> bool
-    ensures { result ≡ selects_of (query_value query.now) feature.now }
+pub(crate) fn selects(
+    alloc: Global,
+    query: &Query,
+    feature: &PackedFeature,
+) -> Result<bool, AllocError>
+    ensures { IfOk result (λ selected. selected ≡ selects_of (query_value query.now) feature.now) }
 {
-    meets_box(query, feature) && meets_interval(query, feature.time())
+    if !meets_interval(query, feature.time()) {
+        return Ok(false);
+    }
+    meets_box(alloc, query, feature)
+}
+
+/// Whether the id comes after the query's, if any.
+fn follows(query: &Query, id: &str) -> bool
+    ensures { (f : FeatureValue) → f.id ≡ id.now
+        → result ≡ comes_after_of (query_value query.now).after f }
+{
+    match &query.after {
+        Some(after) => id > after.as_str(),
+        None => true,
+    }
 }
 
 /// Whether the feature's id comes after the query's, if any.
-pub fn comes_after(query: &Query, feature: &Feature) -> bool
-    ensures { result ≡ comes_after_of (query_value query.now).after feature.now }
+pub(crate) fn comes_after(
+    alloc: Global,
+    query: &Query,
+    feature: &PackedFeature,
+) -> Result<bool, AllocError>
+    ensures { IfOk result (λ following. following
+        ≡ comes_after_of (query_value query.now).after feature.now) }
 {
-    match &query.after {
-        Some(id) => feature.id() > id.as_str(),
-        None => true,
+    match comes_after_unread(query, feature) {
+        Some(following) => Ok(following),
+        None => Ok(follows(query, feature.id(alloc)?.as_str())),
     }
 }
 
@@ -97,49 +133,48 @@ pub fn lies_within_box(query: &Query, extent: Option<GridBox>) -> bool
 }
 
 /// Whether the seconds of the time overlap those of the query's interval, if any.
-fn overlaps_interval(query: &Query, outline: &Outline) -> bool
-    ensures { (f : FeatureValue) → outline.now ≡ outline_of f
-        → result ≡ passes seconds_overlap f.time (requested_interval (query_value query.now)) }
+fn overlaps_interval(query: &Query, time: Option<Interval>) -> bool
+    ensures { result ≡ passes seconds_overlap (option_map interval_value time)
+        (requested_interval (query_value query.now)) }
 {
     match &query.datetime {
         None => true,
-        Some(datetime) => match outline.time() {
+        Some(datetime) => match time {
             None => false,
             Some(time) => time.overlaps_seconds(&datetime.interval),
         },
     }
 }
 
-/// Whether a page examines the feature with this outline.
-pub fn is_candidate(query: &Query, outline: &Outline) -> bool
-    ensures { (f : FeatureValue) → outline.now ≡ outline_of f
-        → result ≡ is_candidate_of (query_value query.now) f }
+/// Whether a page examines the feature.
+pub(crate) fn is_candidate(query: &Query, feature: &PackedFeature) -> bool
+    ensures { result ≡ is_candidate_of (query_value query.now) feature.now }
 {
-    overlaps_box(query, outline.extent()) && overlaps_interval(query, outline)
+    overlaps_box(query, feature.extent()) && overlaps_interval(query, feature.time())
 }
 
-/// Whether the query selects the feature with this outline, if the outline decides it.
-pub(crate) fn selects_unread(query: &Query, outline: &Outline) -> Option<bool>
-    ensures { (f : FeatureValue) → outline.now ≡ outline_of f → IsFeature f
-        → IfSome result (λ known. known ≡ selects_of (query_value query.now) f) }
+/// Whether the query selects the feature, if its extent and its time decide it.
+pub(crate) fn selects_unread(query: &Query, feature: &PackedFeature) -> Option<bool>
+    ensures { IfSome result (λ known. known ≡ selects_of (query_value query.now) feature.now) }
 {
-    if !meets_interval(query, outline.time()) {
+    feature.facts();
+    if !meets_interval(query, feature.time()) {
         return Some(false);
     }
-    if lies_within_box(query, outline.extent()) {
+    if lies_within_box(query, feature.extent()) {
         return Some(true);
     }
     None
 }
 
-/// Whether a feature with this id comes after the query's, if that can be decided.
-pub(crate) fn comes_after_unread(query: &Query, id: Option<&[u8]>) -> Option<bool>
-    ensures { (f : FeatureValue) → IfSome id.entry (λ known. known.now ≡ f.id)
-        → IfSome result (λ known. known ≡ comes_after_of (query_value query.now).after f) }
+/// Whether the feature's id comes after the query's, if the text has it unescaped.
+pub(crate) fn comes_after_unread(query: &Query, feature: &PackedFeature) -> Option<bool>
+    ensures { IfSome result (λ known. known
+        ≡ comes_after_of (query_value query.now).after feature.now) }
 {
     match &query.after {
         None => Some(true),
-        Some(after) => match id {
+        Some(after) => match feature.unescaped_id() {
             Some(id) => Some(id.cmp(after.as_str().as_bytes()).is_gt()),
             None => None,
         },

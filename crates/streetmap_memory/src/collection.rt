@@ -31,7 +31,6 @@ use std::alloc::{AllocError, Global};
 use std::collections::BTreeMap;
 use std::marker::Model;
 use streetmap_feature_text::{PackedFeature, WrittenFeature};
-use streetmap_geojson::Feature;
 use streetmap_grid::GridBox;
 use streetmap_ledger::{FeatureOutline, Page, PageFold, Summary};
 use streetmap_query::Query;
@@ -209,7 +208,7 @@ impl PlainCollection {
         alloc: Global,
         first: &str,
         last: &str,
-    ) -> Result<Vec<Feature>, AllocError>
+    ) -> Result<Vec<PackedFeature>, AllocError>
         ensures { IfOk result (λ run. run.items
             ≡ run_under first.now last.now (entries (live self.now.slots))) }
     {
@@ -276,34 +275,6 @@ fn outlines_of(
     Ok(outlines)
 }
 
-/// Takes the next feature, read from its text.
-fn take_unpacked(
-    alloc: Global,
-    fold: &mut PageFold<'_>,
-    feature: &PackedFeature,
-) -> Result<(), AllocError>
-    ensures { (q : QueryValue) (fs : List FeatureValue) → IsFoldOf q fold.old fs
-        → OnOk result (IsFoldOf q fold.new (fs ++ feature.now ∷ [])) }
-{
-    fold.take(feature.unpack(alloc)?)
-}
-
-/// Takes the next feature, if it is a candidate of the query.
-fn examine(
-    alloc: Global,
-    fold: &mut PageFold<'_>,
-    feature: &PackedFeature,
-) -> Result<(), AllocError>
-    ensures { (q : QueryValue) (fs : List FeatureValue) → HoldsCandidates q fold.old fs
-        → OnOk result (HoldsCandidates q fold.new (fs ++ feature.now ∷ [])) }
-{
-    feature.facts();
-    if fold.take_unread(&feature.outline(), feature.unescaped_id()) {
-        return Ok(());
-    }
-    take_unpacked(alloc, fold, feature)
-}
-
 /// The page of the features in the slots, in the order of their ids.
 fn page_over(
     alloc: Global,
@@ -317,7 +288,7 @@ fn page_over(
     let mut fold = PageFold::new(alloc, query);
     for slot in slots.values() {
         if let Some(feature) = slot {
-            examine(alloc, &mut fold, feature)?;
+            fold.examine(feature)?;
         }
     }
     fold.end(alloc)
@@ -330,7 +301,7 @@ fn run_of(
     slots: &BTreeMap<String, Option<PackedFeature>>,
     first: String,
     last: String,
-) -> Result<Vec<Feature>, AllocError>
+) -> Result<Vec<PackedFeature>, AllocError>
     requires { IsLeBy string_cmp first last }
     ensures run { IfOk result (λ run. run.items
         ≡ run_under (string_bytes first) (string_bytes last)
@@ -340,7 +311,7 @@ fn run_of(
     let mut run = Vec::new(alloc);
     for (_, slot) in slots.range(first..=last) {
         if let Some(feature) = slot {
-            run.push(feature.unpack(alloc)?)?;
+            run.push(feature.copy(alloc)?)?;
         }
     }
     Ok(run)

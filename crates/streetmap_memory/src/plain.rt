@@ -33,7 +33,7 @@ use bytes::Bytes;
 use std::alloc::{AllocError, Global};
 use std::collections::BTreeMap;
 use streetmap_batch::Batch;
-use streetmap_geojson::Feature;
+use streetmap_feature_text::PackedFeature;
 use streetmap_ledger::{
     Counts, Fault, FeatureOutline, Keeper, KeepsBatches, Outlined, Page, Refusal, Reply, Summary,
 };
@@ -136,13 +136,13 @@ impl PlainKeeper {
         }
     }
 
-    fn feature_of(&self, collection: &str, id: &str) -> Result<Option<Feature>, AllocError>
+    fn feature_of(&self, collection: &str, id: &str) -> Result<Option<PackedFeature>, AllocError>
         ensures { IfOk result (λ found. found
             ≡ feature_in (plain_state self.now) collection.now id.now) }
     {
         match self.collections.get(collection) {
             Some(collection) => match collection.get(id) {
-                Some(feature) => Ok(Some(feature.unpack(self.alloc)?)),
+                Some(feature) => Ok(Some(feature.copy(self.alloc)?)),
                 None => Ok(None),
             },
             None => Ok(None),
@@ -154,7 +154,7 @@ impl PlainKeeper {
         collection: &str,
         first: &str,
         last: &str,
-    ) -> Result<Option<Vec<Feature>>, AllocError>
+    ) -> Result<Option<Vec<PackedFeature>>, AllocError>
         ensures { IsState (plain_state self.now) → IfOk result (λ found.
             option_map (λ (fs : Vec FeatureValue Global). fs.items) found
             ≡ run_in (plain_state self.now) collection.now first.now last.now) }
@@ -280,7 +280,7 @@ impl Keeper for PlainKeeper {
         }
     }
 
-    fn feature(&mut self, collection: &str, id: &str) -> Result<Option<Feature>, Fault> {
+    fn feature(&mut self, collection: &str, id: &str) -> Result<Option<PackedFeature>, Fault> {
         match self.feature_of(collection, id) {
             Ok(feature) => Ok(feature),
             Err(_) => Err(Fault::Memory),
@@ -308,7 +308,7 @@ impl Outlined for PlainKeeper {
         collection: &str,
         first: &str,
         last: &str,
-    ) -> Result<Option<Vec<Feature>>, Fault> {
+    ) -> Result<Option<Vec<PackedFeature>>, Fault> {
         match self.features_of(collection, first, last) {
             Ok(features) => Ok(features),
             Err(_) => Err(Fault::Memory),

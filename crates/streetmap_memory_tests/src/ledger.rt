@@ -61,7 +61,7 @@ fn run_ids(
     };
     let mut ids = String::new(alloc);
     for feature in &features {
-        ids.push_str(feature.id())?;
+        ids.push_str(feature.id(alloc)?.as_str())?;
     }
     Ok(Some(ids))
 }

@@ -14,7 +14,7 @@ use Rattle.streetmap_geojson.specs.FeatureValue.{FeatureValue}
 use Rattle.streetmap_query.specs.QueryValue.{QueryValue}
 use Rattle.streetmap_ledger.specs.Pages.{passes, extent_overlaps, is_candidate}
 use Rattle.streetmap_ledger.specs.Outlines.{FeatureOutlineValue}
-use Rattle.streetmap_outlines.specs.declared.kept.KeptOutline.{KeptOutline}
+use Rattle.streetmap_ledger.specs.declared.outline.FeatureOutline.{FeatureOutline}
 use Rattle.streetmap_cells.specs.Envelopes.{IsEnvelopeOf, overlaps}
 use Rattle.streetmap_cells.proofs.Envelopes.{same_overlap}
 use Rattle.streetmap_cells.specs.declared.envelope.Envelope.{Envelope}
@@ -22,9 +22,9 @@ use Rattle.streetmap_outlines.specs.Outlines.{IsOutlineOf, IsExtentIf, AreExtent
 use Rattle.streetmap_outlines.specs.Selections.{IsWindowOf}
 
 -- ---- one more
-module _ (es : List Envelope) (os : List KeptOutline) (i : ℕ) (e : Envelope) (o : KeptOutline) (len : length es ≡ i) (within : i < length os) (is : o ≡ get_or os i o) where
+module _ (es : List Envelope) (os : List FeatureOutline) (i : ℕ) (e : Envelope) (o : FeatureOutline) (len : length es ≡ i) (within : i < length os) (is : o ≡ get_or os i o) where
   -- the outline in the last place
-  last_is : (y : KeptOutline) (k : ℕ) → k ≡ i → slice_get os k ≡ Some y → o ≡ y
+  last_is : (y : FeatureOutline) (k : ℕ) → k ≡ i → slice_get os k ≡ Some y → o ≡ y
   last_is y k at there =
       let same : Some o ≡ Some y = sym (slice_get_read os (length os) i o refl within is) ∙ (ap (slice_get os) (sym at) ∙ there) in
       cc
@@ -36,7 +36,7 @@ module _ (es : List Envelope) (os : List KeptOutline) (i : ℕ) (e : Envelope) (
         let less : k < length (es ++ e ∷ []) = slice_get_within (es ++ e ∷ []) k x here in
         let at : k ≡ length es = omega (arith, less, following, length-append es (e ∷ [])) in
         let new : e ≡ x = sym (get_or-append_seam es e [] x) ∙ (ap (λ n. get_or (es ++ e ∷ []) n x) (sym at) ∙ get_or_from_slice_get (es ++ e ∷ []) k x x here) in
-        subst (λ v. IsExtentIf v y.extent) new (subst (λ (v : KeptOutline). IsExtentIf e v.extent) (last_is y k (at ∙ len) there) one)
+        subst (λ v. IsExtentIf v y.extent) new (subst (λ (v : FeatureOutline). IsExtentIf e v.extent) (last_is y k (at ∙ len) there) one)
   ]
 
 -- ---- off the window
@@ -60,11 +60,11 @@ module _ (window e : Envelope) (area : GridBox) (requested : IsEnvelopeOf window
       let one : box_value box ≡ extent_of v = cc in
       same_overlap e window (box_value box) (box_value area) kept requested ∙ ap (λ b. boxes_overlap b (box_value area)) one
 
-pub overlaps_requested : (q : QueryValue) (window e : Envelope) (o : KeptOutline) (f : FeatureValue) → IsWindowOf q (Some window) → IsExtentIf e o.extent → IsOutlineOf o f → overlaps e window ≡ passes extent_overlaps f.geometry q.bbox
+pub overlaps_requested : (q : QueryValue) (window e : Envelope) (o : FeatureOutline) (f : FeatureValue) → IsWindowOf q (Some window) → IsExtentIf e o.extent → IsOutlineOf o f → overlaps e window ≡ passes extent_overlaps f.geometry q.bbox
 overlaps_requested q window e o f (area, requested, is) kept known =
     overlaps_as window e area is o.extent f.geometry kept (ap (λ (v : FeatureOutlineValue). v.extent) known) ∙ ap (passes extent_overlaps f.geometry) (sym requested)
 
-pub off_window : (q : QueryValue) (window e : Envelope) (o : KeptOutline) (f : FeatureValue) → IsWindowOf q (Some window) → overlaps e window ≡ false → IsExtentIf e o.extent → IsOutlineOf o f → is_candidate q f ≡ false
+pub off_window : (q : QueryValue) (window e : Envelope) (o : FeatureOutline) (f : FeatureValue) → IsWindowOf q (Some window) → overlaps e window ≡ false → IsExtentIf e o.extent → IsOutlineOf o f → is_candidate q f ≡ false
 off_window q window e o f requested off kept known =
     let none : passes extent_overlaps f.geometry q.bbox ≡ false = sym (overlaps_requested q window e o f requested kept known) ∙ off in
     rw none refl

@@ -20,7 +20,7 @@ use Rattle.streetmap_ledger.specs.Outlines.{FeatureOutlineValue}
 use Rattle.streetmap_ledger.specs.Pages.{passes, extent_overlaps, requested_interval, selects, selected, comes_after, is_candidate, candidates}
 use Rattle.streetmap_ledger.specs.Folds.{IsFoldOf, AreHidden}
 use Rattle.streetmap_ledger.specs.declared.fold.PageFold.{PageFold}
-use Rattle.streetmap_outlines.specs.declared.kept.KeptOutline.{KeptOutline}
+use Rattle.streetmap_ledger.specs.declared.outline.FeatureOutline.{FeatureOutline}
 use Rattle.streetmap_ledger.proofs.Examining.{selected_are_candidates, candidates_selected}
 use Rattle.streetmap_cells.specs.Envelopes.{IsEnvelopeOf, overlaps}
 use Rattle.streetmap_cells.specs.declared.envelope.Envelope.{Envelope}
@@ -32,7 +32,7 @@ use Rattle.streetmap_outlines.proofs.Beside.{off_at_corner, off_window}
 use Rattle.streetmap_outlines.proofs.Position.{three_bounds_pass}
 
 -- the features with outlines that a test holds for are selected, and the others are not examined
-abbrev IsDecided : Query → (KeptOutline → Bool) → Features → KeptOutline → Type 0
+abbrev IsDecided : Query → (FeatureOutline → Bool) → Features → FeatureOutline → Type 0
 IsDecided q w features o = (f : FeatureValue) → IsEntry features o f → (w o ≡ true → selects (query_value q) f ≡ true) × (w o ≡ false → is_candidate (query_value q) f ≡ false)
 
 abbrev Selected : Query → FeatureValue → Type 0
@@ -56,7 +56,7 @@ one_more q w x f xs fs false is reported made rest =
     let back : count_by w (x ∷ xs) ≡ 0 + count_by w xs = sum_by-cons (λ y. cond (w y) 1 0) x xs ∙ ap (λ c. cond c 1 0 + count_by w xs) is in
     record { selected = rw k rest.selected; count = omega (arith, e, front, back) }
 
-whole : (q : Query) (w : KeptOutline → Bool) (features : Features) (os : List KeptOutline) (fs : List FeatureValue) → All (IsDecided q w features) os → Pairs features os fs
+whole : (q : Query) (w : FeatureOutline → Bool) (features : Features) (os : List FeatureOutline) (fs : List FeatureValue) → All (IsDecided q w features) os → Pairs features os fs
     → SelectsCandidates (query_value q) (count_by w os) fs
 whole q w features [] [] each pairs = record { selected = All-nil (Selected q); count = refl }
 whole q w features [] (f ∷ fs) each pairs = absurd pairs
@@ -73,8 +73,8 @@ off (Some b) None (Some g) t unasked is = absurd cc
 
 -- how many features of a chunk are selected, if its bounds and seconds show that all are
 pub counts_whole : (q : Query) (chunk : Chunk) → IsBounded chunk
-    → ((o : KeptOutline) (f : FeatureValue) → LiesWithin o.extent chunk.bounds → IsOutlineOf o f → IsFeature f → IsCountedFor (query_value q) o → passes geometry_meets f.geometry (query_value q).bbox ≡ true)
-    → ((o : KeptOutline) (f : FeatureValue) → IsTimedBy o.seconds chunk.seconds → IsOutlineOf o f → passes meets f.time (requested_interval (query_value q)) ≡ true)
+    → ((o : FeatureOutline) (f : FeatureValue) → LiesWithin o.extent chunk.bounds → IsOutlineOf o f → IsFeature f → IsCountedFor (query_value q) o → passes geometry_meets f.geometry (query_value q).bbox ≡ true)
+    → ((o : FeatureOutline) (f : FeatureValue) → IsTimedBy o.seconds chunk.seconds → IsOutlineOf o f → passes meets f.time (requested_interval (query_value q)) ≡ true)
     → CountsWhole (query_value q) chunk (count_by (counts (query_value q)) chunk.outlines.items)
 counts_whole q chunk bounded covers reaches features fs pairs =
     let v = query_value q in
@@ -85,24 +85,24 @@ counts_whole q chunk bounded covers reaches features fs pairs =
     ) in
     whole q (counts v) features chunk.outlines.items fs each pairs
 
-counts_each : (os : List KeptOutline) → count_by (λ (o : KeptOutline). true) os ≡ length os
+counts_each : (os : List FeatureOutline) → count_by (λ (o : FeatureOutline). true) os ≡ length os
 counts_each [] = refl
 counts_each (o ∷ os) =
     let e = counts_each os in
-    let back : count_by (λ (x : KeptOutline). true) (o ∷ os) ≡ 1 + count_by (λ (x : KeptOutline). true) os = sum_by-cons (λ (x : KeptOutline). cond true 1 0) o os in
+    let back : count_by (λ (x : FeatureOutline). true) (o ∷ os) ≡ 1 + count_by (λ (x : FeatureOutline). true) os = sum_by-cons (λ (x : FeatureOutline). cond true 1 0) o os in
     omega (arith, e, back)
 
 -- all outlines are counted if the query has no box, else those with an extent
-pub counts_all : (q : Query) → q.bbox ≡ None → (os : List KeptOutline) → count_by (counts (query_value q)) os ≡ length os
+pub counts_all : (q : Query) → q.bbox ≡ None → (os : List FeatureOutline) → count_by (counts (query_value q)) os ≡ length os
 counts_all q none os = rw none (counts_each os)
 
-pub counts_extents : (q : Query) (area : GridBox) → q.bbox ≡ Some area → (os : List KeptOutline) → count_by (counts (query_value q)) os ≡ count_by has_extent os
+pub counts_extents : (q : Query) (area : GridBox) → q.bbox ≡ Some area → (os : List FeatureOutline) → count_by (counts (query_value q)) os ≡ count_by has_extent os
 counts_extents q area some os = rw some refl
 
 -- ---- chunks whose kept extents decide on all features
 module _ (q : Query) (area : GridBox) (window : Envelope) (requested : q.bbox ≡ Some area) (is : IsEnvelopeOf window (box_value area)) where
   -- what overlaps the window meets the box, and what does not is not examined
-  reported_by : (e : Envelope) (o : KeptOutline) (f : FeatureValue) → IsExtentIf e o.extent → DecidesMeeting e window → IsOutlineOf o f → IsFeature f → passes meets f.time (requested_interval (query_value q)) ≡ true
+  reported_by : (e : Envelope) (o : FeatureOutline) (f : FeatureValue) → IsExtentIf e o.extent → DecidesMeeting e window → IsOutlineOf o f → IsFeature f → passes meets f.time (requested_interval (query_value q)) ≡ true
       → (overlaps e window ≡ true → selects (query_value q) f ≡ true) × (overlaps e window ≡ false → is_candidate (query_value q) f ≡ false)
   reported_by e o f kept reports known made timed = (
     λ on. rw (subst (λ (b : Option GridBox). passes geometry_meets f.geometry (option_map box_value b) ≡ true) (sym requested) (meets_box o.extent kept (ap (λ (v : FeatureOutlineValue). v.extent) known) on), timed) refl,
@@ -112,8 +112,8 @@ module _ (q : Query) (area : GridBox) (window : Envelope) (requested : q.bbox �
     meets_box None kept same on = absurd (both_ways _ (off_at_corner window e area is kept) on)
     meets_box (Some box) kept same on = three_bounds_pass f.geometry box area e window same made.made kept is (reports on)
 
-  kept_whole : (features : Features) (seconds : Option (ℤ × ℤ)) → ((o : KeptOutline) (f : FeatureValue) → IsTimedBy o.seconds seconds → IsOutlineOf o f → passes meets f.time (requested_interval (query_value q)) ≡ true)
-      → (es : List Envelope) (os : List KeptOutline) (fs : List FeatureValue) → length es ≡ length os → AreExtentsOf es os → All (λ e. DecidesMeeting e window) es → AllTimedBy os seconds → Pairs features os fs
+  kept_whole : (features : Features) (seconds : Option (ℤ × ℤ)) → ((o : FeatureOutline) (f : FeatureValue) → IsTimedBy o.seconds seconds → IsOutlineOf o f → passes meets f.time (requested_interval (query_value q)) ≡ true)
+      → (es : List Envelope) (os : List FeatureOutline) (fs : List FeatureValue) → length es ≡ length os → AreExtentsOf es os → All (λ e. DecidesMeeting e window) es → AllTimedBy os seconds → Pairs features os fs
       → SelectsCandidates (query_value q) (count_by (λ e. overlaps e window) es) fs
   kept_whole features seconds reaches [] [] [] long kept reported timed pairs = record { selected = All-nil (Selected q); count = refl }
   kept_whole features seconds reaches [] [] (f ∷ fs) long kept reported timed pairs = absurd pairs
@@ -122,7 +122,7 @@ module _ (q : Query) (area : GridBox) (window : Envelope) (requested : q.bbox �
   kept_whole features seconds reaches (e ∷ es) (o ∷ os) [] long kept reported timed pairs = absurd pairs
   kept_whole features seconds reaches (e ∷ es) (o ∷ os) (f ∷ fs) long kept reported timed pairs =
       let Decides : Envelope → Type 0 = λ e. DecidesMeeting e window in
-      let Timed : KeptOutline → Type 0 = λ o. IsTimedBy o.seconds seconds in
+      let Timed : FeatureOutline → Type 0 = λ o. IsTimedBy o.seconds seconds in
       let entry = pairs.0 in
       one_more q (λ e. overlaps e window) e f es fs (overlaps e window) refl
       (reported_by e o f (kept 0 e o refl refl) (All-head Decides e es reported) entry.known entry.made (reaches o f (All-head Timed o os timed) entry.known)) entry.made
@@ -130,11 +130,11 @@ module _ (q : Query) (area : GridBox) (window : Envelope) (requested : q.bbox �
 
   -- how many of a chunk are selected, if each kept extent shows whether its geometry meets the box
   pub counts_kept : (chunk : Chunk) → IsBounded chunk → length chunk.extents.items ≡ length chunk.outlines.items → All (λ e. DecidesMeeting e window) chunk.extents.items
-      → ((o : KeptOutline) (f : FeatureValue) → IsTimedBy o.seconds chunk.seconds → IsOutlineOf o f → passes meets f.time (requested_interval (query_value q)) ≡ true)
+      → ((o : FeatureOutline) (f : FeatureValue) → IsTimedBy o.seconds chunk.seconds → IsOutlineOf o f → passes meets f.time (requested_interval (query_value q)) ≡ true)
       → CountsWhole (query_value q) chunk (count_by (λ e. overlaps e window) chunk.extents.items)
   counts_kept chunk bounded long reported reaches features fs pairs = kept_whole features chunk.seconds reaches chunk.extents.items chunk.outlines.items fs long bounded.extents reported bounded.timed pairs
 
-made_all : (features : Features) (os : List KeptOutline) (fs : List FeatureValue) → Pairs features os fs → All IsFeature fs
+made_all : (features : Features) (os : List FeatureOutline) (fs : List FeatureValue) → Pairs features os fs → All IsFeature fs
 made_all features [] [] pairs = All-nil IsFeature
 made_all features [] (f ∷ fs) pairs = absurd pairs
 made_all features (o ∷ os) [] pairs = absurd pairs
@@ -143,10 +143,10 @@ made_all features (o ∷ os) (f ∷ fs) pairs = All-cons IsFeature f fs pairs.0.
 abbrev IsAfter : Query → Bool → FeatureValue → Type 0
 IsAfter q b f = comes_after (query_value q).after f ≡ b
 
-abbrev IsOutlineAfter : Query → Bool → KeptOutline → Type 0
+abbrev IsOutlineAfter : Query → Bool → FeatureOutline → Type 0
 IsOutlineAfter q b o = (f : FeatureValue) → IsOutlineOf o f → comes_after (query_value q).after f ≡ b
 
-all_after : (q : Query) (b : Bool) (features : Features) (os : List KeptOutline) (fs : List FeatureValue) → Pairs features os fs → AllComeAfter (query_value q) b os → All (IsAfter q b) fs
+all_after : (q : Query) (b : Bool) (features : Features) (os : List FeatureOutline) (fs : List FeatureValue) → Pairs features os fs → AllComeAfter (query_value q) b os → All (IsAfter q b) fs
 all_after q b features [] [] pairs after = All-nil (IsAfter q b)
 all_after q b features [] (f ∷ fs) pairs after = absurd pairs
 all_after q b features (o ∷ os) [] pairs after = absurd pairs

@@ -17,7 +17,7 @@ use Rattle.streetmap_ledger.specs.State.{Features}
 use Rattle.streetmap_ledger.specs.Pages.{passes, extent_overlaps, is_candidate}
 use Rattle.streetmap_ledger.specs.Folds.{HoldsCandidates}
 use Rattle.streetmap_ledger.specs.declared.fold.PageFold.{PageFold}
-use Rattle.streetmap_outlines.specs.declared.kept.KeptOutline.{KeptOutline}
+use Rattle.streetmap_ledger.specs.declared.outline.FeatureOutline.{FeatureOutline}
 use Rattle.streetmap_ledger.proofs.Examining.{left_out, refuted}
 use Rattle.streetmap_outlines.specs.Outlines.{IsOutlineOf, LiesWithin, AllLieWithin}
 use Rattle.streetmap_outlines.specs.Outlines.{Pairs}
@@ -29,8 +29,8 @@ lies_too (Some e) (Some one) None h k = absurd k
 lies_too (Some e) (Some one) (Some all) h k = λ x y held. k x y (h x y held)
 
 -- what lies within bounds lies within those that they lie within
-pub lie_too : (os : List KeptOutline) (old new : Option GridBox) → AllLieWithin os old → LiesWithin old new → AllLieWithin os new
-lie_too os old new h k = All-weaker (λ (o : KeptOutline). LiesWithin o.extent old) (λ o. LiesWithin o.extent new) (λ o held. lies_too o.extent old new held k) os h
+pub lie_too : (os : List FeatureOutline) (old new : Option GridBox) → AllLieWithin os old → LiesWithin old new → AllLieWithin os new
+lie_too os old new h k = All-weaker (λ (o : FeatureOutline). LiesWithin o.extent old) (λ o. LiesWithin o.extent new) (λ o held. lies_too o.extent old new held k) os h
 
 pub in_union : (a b c : BoxValue) → c ≡ union a b → IsWithin a c × IsWithin b c
 in_union a b c is = subst (λ g. IsWithin a g × IsWithin b g) (sym is) (
@@ -81,8 +81,8 @@ none_passes (Some e) (Some b) (Some area) (Some v) (Some w) within is are off =
     ap (λ x. overlaps x (box_value area)) (sym one) ∙ off_too e b area within (ap (λ x. overlaps x (box_value area)) all ∙ off)
 
 -- features that are no candidates add nothing
-pub passed_over : (P : KeptOutline → Type 0) (q : Query) (fold : PageFold) (features : Features) → ((o : KeptOutline) (f : FeatureValue) → P o → IsOutlineOf o f → is_candidate (query_value q) f ≡ false)
-    → (os : List KeptOutline) → All P os → (met fs : List FeatureValue) → Pairs features os fs → HoldsCandidates (query_value q) fold met → HoldsCandidates (query_value q) fold (met ++ fs)
+pub passed_over : (P : FeatureOutline → Type 0) (q : Query) (fold : PageFold) (features : Features) → ((o : FeatureOutline) (f : FeatureValue) → P o → IsOutlineOf o f → is_candidate (query_value q) f ≡ false)
+    → (os : List FeatureOutline) → All P os → (met fs : List FeatureValue) → Pairs features os fs → HoldsCandidates (query_value q) fold met → HoldsCandidates (query_value q) fold (met ++ fs)
 passed_over P q fold features off [] within met [] pairs held = subst (HoldsCandidates (query_value q) fold) (sym (append-nil met)) held
 passed_over P q fold features off [] within met (f ∷ fs) pairs held = absurd pairs
 passed_over P q fold features off (o ∷ os) within met [] pairs held = absurd pairs

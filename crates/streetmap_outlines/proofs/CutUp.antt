@@ -7,52 +7,36 @@ use Rattle.std.proofs.lemmas.List.Concat.{flat_map-append}
 use Rattle.streetmap_ledger.specs.Outlines.{FeatureOutlineValue}
 use Rattle.streetmap_ledger.specs.OutlineView.{feature_outline_value, feature_outline_values}
 use Rattle.streetmap_ledger.specs.declared.outline.FeatureOutline.{FeatureOutline}
-use Rattle.streetmap_outlines.specs.declared.kept.KeptOutline.{KeptOutline}
-use Rattle.streetmap_outlines.specs.Kept.{outline_value, outline_values}
 use Rattle.streetmap_outlines.specs.Outlines.{joined, joined_runs}
 use Rattle.streetmap_outlines.specs.declared.chunk.Chunk.{Chunk}
 
-abbrev pub HasOutlines : Vec KeptOutline Global → Type 0
+abbrev pub HasOutlines : Vec FeatureOutline Global → Type 0
 HasOutlines run = 0 < length run.items
 
--- ---- outlines that are kept one by one
-pub one_kept : (ks ls : List KeptOutline) (k : KeptOutline) (o : FeatureOutline)
-    (rest : List FeatureOutline) (all : List FeatureOutlineValue) → ls ≡ ks ++ k ∷ []
-    → outline_value k ≡ feature_outline_value o
-    → outline_values ks ++ feature_outline_values (o ∷ rest) ≡ all
-    → outline_values ls ++ feature_outline_values rest ≡ all
-one_kept ks ls k o rest all is same so_far =
-    ap (λ xs. outline_values xs ++ feature_outline_values rest) is
-    ∙ ap (λ vs. vs ++ feature_outline_values rest) (map-append outline_value ks (k ∷ []))
-    ∙ append_assoc (outline_values ks) (outline_value k ∷ []) (feature_outline_values rest)
-    ∙ ap (λ v. outline_values ks ++ v ∷ feature_outline_values rest) same
-    ∙ so_far
-
 -- ---- runs that are cut off from the end of outlines, the last one first
-pub run_pushed : (rs ts : List (Vec KeptOutline Global)) (last : Vec KeptOutline Global)
+pub run_pushed : (rs ts : List (Vec FeatureOutline Global)) (last : Vec FeatureOutline Global)
     → ts ≡ rs ++ last ∷ [] → joined_runs (reverse ts) ≡ last.items ++ joined_runs (reverse rs)
 run_pushed rs ts last is = ap joined_runs (ap reverse is ∙ reverse-append rs (last ∷ []))
 
 pub run_cut_off : (os front last : List FeatureOutline) (n : ℕ)
-    (rs ts : List (Vec KeptOutline Global)) (kept : Vec KeptOutline Global) → front ≡ take n os
-    → last ≡ drop n os → outline_values kept.items ≡ feature_outline_values last
-    → ts ≡ rs ++ kept ∷ []
-    → feature_outline_values front ++ outline_values (joined_runs (reverse ts))
-    ≡ feature_outline_values os ++ outline_values (joined_runs (reverse rs))
+    (rs ts : List (Vec FeatureOutline Global)) (kept : Vec FeatureOutline Global) → front ≡ take n os
+    → last ≡ drop n os → kept.items ≡ last → ts ≡ rs ++ kept ∷ []
+    → feature_outline_values front ++ feature_outline_values (joined_runs (reverse ts))
+    ≡ feature_outline_values os ++ feature_outline_values (joined_runs (reverse rs))
 run_cut_off os front last n rs ts kept p q same is =
-    let following = outline_values (joined_runs (reverse rs)) in
-    ap (λ xs. feature_outline_values front ++ outline_values xs) (run_pushed rs ts kept is)
+    let following = feature_outline_values (joined_runs (reverse rs)) in
+    ap (λ xs. feature_outline_values front ++ feature_outline_values xs) (run_pushed rs ts kept is)
     ∙ ap (λ vs. feature_outline_values front ++ vs)
-    (map-append outline_value kept.items (joined_runs (reverse rs)))
-    ∙ ap (λ vs. feature_outline_values front ++ (vs ++ following)) same
+    (map-append feature_outline_value kept.items (joined_runs (reverse rs)))
+    ∙ ap (λ os. feature_outline_values front ++ (feature_outline_values os ++ following)) same
     ∙ sym (append_assoc (feature_outline_values front) (feature_outline_values last) following)
     ∙ ap (λ vs. vs ++ following) (sym (map-append feature_outline_value front last))
     ∙ ap (λ xs. feature_outline_values xs ++ following)
     (ap (λ xs. xs ++ last) p ∙ (ap (λ xs. take n os ++ xs) q ∙ take-append-drop n os))
 
 -- ---- a chunk of the run that comes next
-pub run_taken : (cs ds : List Chunk) (c : Chunk) (rest : List (Vec KeptOutline Global))
-    (run : Vec KeptOutline Global) (all : List KeptOutline) → ds ≡ cs ++ c ∷ []
+pub run_taken : (cs ds : List Chunk) (c : Chunk) (rest : List (Vec FeatureOutline Global))
+    (run : Vec FeatureOutline Global) (all : List FeatureOutline) → ds ≡ cs ++ c ∷ []
     → c.outlines.items ≡ run.items → joined cs ++ (run.items ++ joined_runs rest) ≡ all
     → joined ds ++ joined_runs rest ≡ all
 run_taken cs ds c rest run all is items so_far =

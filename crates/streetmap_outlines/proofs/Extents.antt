@@ -14,7 +14,7 @@ use Rattle.streetmap_geojson.specs.FeatureInvariant.{IsGeometryIf}
 use Rattle.streetmap_ledger.specs.State.{Features}
 use Rattle.streetmap_ledger.specs.Summaries.{SummaryValue, extent_if, feature_vertices, all_vertices}
 use Rattle.streetmap_ledger.specs.Outlines.{FeatureOutlineValue}
-use Rattle.streetmap_outlines.specs.declared.kept.KeptOutline.{KeptOutline}
+use Rattle.streetmap_ledger.specs.declared.outline.FeatureOutline.{FeatureOutline}
 use Rattle.streetmap_outlines.specs.Outlines.{Pairs}
 use Rattle.streetmap_outlines.proofs.Pairing.{parted}
 
@@ -38,7 +38,7 @@ same_summary x y i t p e =
     ∙ (ap (λ a. record { id = y.id; title = y.title; time = a; extent = x.extent }) p ∙ ap (λ a. record { id = y.id; title = y.title; time = y.time; extent = a }) e))
 
 -- some of all features were met, the bounds are of them and of these positions; the others are left
-pub record Growing (ps : List PositionValue) (bounds : Option GridBox) (features : Features) (all : List FeatureValue) (rest : List KeptOutline) : Type 0 where
+pub record Growing (ps : List PositionValue) (bounds : Option GridBox) (features : Features) (all : List FeatureValue) (rest : List FeatureOutline) : Type 0 where
   pub met : List FeatureValue
   pub left : List FeatureValue
   pub whole : met ++ left ≡ all
@@ -48,7 +48,7 @@ pub record Growing (ps : List PositionValue) (bounds : Option GridBox) (features
 more_vertices : (ps : List PositionValue) (o : Option GridBox) (met : List FeatureValue) (f : FeatureValue) → AreBounds ((ps ++ all_vertices met) ++ feature_vertices f) o → AreBounds (ps ++ all_vertices (met ++ f ∷ [])) o
 more_vertices ps o met f h = subst (λ vs. AreBounds vs o) (append_assoc ps (all_vertices met) (feature_vertices f) ∙ ap (λ vs. ps ++ vs) (flat_map_more feature_vertices [] met f)) h
 
-pub grows_on : (ps : List PositionValue) (old new : Option GridBox) (features : Features) (all : List FeatureValue) (o : KeptOutline) (rest : List KeptOutline) → Growing ps old features all (o ∷ rest)
+pub grows_on : (ps : List PositionValue) (old new : Option GridBox) (features : Features) (all : List FeatureValue) (o : FeatureOutline) (rest : List FeatureOutline) → Growing ps old features all (o ∷ rest)
     → ((vs qs : List PositionValue) → AreBounds vs old → AreBounds qs o.extent → AreBounds (vs ++ qs) new) → Growing ps new features all rest
 grows_on ps old new features all o rest growing wider = by growing.left growing.whole growing.pairs where
   by : (left : List FeatureValue) → growing.met ++ left ≡ all → Pairs features (o ∷ rest) left → Growing ps new features all rest
@@ -69,7 +69,7 @@ all_grown ps o met fs h = subst (λ vs. AreBounds vs o) (append_assoc ps (all_ve
   flat_both [] fs = refl
   flat_both (f ∷ met) fs = append_assoc (feature_vertices f) (all_vertices met) (all_vertices fs) ∙ ap (λ vs. feature_vertices f ++ vs) (flat_both met fs)
 
-pub grows_after : (ps : List PositionValue) (old new : Option GridBox) (features : Features) (all : List FeatureValue) (front rest : List KeptOutline) → Growing ps old features all (front ++ rest)
+pub grows_after : (ps : List PositionValue) (old new : Option GridBox) (features : Features) (all : List FeatureValue) (front rest : List FeatureOutline) → Growing ps old features all (front ++ rest)
     → ((vs : List PositionValue) (fs : List FeatureValue) → Pairs features front fs → AreBounds vs old → AreBounds (vs ++ all_vertices fs) new) → Growing ps new features all rest
 grows_after ps old new features all front rest growing wider =
     let parts = parted features front rest growing.left growing.pairs in

@@ -15,8 +15,8 @@ use Rattle.streetmap_geojson.specs.FeatureValue.{FeatureValue}
 use Rattle.streetmap_batch.specs.Text.{Text, text_cmp}
 use Rattle.streetmap_ledger.specs.State.{Features}
 use Rattle.streetmap_ledger.specs.Outlines.{feature_outline_of}
-use Rattle.streetmap_outlines.specs.Kept.{outline_value, outline_values}
-use Rattle.streetmap_outlines.specs.declared.kept.KeptOutline.{KeptOutline}
+use Rattle.streetmap_ledger.specs.OutlineView.{feature_outline_value, feature_outline_values}
+use Rattle.streetmap_ledger.specs.declared.outline.FeatureOutline.{FeatureOutline}
 use Rattle.streetmap_ledger.proofs.TextMaps.{one_text, first, second}
 use Rattle.streetmap_outlines.specs.Outlines.{joined, AreOutlines, AreFilled, IsBounded, AreChunksOf}
 use Rattle.streetmap_outlines.specs.Chunks.{reaches}
@@ -30,7 +30,7 @@ goes_to k [] = false
 goes_to k (e ∷ []) = is_ge (text_cmp e.0 k)
 goes_to k (e ∷ (f ∷ es)) = goes_to k (f ∷ es)
 
-reaches_keys : (os : List KeptOutline) (es : Entries) (k : Text) → outline_values os ≡ outlines es → reaches k os ≡ goes_to k es
+reaches_keys : (os : List FeatureOutline) (es : Entries) (k : Text) → feature_outline_values os ≡ outlines es → reaches k os ≡ goes_to k es
 reaches_keys [] [] k is = refl
 reaches_keys [] (e ∷ es) k is = too_many e es is
 reaches_keys (y ∷ ys) [] k is = too_few y ys is
@@ -39,9 +39,9 @@ reaches_keys (y ∷ []) (e ∷ (f ∷ es)) k is = too_many f es (tail_is y [] e 
 reaches_keys (y ∷ (z ∷ ys)) (e ∷ []) k is = too_few z ys (tail_is y (z ∷ ys) e [] is)
 reaches_keys (y ∷ (z ∷ ys)) (e ∷ (f ∷ es)) k is = reaches_keys (z ∷ ys) (f ∷ es) k (tail_is y (z ∷ ys) e (f ∷ es) is)
 
-pub last_reaches : (k : Text) (os : List KeptOutline) (n : ℕ) (o : KeptOutline) → n + 1 ≡ length os → o ≡ slice_index_or os n o → is_ge (text_cmp (string_bytes o.id) k) ≡ reaches k os
+pub last_reaches : (k : Text) (os : List FeatureOutline) (n : ℕ) (o : FeatureOutline) → n + 1 ≡ length os → o ≡ slice_index_or os n o → is_ge (text_cmp (string_bytes o.id) k) ≡ reaches k os
 last_reaches k [] n o len at = absurd (omega arith)
-last_reaches k (x ∷ []) zero o len at = ap (λ (y : KeptOutline). is_ge (text_cmp (string_bytes y.id) k)) at
+last_reaches k (x ∷ []) zero o len at = ap (λ (y : FeatureOutline). is_ge (text_cmp (string_bytes y.id) k)) at
 last_reaches k (x ∷ []) (suc n) o len at = absurd (omega arith)
 last_reaches k (x ∷ (y ∷ os)) zero o len at = absurd (omega arith)
 last_reaches k (x ∷ (y ∷ os)) (suc n) o len at = last_reaches k (y ∷ os) n o (omega arith) at
@@ -124,14 +124,14 @@ pub sorted_rest : (es fs : Entries) → T (is_sorted text_cmp (es ++ fs)) → T 
 sorted_rest [] fs h = h
 sorted_rest (e ∷ es) fs h = sorted_rest es fs (second _ _ h)
 
-pub record Split (xs ys : List KeptOutline) (es : Entries) : Type 0 where
+pub record Split (xs ys : List FeatureOutline) (es : Entries) : Type 0 where
   pub front : Entries
   pub rest : Entries
   pub whole : front ++ rest ≡ es
-  pub fronts : outline_values xs ≡ outlines front
-  pub rests : outline_values ys ≡ outlines rest
+  pub fronts : feature_outline_values xs ≡ outlines front
+  pub rests : feature_outline_values ys ≡ outlines rest
 
-pub split : (xs ys : List KeptOutline) (es : Entries) → outline_values (xs ++ ys) ≡ outlines es → Split xs ys es
+pub split : (xs ys : List FeatureOutline) (es : Entries) → feature_outline_values (xs ++ ys) ≡ outlines es → Split xs ys es
 split [] ys es is = record { front = []; rest = es; whole = refl; fronts = refl; rests = is }
 split (x ∷ xs) ys [] is = too_few x (xs ++ ys) is
 split (x ∷ xs) ys (e ∷ es) is =
@@ -140,13 +140,13 @@ split (x ∷ xs) ys (e ∷ es) is =
       front = e ∷ more.front;
       rest = more.rest;
       whole = ap (λ zs. e ∷ zs) more.whole;
-      fronts = ap (λ z. z ∷ outline_values xs) (head_is x (xs ++ ys) e es is) ∙ ap (λ zs. feature_outline_of e.0 e.1 ∷ zs) more.fronts;
+      fronts = ap (λ z. z ∷ feature_outline_values xs) (head_is x (xs ++ ys) e es is) ∙ ap (λ zs. feature_outline_of e.0 e.1 ∷ zs) more.fronts;
       rests = more.rests;
     }
 
-two : (xs ys : List KeptOutline) (es fs : Entries) → outline_values xs ≡ outlines es → outline_values ys ≡ outlines fs → outline_values (xs ++ ys) ≡ outlines (es ++ fs)
+two : (xs ys : List FeatureOutline) (es fs : Entries) → feature_outline_values xs ≡ outlines es → feature_outline_values ys ≡ outlines fs → feature_outline_values (xs ++ ys) ≡ outlines (es ++ fs)
 two xs ys es fs p q =
-    map-append outline_value xs ys ∙ (ap (λ a. a ++ outline_values ys) p ∙ (ap (λ b. outlines es ++ b) q ∙ sym (map-append (λ (e : Text × FeatureValue). feature_outline_of e.0 e.1) es fs)))
+    map-append feature_outline_value xs ys ∙ (ap (λ a. a ++ feature_outline_values ys) p ∙ (ap (λ b. outlines es ++ b) q ∙ sym (map-append (λ (e : Text × FeatureValue). feature_outline_of e.0 e.1) es fs)))
 
 -- ---- the search for an id by halving
 goes_above : (k : Text) (es : Entries) → T (below_all text_cmp k es) → 0 < length es → goes_to k es ≡ true
@@ -154,7 +154,7 @@ goes_above k [] up some = absurd (omega arith)
 goes_above k (e ∷ []) up some = ap is_ge (flip k e.0 Less (less _ (first _ _ up)))
 goes_above k (e ∷ (f ∷ es)) up some = goes_above k (f ∷ es) (second _ _ up) (omega arith)
 
-some_entries : (os : List KeptOutline) (es : Entries) → outline_values os ≡ outlines es → 0 < length os → 0 < length es
+some_entries : (os : List FeatureOutline) (es : Entries) → feature_outline_values os ≡ outlines es → 0 < length os → 0 < length es
 some_entries [] es is some = absurd (omega arith)
 some_entries (y ∷ ys) [] is some = too_few y ys is
 some_entries (y ∷ ys) (e ∷ es) is some = omega arith
@@ -167,7 +167,7 @@ abbrev pub HasSome : Chunk → Type 0
 HasSome chunk = 0 < length chunk.outlines.items
 
 -- each chunk reaches an id that is before all outlines
-all_reach : (k : Text) (cs : List Chunk) (es : Entries) (j : ℕ) (d : Chunk) → outline_values (joined cs) ≡ outlines es → T (below_all text_cmp k es) → AreFilled cs → j < length cs → reaches k (slice_index_or cs j d).outlines.items ≡ true
+all_reach : (k : Text) (cs : List Chunk) (es : Entries) (j : ℕ) (d : Chunk) → feature_outline_values (joined cs) ≡ outlines es → T (below_all text_cmp k es) → AreFilled cs → j < length cs → reaches k (slice_index_or cs j d).outlines.items ≡ true
 all_reach k [] es j d is up filled h = absurd (omega arith)
 all_reach k (c ∷ cs) es zero d is up filled h =
     let parts = split c.outlines.items (joined cs) es is in
@@ -179,7 +179,7 @@ all_reach k (c ∷ cs) es (suc j) d is up filled h =
     all_reach k cs parts.rest j d parts.rests (below_back k parts.front parts.rest above) (All-tail HasSome c cs filled) (omega arith)
 
 -- a chunk before one that does not reach an id does not reach it
-none_reach : (k : Text) (cs : List Chunk) (es : Entries) (i j : ℕ) (d : Chunk) → outline_values (joined cs) ≡ outlines es → T (is_sorted text_cmp es) → AreFilled cs → i ≤ j → j < length cs
+none_reach : (k : Text) (cs : List Chunk) (es : Entries) (i j : ℕ) (d : Chunk) → feature_outline_values (joined cs) ≡ outlines es → T (is_sorted text_cmp es) → AreFilled cs → i ≤ j → j < length cs
     → reaches k (slice_index_or cs j d).outlines.items ≡ false → reaches k (slice_index_or cs i d).outlines.items ≡ false
 none_reach k [] es i j d is up filled from h short = absurd (omega arith)
 none_reach k (c ∷ cs) es zero zero d is up filled from h short = short
@@ -242,26 +242,26 @@ cut_edit k = record {
 }
 
 module _ (k : Text) (op : Entries → Entries) (change : Features → Features) (edit : IsEdit k op change) where
-  alone : (c new : Chunk) (es : Entries) → outline_values c.outlines.items ≡ outlines es → T (is_sorted text_cmp es) → ((features : Features) → AreOutlines c.outlines.items features → AreOutlines new.outlines.items (change features)) → outline_values new.outlines.items ≡ outlines (op es)
+  alone : (c new : Chunk) (es : Entries) → feature_outline_values c.outlines.items ≡ outlines es → T (is_sorted text_cmp es) → ((features : Features) → AreOutlines c.outlines.items features → AreOutlines new.outlines.items (change features)) → feature_outline_values new.outlines.items ≡ outlines (op es)
   alone c new es is up edited =
       let same = entries-from_sorted text_cmp es up in
       edited (from_sorted es) (is ∙ ap outlines (sym same)) ∙ ap outlines (edit.reported (from_sorted es) ∙ ap op same)
 
-  in_chunk : (cs : List Chunk) (i : ℕ) (c new : Chunk) (es : Entries) → outline_values (joined cs) ≡ outlines es → T (is_sorted text_cmp es)
+  in_chunk : (cs : List Chunk) (i : ℕ) (c new : Chunk) (es : Entries) → feature_outline_values (joined cs) ≡ outlines es → T (is_sorted text_cmp es)
       → ((j : ℕ) (d : Chunk) → j < i → reaches k (slice_index_or cs j d).outlines.items ≡ false)
       → ((d : Chunk) → i + 1 < length cs → reaches k (slice_index_or cs i d).outlines.items ≡ true)
       → i < length cs → c ≡ slice_index_or cs i c → ((features : Features) → AreOutlines c.outlines.items features → AreOutlines new.outlines.items (change features))
-      → outline_values (joined (set cs i new)) ≡ outlines (op es)
+      → feature_outline_values (joined (set cs i new)) ≡ outlines (op es)
   in_chunk [] i c new es is up before here within at edited = absurd (omega arith)
   in_chunk (x ∷ []) (suc i) c new es is up before here within at edited = absurd (omega arith)
   in_chunk (x ∷ []) zero c new es is up before here within at edited =
-      let all : outline_values c.outlines.items ≡ outlines es = ap (λ (y : Chunk). outline_values y.outlines.items) at ∙ (ap outline_values (sym (append-nil x.outlines.items)) ∙ is) in
-      ap outline_values (append-nil new.outlines.items) ∙ alone c new es all up edited
+      let all : feature_outline_values c.outlines.items ≡ outlines es = ap (λ (y : Chunk). feature_outline_values y.outlines.items) at ∙ (ap feature_outline_values (sym (append-nil x.outlines.items)) ∙ is) in
+      ap feature_outline_values (append-nil new.outlines.items) ∙ alone c new es all up edited
   in_chunk (x ∷ (y ∷ cs)) zero c new es is up before here within at edited =
       let parts = split x.outlines.items (joined (y ∷ cs)) es is in
       let both_up = subst (λ zs. T (is_sorted text_cmp zs)) (sym parts.whole) up in
       let far = sym (reaches_keys x.outlines.items parts.front k parts.fronts) ∙ here x (omega arith) in
-      let one = alone c new parts.front (ap (λ (z : Chunk). outline_values z.outlines.items) at ∙ parts.fronts) (sorted_front parts.front parts.rest both_up) edited in
+      let one = alone c new parts.front (ap (λ (z : Chunk). feature_outline_values z.outlines.items) at ∙ parts.fronts) (sorted_front parts.front parts.rest both_up) edited in
       two new.outlines.items (joined (y ∷ cs)) (op parts.front) parts.rest one parts.rests ∙ ap outlines (sym (edit.front parts.front parts.rest both_up far) ∙ ap op parts.whole)
   in_chunk (x ∷ (y ∷ cs)) (suc i) c new es is up before here within at edited =
       let parts = split x.outlines.items (joined (y ∷ cs)) es is in
@@ -290,14 +290,14 @@ cut_in_chunk cs i c new k features known before here within at edited =
     in_chunk k (where_key text_cmp (others k)) (λ fs. remove fs k) (cut_edit k) cs i c new (entries features) known (entries_sorted features) before here within at edited
     ∙ ap outlines (sym (entries_left features k))
 
-none_left : (k : Text) (es : Entries) → outline_values [] ≡ outlines es → outline_values [] ≡ outlines (where_key text_cmp (others k) es)
+none_left : (k : Text) (es : Entries) → feature_outline_values [] ≡ outlines es → feature_outline_values [] ≡ outlines (where_key text_cmp (others k) es)
 none_left k [] is = is
 none_left k (e ∷ es) is = too_many e es is
 
 -- if no chunk exists, no outline does
 none_there : (features : Features) → AreChunksOf [] features → entries features ≡ []
 none_there features known = by (entries features) known.outlines where
-  by : (es : Entries) → outline_values [] ≡ outlines es → es ≡ []
+  by : (es : Entries) → feature_outline_values [] ≡ outlines es → es ≡ []
   by [] is = refl
   by (e ∷ es) is = too_many e es is
 
@@ -323,7 +323,7 @@ halved_at cs i old one following within at n p q =
     (halved cs i old one following within at (ap (λ xs. xs ++ following.outlines.items) p ∙ (ap (λ xs. take n old.outlines.items ++ xs) q ∙ take-append-drop n old.outlines.items)))
 
 -- ---- an empty chunk that is dropped
-pub empty_is : (os : List KeptOutline) → length os ≡ 0 → os ≡ []
+pub empty_is : (os : List FeatureOutline) → length os ≡ 0 → os ≡ []
 empty_is [] h = refl
 empty_is (o ∷ os) h = absurd (omega arith)
 
@@ -338,6 +338,6 @@ pub dropped_some : {X : Type 0} (os last : List X) (n : ℕ) → last ≡ drop n
 dropped_some os last n is h = let left : length last ≡ length os - n = ap length is ∙ length-drop n os in omega arith
 
 -- ---- the chunk that comes next
-pub next_chunk : (cs : List Chunk) (i : ℕ) (c : Chunk) (os : List KeptOutline) → i < length cs → c ≡ get_or cs i c → os ≡ c.outlines.items → joined (drop i cs) ≡ os ++ joined (drop (i + 1) cs)
+pub next_chunk : (cs : List Chunk) (i : ℕ) (c : Chunk) (os : List FeatureOutline) → i < length cs → c ≡ get_or cs i c → os ≡ c.outlines.items → joined (drop i cs) ≡ os ++ joined (drop (i + 1) cs)
 next_chunk cs i c os within is items =
     ap joined (drop_more cs i c within) ∙ (ap (λ (x : Chunk). x.outlines.items ++ joined (drop (i + 1) cs)) (sym is) ∙ ap (λ xs. xs ++ joined (drop (i + 1) cs)) (sym items))

@@ -11,5 +11,4 @@ pub mod Counting
 pub mod Ordered
 pub mod Blocks
 pub mod CutUp
-pub mod SameBox
 pub mod Results

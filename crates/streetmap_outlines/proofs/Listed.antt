@@ -11,7 +11,7 @@ use Rattle.streetmap_ledger.specs.State.{Features}
 use Rattle.streetmap_ledger.specs.Pages.{is_candidate}
 use Rattle.streetmap_ledger.specs.Folds.{HoldsCandidates}
 use Rattle.streetmap_ledger.specs.declared.fold.PageFold.{PageFold}
-use Rattle.streetmap_outlines.specs.declared.kept.KeptOutline.{KeptOutline}
+use Rattle.streetmap_ledger.specs.declared.outline.FeatureOutline.{FeatureOutline}
 use Rattle.streetmap_cells.specs.Cells.{KeepsExtents}
 use Rattle.streetmap_cells.specs.Searches.{is_marked}
 use Rattle.streetmap_cells.specs.declared.cells.Cells.{Cells}
@@ -28,10 +28,10 @@ pub still_listed_if : (old new : Cells) → KeepsExtents old new → (number : �
 still_listed_if old new keeps number None h = tt
 still_listed_if old new keeps number (Some extent) h = keeps number (box_value extent) h
 
-abbrev pub Listed : Cells → ℕ → KeptOutline → Type 0
+abbrev pub Listed : Cells → ℕ → FeatureOutline → Type 0
 Listed cells number o = IsListedIf cells number o.extent
 
-pub still_under : (old new : Cells) → KeepsExtents old new → (number : ℕ) (os : List KeptOutline) → AreListedUnder old number os → AreListedUnder new number os
+pub still_under : (old new : Cells) → KeepsExtents old new → (number : ℕ) (os : List FeatureOutline) → AreListedUnder old number os → AreListedUnder new number os
 still_under old new keeps number os h = All-weaker (Listed old number) (Listed new number) (λ o held. still_listed_if old new keeps number o.extent held) os h
 
 pub still_listed : (old new : Cells) → KeepsExtents old new → (cs : List Chunk) → AreListed old cs → AreListed new cs
@@ -40,7 +40,7 @@ still_listed old new keeps cs h = All-weaker (IsListedChunk old) (IsListedChunk 
 -- ---- chunks with no mark have no candidates
 
 none_marked : (outlines : Chunks) (q : Query) (marks : Option Marks) (number : ℕ) → IfSome marks (MarksCandidates outlines (query_value q)) → is_marked_if marks number ≡ false
-    → (o : KeptOutline) (f : FeatureValue) → IsListedIf outlines.cells number o.extent → IsOutlineOf o f → is_candidate (query_value q) f ≡ false
+    → (o : FeatureOutline) (f : FeatureValue) → IsListedIf outlines.cells number o.extent → IsOutlineOf o f → is_candidate (query_value q) f ≡ false
 none_marked outlines q None number says off o f listed is = absurd cc
 none_marked outlines q (Some marks) number says off o f listed is = false_from_ne_true _ (λ on. both_ways (is_marked marks number) off (says number o f listed is on))
 

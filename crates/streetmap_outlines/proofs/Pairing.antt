@@ -15,8 +15,8 @@ use Rattle.streetmap_batch.specs.Text.{Text, text_cmp}
 use Rattle.streetmap_ledger.specs.State.{Features, Collection}
 use Rattle.streetmap_ledger.specs.WellFormed.{HoldsFeatures}
 use Rattle.streetmap_ledger.specs.Outlines.{FeatureOutlineValue, feature_outline_of}
-use Rattle.streetmap_outlines.specs.Kept.{outline_value, outline_values}
-use Rattle.streetmap_outlines.specs.declared.kept.KeptOutline.{KeptOutline}
+use Rattle.streetmap_ledger.specs.OutlineView.{feature_outline_value, feature_outline_values}
+use Rattle.streetmap_ledger.specs.declared.outline.FeatureOutline.{FeatureOutline}
 use Rattle.streetmap_ledger.specs.Folds.{HoldsCandidates}
 use Rattle.streetmap_ledger.specs.declared.fold.PageFold.{PageFold}
 use Rattle.streetmap_ledger.proofs.TextMaps.{one_text, first, second}
@@ -53,13 +53,13 @@ module _ {X : Type 0} where
 abbrev outlines : List (Text × FeatureValue) → List FeatureOutlineValue
 outlines es = map (λ e. feature_outline_of e.0 e.1) es
 
-pairs_by : (features : Features) (os : List KeptOutline) (xs : List (Text × FeatureValue)) → outline_values os ≡ outlines xs → AllByRecursion (λ x. IsThere features x.0 x.1) xs → Pairs features os (map (λ x. x.1) xs)
+pairs_by : (features : Features) (os : List FeatureOutline) (xs : List (Text × FeatureValue)) → feature_outline_values os ≡ outlines xs → AllByRecursion (λ x. IsThere features x.0 x.1) xs → Pairs features os (map (λ x. x.1) xs)
 pairs_by features [] [] is h = tt
 pairs_by features [] (x ∷ xs) is h = absurd cc
 pairs_by features (o ∷ os) [] is h = absurd cc
 pairs_by features (o ∷ os) (x ∷ xs) is h =
-    let head : outline_value o ≡ feature_outline_of x.0 x.1 = cc in
-    let tail : outline_values os ≡ outlines xs = cc in (
+    let head : feature_outline_value o ≡ feature_outline_of x.0 x.1 = cc in
+    let tail : feature_outline_values os ≡ outlines xs = cc in (
       record { known = head ∙ ap (λ id. feature_outline_of id x.1) (sym h.0.named); made = h.0.made; there = ap (get features) h.0.named ∙ h.0.there },
       pairs_by features os xs tail h.1,
     )
@@ -70,20 +70,20 @@ each_there c holds = each_found (IsThere c.features) (entries c.features) (entri
     let placed = holds id f here in
     record { named = placed.named; made = placed.is; there = here })
 
-pub paired : (os : List KeptOutline) (c : Collection) → AreOutlines os c.features → HoldsFeatures c → Pairs c.features os (values c.features)
+pub paired : (os : List FeatureOutline) (c : Collection) → AreOutlines os c.features → HoldsFeatures c → Pairs c.features os (values c.features)
 paired os c known holds = pairs_by c.features os (entries c.features) known (each_there c holds)
 
 -- ---- a page so far
 
 -- of all these features some were met, and the outlines of the others are left
-pub record Going (q : QueryValue) (fold : PageFold) (features : Features) (all : List FeatureValue) (rest : List KeptOutline) : Type 0 where
+pub record Going (q : QueryValue) (fold : PageFold) (features : Features) (all : List FeatureValue) (rest : List FeatureOutline) : Type 0 where
   pub met : List FeatureValue
   pub left : List FeatureValue
   pub whole : met ++ left ≡ all
   pub pairs : Pairs features rest left
   pub holds : HoldsCandidates q fold met
 
-pub goes_on : (q : QueryValue) (old new : PageFold) (features : Features) (all : List FeatureValue) (o : KeptOutline) (rest : List KeptOutline) → Going q old features all (o ∷ rest)
+pub goes_on : (q : QueryValue) (old new : PageFold) (features : Features) (all : List FeatureValue) (o : FeatureOutline) (rest : List FeatureOutline) → Going q old features all (o ∷ rest)
     → ((fs : List FeatureValue) (f : FeatureValue) → IsEntry features o f → HoldsCandidates q old fs → HoldsCandidates q new (fs ++ f ∷ [])) → Going q new features all rest
 goes_on q old new features all o rest going takes = by going.left going.whole going.pairs where
   by : (left : List FeatureValue) → going.met ++ left ≡ all → Pairs features (o ∷ rest) left → Going q new features all rest
@@ -97,21 +97,21 @@ goes_on q old new features all o rest going takes = by going.left going.whole go
   }
 
 -- the outlines in front and their features, and the others
-pub record Parted (features : Features) (front rest : List KeptOutline) (fs : List FeatureValue) : Type 0 where
+pub record Parted (features : Features) (front rest : List FeatureOutline) (fs : List FeatureValue) : Type 0 where
   pub firsts : List FeatureValue
   pub others : List FeatureValue
   pub whole : firsts ++ others ≡ fs
   pub first_pairs : Pairs features front firsts
   pub other_pairs : Pairs features rest others
 
-pub parted : (features : Features) (front rest : List KeptOutline) (fs : List FeatureValue) → Pairs features (front ++ rest) fs → Parted features front rest fs
+pub parted : (features : Features) (front rest : List FeatureOutline) (fs : List FeatureValue) → Pairs features (front ++ rest) fs → Parted features front rest fs
 parted features [] rest fs pairs = record { firsts = []; others = fs; whole = refl; first_pairs = tt; other_pairs = pairs }
 parted features (o ∷ front) rest [] pairs = absurd pairs
 parted features (o ∷ front) rest (f ∷ fs) pairs =
     let more = parted features front rest fs pairs.1 in
     record { firsts = f ∷ more.firsts; others = more.others; whole = ap (λ xs. f ∷ xs) more.whole; first_pairs = (pairs.0, more.first_pairs); other_pairs = more.other_pairs }
 
-pub goes_on_after : (q : QueryValue) (old new : PageFold) (features : Features) (all : List FeatureValue) (front rest : List KeptOutline) → Going q old features all (front ++ rest)
+pub goes_on_after : (q : QueryValue) (old new : PageFold) (features : Features) (all : List FeatureValue) (front rest : List FeatureOutline) → Going q old features all (front ++ rest)
     → ((met fs : List FeatureValue) → Pairs features front fs → HoldsCandidates q old met → HoldsCandidates q new (met ++ fs)) → Going q new features all rest
 goes_on_after q old new features all front rest going takes =
     let parts = parted features front rest going.left going.pairs in

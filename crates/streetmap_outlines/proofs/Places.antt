@@ -15,8 +15,8 @@ use Rattle.streetmap_geojson.specs.FeatureValue.{FeatureValue}
 use Rattle.streetmap_batch.specs.Text.{Text, text_cmp}
 use Rattle.streetmap_ledger.specs.State.{Features}
 use Rattle.streetmap_ledger.specs.Outlines.{FeatureOutlineValue, feature_outline_of}
-use Rattle.streetmap_outlines.specs.Kept.{outline_value, outline_values}
-use Rattle.streetmap_outlines.specs.declared.kept.KeptOutline.{KeptOutline}
+use Rattle.streetmap_ledger.specs.OutlineView.{feature_outline_value, feature_outline_values}
+use Rattle.streetmap_ledger.specs.declared.outline.FeatureOutline.{FeatureOutline}
 use Rattle.streetmap_ledger.proofs.TextMaps.{one_text, first, second}
 use Rattle.streetmap_outlines.specs.Outlines.{IsOutlineOf, AreOutlines}
 use Rattle.streetmap_ledger.proofs.Walking.{is_less as less}
@@ -27,29 +27,29 @@ Entries = List (Text × FeatureValue)
 abbrev pub outlines : Entries → List FeatureOutlineValue
 outlines es = map (λ e. feature_outline_of e.0 e.1) es
 
-abbrev pub id_of : KeptOutline → Text
+abbrev pub id_of : FeatureOutline → Text
 id_of o = string_bytes o.id
 
-pub head_is : (y : KeptOutline) (ys : List KeptOutline) (e : Text × FeatureValue) (es : Entries) → outline_values (y ∷ ys) ≡ outlines (e ∷ es) → outline_value y ≡ feature_outline_of e.0 e.1
+pub head_is : (y : FeatureOutline) (ys : List FeatureOutline) (e : Text × FeatureValue) (es : Entries) → feature_outline_values (y ∷ ys) ≡ outlines (e ∷ es) → feature_outline_value y ≡ feature_outline_of e.0 e.1
 head_is y ys e es is = cc
 
-pub tail_is : (y : KeptOutline) (ys : List KeptOutline) (e : Text × FeatureValue) (es : Entries) → outline_values (y ∷ ys) ≡ outlines (e ∷ es) → outline_values ys ≡ outlines es
+pub tail_is : (y : FeatureOutline) (ys : List FeatureOutline) (e : Text × FeatureValue) (es : Entries) → feature_outline_values (y ∷ ys) ≡ outlines (e ∷ es) → feature_outline_values ys ≡ outlines es
 tail_is y ys e es is = cc
 
-pub key_is : (y : KeptOutline) (ys : List KeptOutline) (e : Text × FeatureValue) (es : Entries) → outline_values (y ∷ ys) ≡ outlines (e ∷ es) → id_of y ≡ e.0
+pub key_is : (y : FeatureOutline) (ys : List FeatureOutline) (e : Text × FeatureValue) (es : Entries) → feature_outline_values (y ∷ ys) ≡ outlines (e ∷ es) → id_of y ≡ e.0
 key_is y ys e es is = ap (λ (v : FeatureOutlineValue). v.id) (head_is y ys e es is)
 
-pub too_many : {A : Type 0} (e : Text × FeatureValue) (es : Entries) → outline_values [] ≡ outlines (e ∷ es) → A
+pub too_many : {A : Type 0} (e : Text × FeatureValue) (es : Entries) → feature_outline_values [] ≡ outlines (e ∷ es) → A
 too_many e es is = absurd cc
 
-pub too_few : {A : Type 0} (y : KeptOutline) (ys : List KeptOutline) → outline_values (y ∷ ys) ≡ outlines [] → A
+pub too_few : {A : Type 0} (y : FeatureOutline) (ys : List FeatureOutline) → feature_outline_values (y ∷ ys) ≡ outlines [] → A
 too_few y ys is = absurd cc
 
 -- ---- the order
 pub flip : (x y : Text) (r : Ordering) → text_cmp x y ≡ r → text_cmp y x ≡ ordering_reverse r
 flip x y r e = nat_list_cmp_total.antisymm y x ∙ ap ordering_reverse e
 
-ascends : (os : List KeptOutline) (es : Entries) (k : ℕ) (d : KeptOutline) → outline_values os ≡ outlines es → T (is_sorted text_cmp es) → k + 1 < length os → is_lt (text_cmp (id_of (slice_index_or os (k + 1) d)) (id_of (slice_index_or os k d))) ≡ false
+ascends : (os : List FeatureOutline) (es : Entries) (k : ℕ) (d : FeatureOutline) → feature_outline_values os ≡ outlines es → T (is_sorted text_cmp es) → k + 1 < length os → is_lt (text_cmp (id_of (slice_index_or os (k + 1) d)) (id_of (slice_index_or os k d))) ≡ false
 ascends [] es k d is up h = absurd (omega arith)
 ascends (y ∷ []) es k d is up h = absurd (omega arith)
 ascends (y ∷ (z ∷ os)) [] k d is up h = too_few y (z ∷ os) is
@@ -61,54 +61,54 @@ ascends (y ∷ (z ∷ os)) (e ∷ (f ∷ es)) (suc k) d is up h =
     let more : suc (k + 1) ≡ suc k + 1 = omega arith in
     subst (λ n. is_lt (text_cmp (id_of (slice_index_or (y ∷ (z ∷ os)) n d)) (id_of (slice_index_or (z ∷ os) k d))) ≡ false) more (ascends (z ∷ os) (f ∷ es) k d (tail_is y (z ∷ os) e (f ∷ es) is) (second _ _ up) (omega arith))
 
-rises : (os : List KeptOutline) (es : Entries) (k : Text) → outline_values os ≡ outlines es → T (is_sorted text_cmp es) → IsNonDecreasingBy (λ o. ordering_index (text_cmp (id_of o) k)) os
+rises : (os : List FeatureOutline) (es : Entries) (k : Text) → feature_outline_values os ≡ outlines es → T (is_sorted text_cmp es) → IsNonDecreasingBy (λ o. ordering_index (text_cmp (id_of o) k)) os
 rises os es k is up = searchable_from_sorted nat_list_cmp_total id_of os k (λ i d from h. ascends os es i d is up h)
 
 -- ---- a place where no outline is under the id
-abbrev IsGap : Text → List KeptOutline → ℕ → Type 0
+abbrev IsGap : Text → List FeatureOutline → ℕ → Type 0
 IsGap k os i = IsPartitionPoint (λ o. text_cmp (id_of o) k ≡ Less) (λ o. text_cmp (id_of o) k ≡ Greater) os i
 
-gap_later : (k : Text) (y : KeptOutline) (ys : List KeptOutline) (i : ℕ) → IsGap k (y ∷ ys) (suc i) → IsGap k ys i
+gap_later : (k : Text) (y : FeatureOutline) (ys : List FeatureOutline) (i : ℕ) → IsGap k (y ∷ ys) (suc i) → IsGap k ys i
 gap_later k y ys i gap = (λ j d from to. gap.0 (suc j) d (omega arith) (omega arith), λ j d from to. gap.1 (suc j) d (omega arith) (omega arith))
 
-gap_here : (k : Text) (y : KeptOutline) (ys : List KeptOutline) → IsGap k (y ∷ ys) zero → IsGap k ys zero
+gap_here : (k : Text) (y : FeatureOutline) (ys : List FeatureOutline) → IsGap k (y ∷ ys) zero → IsGap k ys zero
 gap_here k y ys gap = (λ j d from to. absurd (omega arith), λ j d from to. gap.1 (suc j) d (omega arith) (omega arith))
 
-put_gap : (os : List KeptOutline) (es : Entries) (k : Text) (v : FeatureValue) (o : KeptOutline) (i : ℕ) → outline_values os ≡ outlines es → outline_value o ≡ feature_outline_of k v → IsGap k os i → i ≤ length os → outline_values (list.insert os i o) ≡ outlines (put text_cmp k v es)
+put_gap : (os : List FeatureOutline) (es : Entries) (k : Text) (v : FeatureValue) (o : FeatureOutline) (i : ℕ) → feature_outline_values os ≡ outlines es → feature_outline_value o ≡ feature_outline_of k v → IsGap k os i → i ≤ length os → feature_outline_values (list.insert os i o) ≡ outlines (put text_cmp k v es)
 put_gap [] [] k v o zero is one gap h = ap (λ x. x ∷ []) one
 put_gap [] [] k v o (suc i) is one gap h = absurd (omega arith)
 put_gap [] (e ∷ es) k v o i is one gap h = too_many e es is
 put_gap (y ∷ ys) [] k v o i is one gap h = too_few y ys is
 put_gap (y ∷ ys) (e ∷ es) k v o zero is one gap h =
     let before : text_cmp k e.0 ≡ Less = flip e.0 k Greater (ap (λ a. text_cmp a k) (sym (key_is y ys e es is)) ∙ gap.1 zero y (omega arith) (omega arith)) in
-    rw before (ap (λ x. x ∷ outline_values (y ∷ ys)) one ∙ ap (λ xs. feature_outline_of k v ∷ xs) is)
+    rw before (ap (λ x. x ∷ feature_outline_values (y ∷ ys)) one ∙ ap (λ xs. feature_outline_of k v ∷ xs) is)
 put_gap (y ∷ ys) (e ∷ es) k v o (suc i) is one gap h =
     let following : text_cmp k e.0 ≡ Greater = flip e.0 k Less (ap (λ a. text_cmp a k) (sym (key_is y ys e es is)) ∙ gap.0 zero y (omega arith) (omega arith)) in
     let rest = put_gap ys es k v o i (tail_is y ys e es is) one (gap_later k y ys i gap) (omega arith) in
-    rw following (ap (λ x. x ∷ outline_values (list.insert ys i o)) (head_is y ys e es is) ∙ ap (λ xs. feature_outline_of e.0 e.1 ∷ xs) rest)
+    rw following (ap (λ x. x ∷ feature_outline_values (list.insert ys i o)) (head_is y ys e es is) ∙ ap (λ xs. feature_outline_of e.0 e.1 ∷ xs) rest)
 
 -- ---- the place of the outline under the id
-abbrev IsPlace : Text → List KeptOutline → ℕ → Type 0
+abbrev IsPlace : Text → List FeatureOutline → ℕ → Type 0
 IsPlace k os i = HoldsAt (λ o. text_cmp (id_of o) k ≡ Equal) os i
 
-below_place : (x : Text) (os : List KeptOutline) (es : Entries) (k : Text) (i : ℕ) → outline_values os ≡ outlines es → T (below_all text_cmp x es) → IsPlace k os i → i < length os → text_cmp x k ≡ Less
+below_place : (x : Text) (os : List FeatureOutline) (es : Entries) (k : Text) (i : ℕ) → feature_outline_values os ≡ outlines es → T (below_all text_cmp x es) → IsPlace k os i → i < length os → text_cmp x k ≡ Less
 below_place x [] es k i is up place h = absurd (omega arith)
 below_place x (y ∷ ys) [] k i is up place h = too_few y ys is
 below_place x (y ∷ ys) (e ∷ es) k zero is up place h =
     ap (text_cmp x) (sym (one_text (id_of y) k (place y))) ∙ (ap (text_cmp x) (key_is y ys e es is) ∙ less _ (first _ _ up))
 below_place x (y ∷ ys) (e ∷ es) k (suc i) is up place h = below_place x ys es k i (tail_is y ys e es is) (second _ _ up) place (omega arith)
 
-put_at : (os : List KeptOutline) (es : Entries) (k : Text) (v : FeatureValue) (o : KeptOutline) (i : ℕ) → outline_values os ≡ outlines es → T (is_sorted text_cmp es) → outline_value o ≡ feature_outline_of k v → IsPlace k os i → i < length os → outline_values (set os i o) ≡ outlines (put text_cmp k v es)
+put_at : (os : List FeatureOutline) (es : Entries) (k : Text) (v : FeatureValue) (o : FeatureOutline) (i : ℕ) → feature_outline_values os ≡ outlines es → T (is_sorted text_cmp es) → feature_outline_value o ≡ feature_outline_of k v → IsPlace k os i → i < length os → feature_outline_values (set os i o) ≡ outlines (put text_cmp k v es)
 put_at [] es k v o i is up one place h = absurd (omega arith)
 put_at (y ∷ ys) [] k v o i is up one place h = too_few y ys is
 put_at (y ∷ ys) (e ∷ es) k v o zero is up one place h =
     let same : e.0 ≡ k = sym (key_is y ys e es is) ∙ one_text (id_of y) k (place y) in
     let here : text_cmp k e.0 ≡ Equal = flip e.0 k Equal (ap (λ a. text_cmp a k) (sym (key_is y ys e es is)) ∙ place y) in
-    rw here (ap (λ x. x ∷ outline_values ys) (one ∙ ap (λ a. feature_outline_of a v) (sym same)) ∙ ap (λ xs. feature_outline_of e.0 v ∷ xs) (tail_is y ys e es is))
+    rw here (ap (λ x. x ∷ feature_outline_values ys) (one ∙ ap (λ a. feature_outline_of a v) (sym same)) ∙ ap (λ xs. feature_outline_of e.0 v ∷ xs) (tail_is y ys e es is))
 put_at (y ∷ ys) (e ∷ es) k v o (suc i) is up one place h =
     let following : text_cmp k e.0 ≡ Greater = flip e.0 k Less (below_place e.0 ys es k i (tail_is y ys e es is) (first _ _ up) place (omega arith)) in
     let rest = put_at ys es k v o i (tail_is y ys e es is) (second _ _ up) one place (omega arith) in
-    rw following (ap (λ x. x ∷ outline_values (set ys i o)) (head_is y ys e es is) ∙ ap (λ xs. feature_outline_of e.0 e.1 ∷ xs) rest)
+    rw following (ap (λ x. x ∷ feature_outline_values (set ys i o)) (head_is y ys e es is) ∙ ap (λ xs. feature_outline_of e.0 e.1 ∷ xs) rest)
 
 -- ---- without the entry under a key
 abbrev pub others : Text → Text → Bool
@@ -120,7 +120,7 @@ all_below k (e ∷ es) h =
     let off : text_cmp k e.0 ≡ Less = less _ (first _ _ h) in
     rw off (ap (λ xs. e ∷ xs) (all_below k es (second _ _ h)))
 
-cut_at : (os : List KeptOutline) (es : Entries) (k : Text) (i : ℕ) → outline_values os ≡ outlines es → T (is_sorted text_cmp es) → IsPlace k os i → i < length os → outline_values (list.remove os i) ≡ outlines (where_key text_cmp (others k) es)
+cut_at : (os : List FeatureOutline) (es : Entries) (k : Text) (i : ℕ) → feature_outline_values os ≡ outlines es → T (is_sorted text_cmp es) → IsPlace k os i → i < length os → feature_outline_values (list.remove os i) ≡ outlines (where_key text_cmp (others k) es)
 cut_at [] es k i is up place h = absurd (omega arith)
 cut_at (y ∷ ys) [] k i is up place h = too_few y ys is
 cut_at (y ∷ ys) (e ∷ es) k zero is up place h =
@@ -130,9 +130,9 @@ cut_at (y ∷ ys) (e ∷ es) k zero is up place h =
 cut_at (y ∷ ys) (e ∷ es) k (suc i) is up place h =
     let following : text_cmp k e.0 ≡ Greater = flip e.0 k Less (below_place e.0 ys es k i (tail_is y ys e es is) (first _ _ up) place (omega arith)) in
     let rest = cut_at ys es k i (tail_is y ys e es is) (second _ _ up) place (omega arith) in
-    rw following (ap (λ x. x ∷ outline_values (list.remove ys i)) (head_is y ys e es is) ∙ ap (λ xs. feature_outline_of e.0 e.1 ∷ xs) rest)
+    rw following (ap (λ x. x ∷ feature_outline_values (list.remove ys i)) (head_is y ys e es is) ∙ ap (λ xs. feature_outline_of e.0 e.1 ∷ xs) rest)
 
-cut_gap : (os : List KeptOutline) (es : Entries) (k : Text) (i : ℕ) → outline_values os ≡ outlines es → IsGap k os i → where_key text_cmp (others k) es ≡ es
+cut_gap : (os : List FeatureOutline) (es : Entries) (k : Text) (i : ℕ) → feature_outline_values os ≡ outlines es → IsGap k os i → where_key text_cmp (others k) es ≡ es
 cut_gap os [] k i is gap = refl
 cut_gap [] (e ∷ es) k i is gap = too_many e es is
 cut_gap (y ∷ ys) (e ∷ es) k zero is gap =
@@ -161,7 +161,7 @@ entries_left features k =
     ∙ (sym (find-where_key text_cmp (others k) q (λ x t. ap (others k) (sym (one_text q x t))) es) ∙ sym (get-from_sorted text_cmp xs q up))))))) ∙ entries-from_sorted text_cmp xs up
 
 -- ---- outlines of features, which were searched for the key k
-module _ (os : List KeptOutline) (k : Text) (i : ℕ) (features : Features) (known : AreOutlines os features) where
+module _ (os : List FeatureOutline) (k : Text) (i : ℕ) (features : Features) (known : AreOutlines os features) where
   pub cut_in_place : IsPlace k os i → i < length os → AreOutlines (list.remove os i) (remove features k)
   cut_in_place place h = cut_at os (entries features) k i known (entries_sorted features) place h ∙ ap outlines (sym (entries_left features k))
 
@@ -169,7 +169,7 @@ module _ (os : List KeptOutline) (k : Text) (i : ℕ) (features : Features) (kno
   none_to_cut gap =
       known ∙ (ap outlines (sym (cut_gap os (entries features) k i known (gap (rises os (entries features) k known (entries_sorted features))))) ∙ ap outlines (sym (entries_left features k)))
 
-  module _ (f : FeatureValue) (o : KeptOutline) (named : k ≡ id_of o) (one : IsOutlineOf o f) where
+  module _ (f : FeatureValue) (o : FeatureOutline) (named : k ≡ id_of o) (one : IsOutlineOf o f) where
     id : k ≡ f.id
     id = named ∙ ap (λ (v : FeatureOutlineValue). v.id) one
 

@@ -1,5 +1,4 @@
 pub mod Chunks
-pub mod Kept
 pub mod Outlines
 pub mod Selections
 pub mod Within

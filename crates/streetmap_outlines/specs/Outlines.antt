@@ -14,8 +14,8 @@ use Rattle.streetmap_geojson.specs.FeatureInvariant.{IsFeature}
 use Rattle.streetmap_ledger.specs.State.{Features}
 use Rattle.streetmap_ledger.specs.Outlines.{feature_outline_of}
 use Rattle.streetmap_ledger.specs.Summaries.{all_vertices}
-use Rattle.streetmap_outlines.specs.Kept.{outline_value, outline_values}
-use Rattle.streetmap_outlines.specs.declared.kept.KeptOutline.{KeptOutline}
+use Rattle.streetmap_ledger.specs.OutlineView.{feature_outline_value, feature_outline_values}
+use Rattle.streetmap_ledger.specs.declared.outline.FeatureOutline.{FeatureOutline}
 use Rattle.streetmap_cells.specs.Cells.{HasExtent}
 use Rattle.streetmap_cells.specs.Envelopes.{IsEnvelopeOf}
 use Rattle.streetmap_cells.specs.declared.envelope.Envelope.{Envelope}
@@ -24,20 +24,20 @@ use Rattle.streetmap_outlines.specs.declared.chunk.Chunk.{Chunk}
 use Rattle.streetmap_outlines.specs.declared.chunks.Chunks.{Chunks}
 
 -- it is the outline of the feature under its id
-abbrev pub IsOutlineOf : KeptOutline → FeatureValue → Type 0
-IsOutlineOf o f = outline_value o ≡ feature_outline_of f.id f
+abbrev pub IsOutlineOf : FeatureOutline → FeatureValue → Type 0
+IsOutlineOf o f = feature_outline_value o ≡ feature_outline_of f.id f
 
 -- the outlines of all chunks, those of each one after those of the chunk before it
-abbrev pub joined : List Chunk → List KeptOutline
+abbrev pub joined : List Chunk → List FeatureOutline
 joined chunks = flat_map (λ chunk. chunk.outlines.items) chunks
 
 -- the outlines of runs, concatenated
-abbrev pub joined_runs : List (Vec KeptOutline Global) → List KeptOutline
+abbrev pub joined_runs : List (Vec FeatureOutline Global) → List FeatureOutline
 joined_runs runs = flat_map (λ run. run.items) runs
 
 -- they are the outlines of these features, in byte order of ids
-abbrev pub AreOutlines : List KeptOutline → Features → Type 0
-AreOutlines os features = outline_values os
+abbrev pub AreOutlines : List FeatureOutline → Features → Type 0
+AreOutlines os features = feature_outline_values os
     ≡ map (λ e. feature_outline_of e.0 e.1) (entries features)
 
 -- no chunk is empty
@@ -51,24 +51,24 @@ LiesWithin (Some extent) None = ⊥
 LiesWithin (Some extent) (Some bounds) = IsWithin (box_value extent) (box_value bounds)
 
 -- the extent of each outline lies within the bounds
-abbrev pub AllLieWithin : List KeptOutline → Option GridBox → Type 0
+abbrev pub AllLieWithin : List FeatureOutline → Option GridBox → Type 0
 AllLieWithin os bounds = All (λ o. LiesWithin o.extent bounds) os
 
 -- an outline, and the feature that it is of
-pub record IsEntry (features : Features) (o : KeptOutline) (f : FeatureValue) : Type 0 where
+pub record IsEntry (features : Features) (o : FeatureOutline) (f : FeatureValue) : Type 0 where
   pub known : IsOutlineOf o f
   pub made : IsFeature f
   pub there : get features f.id ≡ Some f
 
 -- outlines and features, one by one
-abbrev pub Pairs : Features → List KeptOutline → List FeatureValue → Type 0
+abbrev pub Pairs : Features → List FeatureOutline → List FeatureValue → Type 0
 Pairs features [] [] = Unit {0}
 Pairs features [] (f ∷ fs) = ⊥
 Pairs features (o ∷ os) [] = ⊥
 Pairs features (o ∷ os) (f ∷ fs) = IsEntry features o f × Pairs features os fs
 
 -- whether a feature has an extent
-abbrev pub has_extent : KeptOutline → Bool
+abbrev pub has_extent : FeatureOutline → Bool
 has_extent o = is_some o.extent
 
 -- the seconds of a time within bounds: its first one is not after the latest first, nor its last
@@ -79,7 +79,7 @@ IsTimedBy None (Some bounds) = ⊥
 IsTimedBy (Some seconds) (Some bounds) = (seconds.0 ≤ℤ bounds.0) × (bounds.1 ≤ℤ seconds.1)
 
 -- the same for the seconds of each outline
-abbrev pub AllTimedBy : List KeptOutline → Option (ℤ × ℤ) → Type 0
+abbrev pub AllTimedBy : List FeatureOutline → Option (ℤ × ℤ) → Type 0
 AllTimedBy os bounds = All (λ o. IsTimedBy o.seconds bounds) os
 
 -- this is the extent, if any, counted from the corner of the grid; for no extent it ends at that
@@ -89,9 +89,9 @@ IsExtentIf e None = e.x1 ≡ 0
 IsExtentIf e (Some extent) = IsEnvelopeOf e (box_value extent)
 
 -- what is kept of an outline, in the same place, is its extent
-abbrev pub AreExtentsOf : List Envelope → List KeptOutline → Type 0
+abbrev pub AreExtentsOf : List Envelope → List FeatureOutline → Type 0
 AreExtentsOf es os =
-    (i : ℕ) (e : Envelope) (o : KeptOutline) → slice_get es i ≡ Some e
+    (i : ℕ) (e : Envelope) (o : FeatureOutline) → slice_get es i ≡ Some e
     → slice_get os i ≡ Some o → IsExtentIf e o.extent
 
 -- a chunk's bounds are those of its features, and the extents of its outlines lie within them; as
@@ -121,7 +121,7 @@ IsListedIf cells number None = Unit {0}
 IsListedIf cells number (Some extent) = HasExtent cells number (box_value extent)
 
 -- the same for the extents of these outlines
-abbrev pub AreListedUnder : Cells → ℕ → List KeptOutline → Type 0
+abbrev pub AreListedUnder : Cells → ℕ → List FeatureOutline → Type 0
 AreListedUnder cells number os = All (λ o. IsListedIf cells number o.extent) os
 
 -- the extents of a chunk's outlines are in the cells under its number

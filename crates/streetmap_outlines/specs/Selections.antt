@@ -8,7 +8,7 @@ use Rattle.streetmap_ledger.specs.Pages.{comes_after, selects, is_candidate}
 use Rattle.streetmap_ledger.specs.Pages.{candidates}
 use Rattle.streetmap_ledger.specs.Folds.{HoldsCandidates}
 use Rattle.streetmap_ledger.specs.declared.fold.PageFold.{PageFold}
-use Rattle.streetmap_outlines.specs.declared.kept.KeptOutline.{KeptOutline}
+use Rattle.streetmap_ledger.specs.declared.outline.FeatureOutline.{FeatureOutline}
 use Rattle.streetmap_outlines.specs.Outlines.{IsOutlineOf, has_extent, IsListedIf}
 use Rattle.streetmap_grid.specs.Views.{box_value}
 use Rattle.streetmap_grid.specs.declared.grid_box.GridBox.{GridBox}
@@ -29,7 +29,7 @@ IsWindowOf q (Some window) =
 -- each chunk with a candidate among its outlines is marked
 abbrev pub MarksCandidates : Chunks → QueryValue → Marks → Type 0
 MarksCandidates outlines q marks =
-    (number : ℕ) (o : KeptOutline) (f : FeatureValue) → IsListedIf outlines.cells number o.extent
+    (number : ℕ) (o : FeatureOutline) (f : FeatureValue) → IsListedIf outlines.cells number o.extent
     → IsOutlineOf o f → is_candidate q f ≡ true → is_marked marks number ≡ true
 
 -- whether a chunk is marked, if marks are given
@@ -39,10 +39,10 @@ is_marked_if (Some marks) number = is_marked marks number
 
 -- whether a chunk that is counted whole counts an outline: each if the query has no box, otherwise
 -- those with an extent
-abbrev pub counts : QueryValue → KeptOutline → Bool
+abbrev pub counts : QueryValue → FeatureOutline → Bool
 counts q o = is_none q.bbox || has_extent o
 
-abbrev pub IsCountedFor : QueryValue → KeptOutline → Type 0
+abbrev pub IsCountedFor : QueryValue → FeatureOutline → Type 0
 IsCountedFor q o = counts q o ≡ true
 
 -- of these features the query selects as many as this, and they are all candidates among them
@@ -57,7 +57,7 @@ CountsWhole q chunk count =
     → SelectsCandidates q count fs
 
 -- each feature with one of these outlines comes after the id of the query, or none does
-abbrev pub AllComeAfter : QueryValue → Bool → List KeptOutline → Type 0
+abbrev pub AllComeAfter : QueryValue → Bool → List FeatureOutline → Type 0
 AllComeAfter q following os =
     All (λ o. (f : FeatureValue) → IsOutlineOf o f → comes_after q.after f ≡ following) os
 

@@ -12,8 +12,8 @@ ghost use Rattle.streetmap_outlines.specs.Outlines.{IsTimedBy};
 ghost use Rattle.streetmap_outlines.specs.Outlines.{AllTimedBy};
 ghost use Rattle.streetmap_outlines.specs.Outlines.{Pairs};
 
-use crate::kept::KeptOutline;
 use streetmap_grid::GridBox;
+use streetmap_ledger::FeatureOutline;
 
 /// The bounds of the positions of both.
 pub fn bounds_of_both(one: Option<GridBox>, other: Option<GridBox>) -> Option<GridBox>
@@ -30,7 +30,7 @@ pub fn bounds_of_both(one: Option<GridBox>, other: Option<GridBox>) -> Option<Gr
 }
 
 /// The bounds so far, extended by those of the features with these outlines.
-pub fn grown(bounds: Option<GridBox>, outlines: &[KeptOutline]) -> Option<GridBox>
+pub fn grown(bounds: Option<GridBox>, outlines: &[FeatureOutline]) -> Option<GridBox>
     ensures exact { (features : Features) (ps : List PositionValue) (fs : List FeatureValue)
         → Pairs features outlines.now fs → AreBounds ps bounds
         → AreBounds (ps ++ all_vertices fs) result }
@@ -44,7 +44,7 @@ pub fn grown(bounds: Option<GridBox>, outlines: &[KeptOutline]) -> Option<GridBo
 }
 
 /// How many of the outlines have an extent.
-pub(crate) fn count_extents(outlines: &[KeptOutline]) -> u64
+pub(crate) fn count_extents(outlines: &[FeatureOutline]) -> u64
     ensures { result ≡ count_by has_extent outlines.now }
 {
     let mut count = 0;
@@ -72,7 +72,7 @@ fn bounds_of_seconds_too(
 
 /// The latest first second and the earliest last second of the outlines' times; none if one of them
 /// has no time.
-pub(crate) fn bounds_of_seconds(outlines: &[KeptOutline]) -> Option<(i64, i64)>
+pub(crate) fn bounds_of_seconds(outlines: &[FeatureOutline]) -> Option<(i64, i64)>
     ensures { AllTimedBy outlines.now result }
 {
     let mut bounds = Some((i64::MIN, i64::MAX));

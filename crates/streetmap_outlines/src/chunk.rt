@@ -15,16 +15,16 @@ ghost use Rattle.streetmap_outlines.specs.Chunks.{reaches as reaches_of};
 
 use crate::bounds::{bounds_of_seconds, count_extents, grown};
 use crate::extent_column::keep_extents;
-use crate::kept::KeptOutline;
 use std::alloc::{AllocError, Global};
 use streetmap_cells::Envelope;
 use streetmap_grid::GridBox;
+use streetmap_ledger::FeatureOutline;
 
 /// Consecutive outlines, and what is known of all of them.
 #[derive(Drop)]
 pub struct Chunk {
     /// In byte order of ids.
-    pub outlines: Vec<KeptOutline>,
+    pub outlines: Vec<FeatureOutline>,
     /// Their extents, one after the other: only those of the first ones if memory ran out.
     pub extents: Vec<Envelope>,
     /// The bounds of their extents, in millimetres; none if no outline has an extent.
@@ -59,7 +59,7 @@ fn is_same_extent(one: Option<GridBox>, other: Option<GridBox>) -> bool
 
 impl Chunk {
     /// A chunk of these outlines, with this number.
-    pub(crate) fn new(alloc: Global, number: u32, outlines: Vec<KeptOutline>) -> Self
+    pub(crate) fn new(alloc: Global, number: u32, outlines: Vec<FeatureOutline>) -> Self
         ensures number { result.number ≡ number }
         ensures same { result.outlines.items ≡ outlines.items }
         ensures bounded { IsBounded result }
@@ -114,7 +114,7 @@ impl Chunk {
     }
 
     /// Inserts an outline, in place of the one under its id, if any.
-    pub(crate) fn put(&mut self, outline: KeptOutline) -> Result<(), AllocError>
+    pub(crate) fn put(&mut self, outline: FeatureOutline) -> Result<(), AllocError>
         ensures some { OnOk result (0 < length self.new.outlines.items) }
         ensures outlines { (features : Features) (f : FeatureValue)
             → AreOutlines self.old.outlines.items features → IsOutlineOf outline f

@@ -7,7 +7,6 @@ ghost use Rattle.streetmap_geojson.specs.FeatureValue.{FeatureValue};
 ghost use Rattle.streetmap_query.specs.Views.{query_value};
 ghost use Rattle.streetmap_ledger.specs.State.{Features};
 ghost use Rattle.streetmap_ledger.specs.OutlineView.{feature_outline_values};
-ghost use Rattle.streetmap_outlines.specs.Kept.{outline_values};
 ghost use Rattle.streetmap_outlines.specs.Selections.{MarksCandidates};
 ghost use Rattle.streetmap_outlines.specs.Outlines.{joined, joined_runs, IsOutlineOf, AreFilled};
 ghost use Rattle.streetmap_outlines.specs.Outlines.{AreBounded, AreChunksOf, AreListed, IsListedIf};
@@ -17,7 +16,6 @@ ghost use Rattle.streetmap_outlines.specs.declared.chunk.Chunk.{Chunk};
 
 use crate::chunk::Chunk;
 use crate::in_cells::{cells_of, list_extent, list_outlines, renew};
-use crate::kept::{KeptOutline, kept_of};
 use crate::selection::{count_by_bounds, is_passed_over};
 use std::alloc::{AllocError, Global};
 use streetmap_cells::{Cells, Marks};
@@ -56,18 +54,18 @@ fn number_after(chunks: &[Chunk]) -> u32 {
 fn cut_up(
     alloc: Global,
     mut outlines: Vec<FeatureOutline>,
-) -> Result<Vec<Vec<KeptOutline>>, AllocError>
-    ensures same { IfOk result (λ runs. outline_values (joined_runs runs.items)
+) -> Result<Vec<Vec<FeatureOutline>>, AllocError>
+    ensures same { IfOk result (λ runs. feature_outline_values (joined_runs runs.items)
         ≡ feature_outline_values outlines.items) }
     ensures filled { IfOk result (λ runs. All (λ run. 0 < length run.items) runs.items) }
 {
     let mut runs = Vec::new(alloc);
     while outlines.len() > LEARNT_IN_CHUNK {
         let last = outlines.split_off(outlines.len() - LEARNT_IN_CHUNK)?;
-        runs.push(kept_of(alloc, last)?)?;
+        runs.push(last)?;
     }
     if !outlines.is_empty() {
-        runs.push(kept_of(alloc, outlines)?)?;
+        runs.push(outlines)?;
     }
     runs.reverse();
     Ok(runs)
@@ -76,7 +74,7 @@ fn cut_up(
 /// Chunks of runs of outlines. All outlines are in their place before, so that the extents of one
 /// chunk come after those of the chunk before it in memory: a page of a large box goes over the
 /// extents of all, and the processor prefetches them.
-fn chunks_of(alloc: Global, runs: Vec<Vec<KeptOutline>>) -> Result<Vec<Chunk>, AllocError>
+fn chunks_of(alloc: Global, runs: Vec<Vec<FeatureOutline>>) -> Result<Vec<Chunk>, AllocError>
     ensures same { IfOk result (λ made. joined made.items ≡ joined_runs runs.items) }
     ensures filled { All (λ run. 0 < length run.items) runs.items
         → IfOk result (λ made. AreFilled made.items) }
@@ -93,7 +91,7 @@ fn chunks_of(alloc: Global, runs: Vec<Vec<KeptOutline>>) -> Result<Vec<Chunk>, A
 impl Chunks {
     /// Moves outlines into chunks.
     pub fn new(alloc: Global, outlines: Vec<FeatureOutline>) -> Result<Self, AllocError>
-        ensures same { IfOk result (λ made. outline_values (joined made.chunks.items)
+        ensures same { IfOk result (λ made. feature_outline_values (joined made.chunks.items)
             ≡ feature_outline_values outlines.items) }
         ensures filled { IfOk result (λ made. AreFilled made.chunks.items) }
         ensures bounded { IfOk result (λ made. AreBounded made.chunks.items) }
@@ -156,7 +154,7 @@ impl Chunks {
     }
 
     /// Makes a first chunk of an outline, if no chunk exists.
-    fn begin(&mut self, alloc: Global, outline: KeptOutline) -> Result<(), AllocError>
+    fn begin(&mut self, alloc: Global, outline: FeatureOutline) -> Result<(), AllocError>
         requires { self.old.chunks.items ≡ [] }
         ensures { (features : Features) (f : FeatureValue) →
             AreListedChunksOf self.old features →
@@ -173,7 +171,12 @@ impl Chunks {
 
     /// Puts the extent of an outline into cells, under the number of the chunk in this place, if it
     /// is not there already.
-    fn list(&mut self, alloc: Global, place: usize, outline: &KeptOutline) -> Result<(), AllocError>
+    fn list(
+        &mut self,
+        alloc: Global,
+        place: usize,
+        outline: &FeatureOutline,
+    ) -> Result<(), AllocError>
         requires { place < length self.old.chunks.items }
         ensures same { self.new.chunks ≡ self.old.chunks }
         ensures kept { AreListed self.old.cells self.old.chunks.items →
@@ -192,7 +195,7 @@ impl Chunks {
 
     /// Inserts an outline, in place of the one under its id, if any. After an error outlines may
     /// be missing.
-    pub fn put(&mut self, alloc: Global, outline: KeptOutline) -> Result<(), AllocError>
+    pub fn put(&mut self, alloc: Global, outline: FeatureOutline) -> Result<(), AllocError>
         ensures { (features : Features) (f : FeatureValue) →
             AreListedChunksOf self.old features →
             IsOutlineOf outline f →

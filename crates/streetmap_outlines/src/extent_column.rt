@@ -13,12 +13,12 @@ ghost use Rattle.streetmap_cells.specs.Envelopes.{overlaps};
 ghost use Rattle.streetmap_outlines.specs.Outlines.{IsOutlineOf, IsExtentIf, AreExtentsOf};
 ghost use Rattle.streetmap_outlines.specs.Selections.{IsWindowOf};
 ghost use Rattle.streetmap_outlines.specs.Within.{DecidesMeeting};
-ghost use Rattle.streetmap_outlines.specs.declared.kept.KeptOutline.{KeptOutline};
+ghost use Rattle.streetmap_ledger.specs.declared.outline.FeatureOutline.{FeatureOutline};
 
-use crate::kept::KeptOutline;
 use crate::within::has_three_bounds_in;
 use streetmap_cells::Envelope;
 use streetmap_grid::GridBox;
+use streetmap_ledger::FeatureOutline;
 use streetmap_query::Query;
 
 /// How many extents are counted at a time: few enough for a count of 32 bits.
@@ -42,7 +42,7 @@ fn envelope_of(extent: Option<GridBox>) -> Envelope
 
 /// Keeps the extents of outlines, in place of those kept before: of as many, from the first on, as
 /// memory allows.
-pub(crate) fn keep_extents(extents: &mut Vec<Envelope>, outlines: &[KeptOutline])
+pub(crate) fn keep_extents(extents: &mut Vec<Envelope>, outlines: &[FeatureOutline])
     ensures { AreExtentsOf extents.new.items outlines.now }
 {
     extents.clear();
@@ -66,11 +66,11 @@ pub fn window_of(query: &Query) -> Option<Envelope>
 /// Whether the kept extent of the outline in this place lies outside the window. Then a page does
 /// not examine its feature.
 pub fn lies_outside(window: Option<Envelope>, extents: &[Envelope], place: usize) -> bool
-    ensures passed_over { IsTrue result → (q : QueryValue) (os : List KeptOutline)
-        (o : KeptOutline) (f : FeatureValue) → IsWindowOf q window → AreExtentsOf extents.now os
+    ensures passed_over { IsTrue result → (q : QueryValue) (os : List FeatureOutline)
+        (o : FeatureOutline) (f : FeatureValue) → IsWindowOf q window → AreExtentsOf extents.now os
         → slice_get os place ≡ Some o → IsOutlineOf o f → is_candidate q f ≡ false }
-    ensures exact { place < length extents.now → (q : QueryValue) (os : List KeptOutline)
-        (o : KeptOutline) (f : FeatureValue) → IsWindowOf q window → AreExtentsOf extents.now os
+    ensures exact { place < length extents.now → (q : QueryValue) (os : List FeatureOutline)
+        (o : FeatureOutline) (f : FeatureValue) → IsWindowOf q window → AreExtentsOf extents.now os
         → slice_get os place ≡ Some o → IsOutlineOf o f
         → result ≡ not (passes extent_overlaps f.geometry q.bbox) }
 {

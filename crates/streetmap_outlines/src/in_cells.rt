@@ -4,10 +4,10 @@ ghost use Rattle.streetmap_cells.specs.Cells.{KeepsExtents};
 ghost use Rattle.streetmap_outlines.specs.Outlines.{IsListedIf, AreListedUnder, AreListed};
 
 use crate::chunk::Chunk;
-use crate::kept::KeptOutline;
 use std::alloc::{AllocError, Global};
 use streetmap_cells::Cells;
 use streetmap_grid::GridBox;
+use streetmap_ledger::FeatureOutline;
 
 /// Cells have room for this many extents more than twice the present number.
 const SPARE_ROOM: usize = 1024;
@@ -31,7 +31,7 @@ pub(crate) fn list_extent(
 pub(crate) fn list_outlines(
     cells: &mut Cells,
     number: u32,
-    outlines: &[KeptOutline],
+    outlines: &[FeatureOutline],
 ) -> Result<(), AllocError>
     ensures kept { KeepsExtents cells.old cells.new }
     ensures listed { OnOk result (AreListedUnder cells.new number outlines.now) }

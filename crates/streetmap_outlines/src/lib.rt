@@ -9,27 +9,23 @@
 //! that its feature meets it. It goes over the outlines of the others, and reads only those whose
 //! extents overlap the box.
 //!
-//! In the order of reading: `compact_box` and `kept` (an outline as it is kept), `bounds`,
-//! `within`, `extent_column`, `chunk`, `in_cells` and `chunks` (outlines in chunks, of which an
-//! edit changes one, and their extents by cells), `selection` (what these show of a query).
+//! In the order of reading: `bounds`, `within`, `extent_column`, `chunk`, `in_cells` and `chunks`
+//! (outlines in chunks, of which an edit changes one, and their extents by cells), `selection` (what
+//! these show of a query).
 #![tactic(auto)]
 
 mod bounds;
 mod chunk;
 mod chunks;
-mod compact_box;
 mod extent_column;
 mod in_cells;
-mod kept;
 mod selection;
 mod within;
 
 pub use bounds::bounds_of_both;
 pub use chunk::Chunk;
 pub use chunks::Chunks;
-pub use compact_box::CompactBox;
 pub use extent_column::{lies_outside, window_of};
-pub use kept::KeptOutline;
 pub use selection::{
     all_come_after, comes_after, count_selected, is_candidate, is_passed_over, is_selected,
     is_unmarked,

@@ -13,18 +13,17 @@ ghost use Rattle.streetmap_outlines.specs.Outlines.{IsOutlineOf, LiesWithin, IsT
 ghost use Rattle.streetmap_outlines.specs.Selections.{is_marked_if, IsCountedFor, CountsWhole};
 ghost use Rattle.streetmap_outlines.specs.Selections.{AllComeAfter};
 ghost use Rattle.streetmap_outlines.specs.Chunks.{AreInOrder, BeginsAfter};
-ghost use Rattle.streetmap_outlines.specs.declared.kept.KeptOutline.{KeptOutline};
+ghost use Rattle.streetmap_ledger.specs.declared.outline.FeatureOutline.{FeatureOutline};
 
 use crate::chunk::Chunk;
 use crate::extent_column::count_in_window;
-use crate::kept::KeptOutline;
 use crate::within::decides_meeting;
 use streetmap_cells::{Envelope, Marks};
-use streetmap_ledger::overlaps_box;
+use streetmap_ledger::{FeatureOutline, overlaps_box};
 use streetmap_query::Query;
 
 /// Whether the seconds overlap those of the interval, if the query has one.
-fn overlaps_interval(query: &Query, outline: &KeptOutline) -> bool
+fn overlaps_interval(query: &Query, outline: &FeatureOutline) -> bool
     ensures { (f : FeatureValue) → IsOutlineOf outline.now f
         → result ≡ passes seconds_overlap f.time (requested_interval (query_value query.now)) }
 {
@@ -41,7 +40,7 @@ fn overlaps_interval(query: &Query, outline: &KeptOutline) -> bool
 }
 
 /// Whether a page examines the feature with this outline.
-pub fn is_candidate(query: &Query, outline: &KeptOutline) -> bool
+pub fn is_candidate(query: &Query, outline: &FeatureOutline) -> bool
     ensures { (f : FeatureValue) → IsOutlineOf outline.now f
         → result ≡ is_candidate_of (query_value query.now) f }
 {
@@ -50,7 +49,7 @@ pub fn is_candidate(query: &Query, outline: &KeptOutline) -> bool
 
 /// Whether the chunk's bounds show that a page examines none of the features with its outlines.
 pub fn is_passed_over(query: &Query, chunk: &Chunk) -> bool
-    ensures { IsTrue result → (outline : KeptOutline) (f : FeatureValue)
+    ensures { IsTrue result → (outline : FeatureOutline) (f : FeatureValue)
         → LiesWithin outline.extent chunk.now.bounds → IsOutlineOf outline f
         → is_candidate_of (query_value query.now) f ≡ false }
 {
@@ -71,7 +70,7 @@ pub fn is_unmarked(marks: Option<&Marks>, chunk: &Chunk) -> bool
 /// the one that it begins in, if the query has an interval. Then each time with seconds within
 /// these bounds meets it.
 fn reaches_into_interval(query: &Query, seconds: Option<(i64, i64)>) -> bool
-    ensures { IsTrue result → (outline : KeptOutline) (f : FeatureValue) →
+    ensures { IsTrue result → (outline : FeatureOutline) (f : FeatureValue) →
         IsTimedBy outline.seconds seconds → IsOutlineOf outline f →
         passes meets f.time (requested_interval (query_value query.now)) ≡ true }
 {
@@ -88,7 +87,7 @@ fn reaches_into_interval(query: &Query, seconds: Option<(i64, i64)>) -> bool
 }
 
 /// Whether the outline shows that the query selects the feature.
-pub fn is_selected(query: &Query, outline: &KeptOutline) -> bool
+pub fn is_selected(query: &Query, outline: &FeatureOutline) -> bool
     ensures { IsTrue result → (f : FeatureValue) → IsOutlineOf outline.now f → IsFeature f
         → selects (query_value query.now) f ≡ true }
 {
@@ -98,7 +97,7 @@ pub fn is_selected(query: &Query, outline: &KeptOutline) -> bool
 /// Whether the chunk's bounds lie within the box, if the query has one. Then each feature with an
 /// extent meets it.
 fn lies_whole_within_box(query: &Query, chunk: &Chunk) -> bool
-    ensures { IsTrue result → (outline : KeptOutline) (f : FeatureValue) →
+    ensures { IsTrue result → (outline : FeatureOutline) (f : FeatureValue) →
         LiesWithin outline.extent chunk.now.bounds → IsOutlineOf outline f → IsFeature f →
         IsCountedFor (query_value query.now) outline →
         passes geometry_meets f.geometry (query_value query.now).bbox ≡ true }
@@ -162,7 +161,7 @@ pub fn count_selected(query: &Query, chunk: &Chunk) -> Option<u64>
 }
 
 /// Whether the feature's id comes after the id of the query.
-pub fn comes_after(query: &Query, outline: &KeptOutline) -> bool
+pub fn comes_after(query: &Query, outline: &FeatureOutline) -> bool
     ensures { (f : FeatureValue) → IsOutlineOf outline.now f
         → result ≡ comes_after_of (query_value query.now).after f }
 {

@@ -53,15 +53,13 @@ one_more value reported row_of Fine items next item rows row more held reads vs 
 pub outlines_begun : (os : Vec FeatureOutline Global) → os.items ≡ [] → HoldsOutlines os []
 outlines_begun os none ps is fine =
     let empty = sym (none_mapped placed_row ps is) in
-    (ap feature_outline_values none ∙ ap (map (λ (p : PlacedOutline). p.0)) empty, ap (map (λ (o : FeatureOutline). o.rowid)) none ∙ ap (map (λ (p : PlacedOutline). Some p.1)) empty)
+    ap feature_outline_values none ∙ ap (map (λ (p : PlacedOutline). p.0)) empty
 
 -- outlines, with one more outline
 pub outlines_more : (before after : Vec FeatureOutline Global) (outline : FeatureOutline) (rows : List Row) (row : Row) → after.items ≡ before.items ++ outline ∷ [] → HoldsOutlines before rows
-    → ((p : PlacedOutline) → row ≡ placed_row p → IsOutline p.0 → (feature_outline_value outline ≡ p.0) × (outline.rowid ≡ Some p.1)) → HoldsOutlines after (rows ++ row ∷ [])
-outlines_more before after outline rows row more held reads ps is fine = (
-  one_more feature_outline_value (λ p. p.0) placed_row (λ p. IsOutline p.0) before.items after.items outline rows row more (λ vs here good. (held vs here good).0) (λ p here good. (reads p here good).0) ps is fine,
-  one_more (λ o. o.rowid) (λ p. Some p.1) placed_row (λ p. IsOutline p.0) before.items after.items outline rows row more (λ vs here good. (held vs here good).1) (λ p here good. (reads p here good).1) ps is fine,
-)
+    → ((p : PlacedOutline) → row ≡ placed_row p → IsOutline p.0 → feature_outline_value outline ≡ p.0) → HoldsOutlines after (rows ++ row ∷ [])
+outlines_more before after outline rows row more held reads ps is fine =
+    one_more feature_outline_value (λ p. p.0) placed_row (λ p. IsOutline p.0) before.items after.items outline rows row more held reads ps is fine
 
 -- bounds of features, with one more feature
 pub wider_bounds : (rows : List Row) (row : Row) (old extent new : Option GridBox) → ((fs : List FeatureValue) → rows ≡ map (λ f. extent_row (feature_extent f)) fs → AllByRecursion (λ f. IsGeometryIf f.geometry) fs → AreBounds (all_vertices fs) old)

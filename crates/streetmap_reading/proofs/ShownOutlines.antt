@@ -228,7 +228,7 @@ module _ (db : Database) (s : State) (kept : Keeps s db) where
     unfolding placed
     outlines_once rows once os sorted holds same up =
         let reported = holds (map placed once.es) (once.is ∙ sym (map_again placed_row placed once.es)) (all_from (λ (p : PlacedOutline). IsOutline p.0) _ (λ p h. let e = mapped_has placed once.es p h in subst (λ (x : PlacedOutline). IsOutline x.0) (sym e.2) (once_outline rows once e.0 e.1))) in
-        sorted_are (features_in s name) once.es once.apart (once_shown rows once) (λ q f is. once.all q f (ap (if_passes (is_chosen None None)) is)) os.items sorted (reported.0 ∙ map_again (λ p. p.0) placed once.es) same up
+        sorted_are (features_in s name) once.es once.apart (once_shown rows once) (λ q f is. once.all q f (ap (if_passes (is_chosen None None)) is)) os.items sorted (reported ∙ map_again (λ p. p.0) placed once.es) same up
 
     -- ---- the rows of the extents in any order
 

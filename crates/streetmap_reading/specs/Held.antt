@@ -26,12 +26,11 @@ use Rattle.streetmap_reading.specs.Candidates.{candidate_row}
 use Rattle.streetmap_reading.specs.Views.{extent_row, feature_extent, IsOutline}
 use Rattle.streetmap_reading.specs.Views.{PlacedOutline, placed_row}
 
--- the outlines that the rows are of, with their rowids
+-- the outlines that the rows are of
 abbrev pub HoldsOutlines : Vec FeatureOutline Global → List Row → Type 0
 HoldsOutlines os rows = (ps : List PlacedOutline) → rows ≡ map placed_row ps
     → AllByRecursion (λ p. IsOutline p.0) ps
-    → (feature_outline_values os.items ≡ map (λ p. p.0) ps)
-    × (map (λ o. o.rowid) os.items ≡ map (λ p. Some p.1) ps)
+    → feature_outline_values os.items ≡ map (λ p. p.0) ps
 
 -- the bounds of the features whose extents the rows are
 abbrev pub HoldsBounds : Option GridBox → List Row → Type 0

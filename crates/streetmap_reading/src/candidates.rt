@@ -13,7 +13,8 @@ use json::Scratch;
 use sqlite::Row;
 use sqlite::types::ValueRef;
 use std::alloc::Global;
-use streetmap_geojson::{Feature, JsonFault};
+use streetmap_feature_text::PackedFeature;
+use streetmap_geojson::JsonFault;
 use streetmap_ledger::PageFold;
 use streetmap_rows::{ReadFault, read_body};
 
@@ -23,7 +24,7 @@ pub(crate) fn read_row(
     scratch: &mut Scratch,
     row: &Row,
     property: Option<&str>,
-) -> Result<Feature, ReadFault>
+) -> Result<PackedFeature, ReadFault>
     ensures reads { (f : FeatureValue) → 0 < length row.now → column row.now 0
         ≡ Words (feature_text f) → IsStored (option_copied property.entry) f
         → MatchResult result (λ g. g ≡ f) (λ fault. fault ≡ ReadFault.Memory) }

@@ -15,7 +15,7 @@ use json::Scratch;
 use sqlite::types::ValueRef;
 use sqlite::{Alter, Connection, Row, params};
 use std::alloc::Global;
-use streetmap_geojson::Feature;
+use streetmap_feature_text::PackedFeature;
 use streetmap_ledger::FeatureOutline;
 use streetmap_rows::ReadFault;
 
@@ -68,7 +68,7 @@ fn text_row_at<S: Alter>(
     )
 }
 
-/// The row of the feature that an outline is of, read first by the outline's rowid; none if the
+/// The row of the feature that an outline is of, read first by the outline's hint, a rowid; none if the
 /// feature does not exist.
 fn outlined_row<S: Alter>(
     conn: &mut Connection<S>,
@@ -80,10 +80,10 @@ fn outlined_row<S: Alter>(
         conn.old conn.new result }
 {
     let id = outline.id.as_str();
-    let Some(rowid) = outline.rowid else {
+    let Some(rowid) = outline.hint else {
         return text_row(conn, collection, id);
     };
-    match text_row_at(conn, collection, id, rowid)? {
+    match text_row_at(conn, collection, id, i64::from(rowid))? {
         Some(row) => Ok(Some(row)),
         None => text_row(conn, collection, id),
     }
@@ -103,7 +103,7 @@ fn timed_feature<S: Alter>(
     conn: &mut Connection<S>,
     collection: &str,
     row: &Row,
-) -> Result<Feature, ReadFault>
+) -> Result<PackedFeature, ReadFault>
     ensures { ReadsTables S.Store (IsFeatureIn collection.now row.now) conn.old conn.new result }
 {
     let Some(head) = collection_row(conn, collection)? else {
@@ -121,7 +121,7 @@ fn feature_in<S: Alter>(
     conn: &mut Connection<S>,
     collection: &str,
     row: &Row,
-) -> Result<Feature, ReadFault>
+) -> Result<PackedFeature, ReadFault>
     ensures { ReadsTables S.Store (IsFeatureIn collection.now row.now) conn.old conn.new result }
 {
     if is_timeless(row) {
@@ -138,7 +138,7 @@ fn found_feature<S: Alter>(
     conn: &mut Connection<S>,
     collection: &str,
     found: Option<Row>,
-) -> Result<Option<Feature>, ReadFault>
+) -> Result<Option<PackedFeature>, ReadFault>
     ensures { ReadsTables S.Store (IsFeatureFound collection.now found) conn.old conn.new result }
 {
     let Some(row) = found else {
@@ -159,7 +159,7 @@ pub fn feature_of<S: Alter>(
     conn: &mut Connection<S>,
     collection: &str,
     id: &str,
-) -> Result<Option<Feature>, ReadFault>
+) -> Result<Option<PackedFeature>, ReadFault>
     ensures { ReadsTables S.Store (ReadsState (IsFeatureOf collection.now id.now))
         conn.old conn.new result }
 {
@@ -168,7 +168,7 @@ pub fn feature_of<S: Alter>(
 }
 
 /// The feature of a collection that an outline is of, by the outline's id; `None` if the collection
-/// or the feature does not exist. It reads the row with the outline's rowid first, and reads by the
+/// or the feature does not exist. It reads the row with the rowid of the outline's hint first, and reads by the
 /// id if that row does not exist or is another feature's.
 ///
 /// # Errors
@@ -180,7 +180,7 @@ pub fn feature_outlined_of<S: Alter>(
     conn: &mut Connection<S>,
     collection: &str,
     outline: &FeatureOutline,
-) -> Result<Option<Feature>, ReadFault>
+) -> Result<Option<PackedFeature>, ReadFault>
     ensures { ReadsTables S.Store
         (ReadsState (IsFeatureOf collection.now (string_bytes outline.now.id)))
         conn.old conn.new result }

@@ -1,5 +1,5 @@
 //! Outlines of the features of a collection.
-ghost use Rattle.std.specs.Prelude.{◌≡◌, Some, IfErr, MatchResult};
+ghost use Rattle.std.specs.Prelude.{◌≡◌, IfErr, MatchResult};
 ghost use Rattle.streetmap_ledger.specs.OutlineView.{feature_outline_value};
 ghost use Rattle.streetmap_rows.specs.TableReads.{ReadsState, ReadsTables};
 ghost use Rattle.streetmap_reading.specs.FoldEffects.{IsForMemory, Refuses};
@@ -17,23 +17,17 @@ use std::alloc::Global;
 use streetmap_ledger::FeatureOutline;
 use streetmap_rows::ReadFault;
 
-/// The outline that a row shows, with its rowid.
+/// The outline that a row shows. Its hint is the rowid, if that fits into 32 bits.
 fn outline_in(row: &Row) -> Result<FeatureOutline, ReadFault>
     ensures reads { (p : PlacedOutline) → row.now ≡ placed_row p → IsOutline p.0
-        → MatchResult result (λ outline. (feature_outline_value outline ≡ p.0)
-        × (outline.rowid ≡ Some p.1)) IsForMemory }
+        → MatchResult result (λ outline. feature_outline_value outline ≡ p.0) IsForMemory }
     ensures refuses { IfErr result (Refuses (Unit {0})) }
 {
     let id = text_at(row, 0)?;
     let extent = box_at(row, 1)?;
     let seconds = seconds_at(row, 5)?;
     let rowid = integer_at(row, 7)?;
-    Ok(FeatureOutline {
-        id,
-        extent,
-        seconds,
-        rowid: Some(rowid),
-    })
+    Ok(FeatureOutline::of(id, extent, seconds, u32::try_from(rowid).ok()))
 }
 
 impl RowFold for Vec<FeatureOutline> {

@@ -10,7 +10,7 @@ use crate::page::{collection_row, property_in};
 use json::Scratch;
 use sqlite::{Alter, Connection, Row, params};
 use std::alloc::Global;
-use streetmap_geojson::Feature;
+use streetmap_feature_text::PackedFeature;
 use streetmap_rows::ReadFault;
 
 /// Features that were read from rows, and what their rows are read by.
@@ -21,7 +21,7 @@ pub struct FeatureRows<'a> {
     pub property: Option<&'a str>,
     /// The memory that texts are read with.
     pub scratch: Scratch,
-    pub features: Vec<Feature>,
+    pub features: Vec<PackedFeature>,
 }
 
 impl RowFold for FeatureRows<'_> {
@@ -47,7 +47,7 @@ fn run_under<S: Alter>(
     first: &str,
     last: &str,
     property: Option<&str>,
-) -> Result<Vec<Feature>, ReadFault>
+) -> Result<Vec<PackedFeature>, ReadFault>
     ensures { ReadsTables S.Store
         (IsRunUnder collection.now first.now last.now (option_copied property.entry))
         conn.old conn.new result }
@@ -80,7 +80,7 @@ pub fn run_of<S: Alter>(
     collection: &str,
     first: &str,
     last: &str,
-) -> Result<Option<Vec<Feature>>, ReadFault>
+) -> Result<Option<Vec<PackedFeature>>, ReadFault>
     ensures { ReadsTables S.Store (ReadsState (IsRunOf collection.now first.now last.now))
         conn.old conn.new result }
 {

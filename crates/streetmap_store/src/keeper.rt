@@ -28,7 +28,7 @@ use crate::keys::is_key_used;
 use json::Scratch;
 use sqlite::{Alter, Connection, Error};
 use std::alloc::Global;
-use streetmap_geojson::Feature;
+use streetmap_feature_text::PackedFeature;
 use streetmap_ledger::{
     Batch, Durable, Fault, FeatureOutline, Keeper, KeepsBatches, KeptBatch, Outlined, Page, Reply,
     Summary,
@@ -360,7 +360,7 @@ impl<S: Alter> Keeper for TableKeeper<S> {
         answer(&mut self.conn, &mut self.shut, page)
     }
 
-    fn feature(&mut self, collection: &str, id: &str) -> Result<Option<Feature>, Fault> {
+    fn feature(&mut self, collection: &str, id: &str) -> Result<Option<PackedFeature>, Fault> {
         if !self.is_open() {
             return Err(Fault::Reopen);
         }
@@ -396,7 +396,7 @@ impl<S: Alter> Outlined for TableKeeper<S> {
         &mut self,
         collection: &str,
         outline: &FeatureOutline,
-    ) -> Result<Option<Feature>, Fault> {
+    ) -> Result<Option<PackedFeature>, Fault> {
         if !self.is_open() {
             return Err(Fault::Reopen);
         }
@@ -415,7 +415,7 @@ impl<S: Alter> Outlined for TableKeeper<S> {
         collection: &str,
         first: &str,
         last: &str,
-    ) -> Result<Option<Vec<Feature>>, Fault> {
+    ) -> Result<Option<Vec<PackedFeature>>, Fault> {
         if !self.is_open() {
             return Err(Fault::Reopen);
         }

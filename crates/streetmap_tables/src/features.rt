@@ -5,6 +5,7 @@ ghost use Rattle.std.specs.Option.{option_copied};
 ghost use Rattle.sqlite.specs.Held.{state};
 ghost use Rattle.sqlite.specs.State.{HasCleanDisk};
 ghost use Rattle.streetmap_geojson.specs.FeatureValue.{FeatureValue};
+ghost use Rattle.streetmap_rows.specs.Rows.{feature_text};
 ghost use Rattle.streetmap_rows.specs.Failures.{IsOfStore};
 ghost use Rattle.streetmap_rows.specs.Holds.{KeyPair};
 ghost use Rattle.streetmap_rows.specs.Stored.{IsStored, TextReadsAs};
@@ -21,7 +22,7 @@ use sqlite::types::ValueRef;
 use sqlite::{Alter, Error, Row, Transaction};
 use std::alloc::Global;
 use streetmap_feature_text::WrittenFeature;
-use streetmap_geojson::JsonFault;
+use streetmap_geojson::{Feature, JsonFault};
 use streetmap_rows::{ReadFault, collection_rows, is_of_store, read_body, time_in, unread};
 
 /// Why a read or a write of a feature gave up: the store failed, or the statement was refused, as
@@ -82,6 +83,24 @@ fn collection_in(row: &Row) -> Result<String, ReadFault>
     }
 }
 
+/// The feature of the text in a row, read into values.
+fn parse(alloc: Global, body: &[u8], property: Option<&str>) -> Result<Feature, ReadFault>
+    ensures own { IfErr result IsOwn }
+    ensures worded { IfOk result (TextReadsAs (option_copied property.entry) body.now) }
+    ensures reads { (f : FeatureValue) → body.now ≡ feature_text f →
+        IsStored (option_copied property.entry) f →
+        MatchResult result (λ g. g ≡ f) (λ fault. fault ≡ ReadFault.Memory) }
+{
+    match read_body(alloc, &mut Scratch::new(alloc), body, property) {
+        Ok(kept) => match kept.unpack(alloc) {
+            Ok(feature) => Ok(feature),
+            Err(_) => Err(ReadFault::Memory),
+        },
+        Err(JsonFault::Memory) => Err(ReadFault::Memory),
+        Err(JsonFault::Fault(_)) => Err(ReadFault::Unread),
+    }
+}
+
 /// The feature in its row, under its collection's time property.
 fn feature_in(alloc: Global, row: &Row, property: Option<&str>) -> Result<WrittenFeature, ReadFault>
     ensures own { IfErr result IsOwn }
@@ -95,10 +114,9 @@ fn feature_in(alloc: Global, row: &Row, property: Option<&str>) -> Result<Writte
     let (Ok(ValueRef::Text(id)), Ok(ValueRef::Text(body))) = (row.get_ref(1), row.get_ref(2)) else {
         return Err(ReadFault::Unread);
     };
-    let feature = match read_body(alloc, &mut Scratch::new(alloc), body, property) {
+    let feature = match parse(alloc, body, property) {
         Ok(feature) => feature,
-        Err(JsonFault::Memory) => return Err(ReadFault::Memory),
-        Err(JsonFault::Fault(_)) => return Err(ReadFault::Unread),
+        Err(fault) => return Err(fault),
     };
     if feature.id().as_bytes() != id {
         return Err(ReadFault::Unread);

@@ -27,7 +27,7 @@ use streetmap_bodies::{
     RequestFault, api_text, changes_text, collection_text, collections_text, conformance_text,
     feature_text, landing_text, page_text, push_fault, push_reply_body,
 };
-use streetmap_geojson::Feature;
+use streetmap_feature_text::PackedFeature;
 use streetmap_http::MediaType;
 use streetmap_ledger::{Fault, Keeper, KeptBatch, Page, Reply, Summary};
 use streetmap_query::Query;
@@ -175,7 +175,7 @@ fn found_feature(
     alloc: Global,
     root: &str,
     name: &str,
-    feature: &Option<Feature>,
+    feature: &Option<PackedFeature>,
 ) -> Result<Response, AllocError>
     ensures { IfOk result (λ b. response_value b ≡
         spec_response.found_feature root.now name.now feature.now) }

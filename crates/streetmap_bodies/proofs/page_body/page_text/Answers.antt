@@ -1,5 +1,4 @@
 use Rattle.std.proofs.Common.{◌≡◌, ◌++◌, ap, ◌∙◌, string_bytes, codes, decimal, length, option_map, rules}
-use Rattle.std.proofs.lemmas.List.{map-id}
 use Rattle.serde_json.specs.Written.{compact_text}
 use Rattle.streetmap_feature_text.specs.Written.{array_of, feature_data}
 use Rattle.streetmap_query.specs.Views.{query_value}
@@ -15,7 +14,7 @@ returns c =
     let q = query_value c.args.query.now in
     let start : string_bytes c.add.new.out ≡ codes "{\"features\":" = search rules in
     let s1 : string_bytes c.push_features.new.out ≡ string_bytes c.add.new.out ++ compact_text (array_of feature_data page.features) =
-    c.in_ok-push_features.ensures ∙ ap (λ fs. string_bytes c.add.new.out ++ compact_text (array_of feature_data fs)) (map-id c.as_slice-features.result.now ∙ c.as_slice-features.ensures.value) in
+    c.in_ok-push_features.ensures ∙ ap (λ fs. string_bytes c.add.new.out ++ compact_text (array_of feature_data fs)) c.as_slice-features.ensures.value in
     let s7 : string_bytes c.add_number-2.new.out ≡ string_bytes c.add-4.new.out ++ decimal (length page.features) =
     c.in_ok-add_number-2.ensures ∙ ap (λ fs. string_bytes c.add-4.new.out ++ decimal (length fs)) c.as_slice-features.ensures.value in
     let s2 : string_bytes c.add-2.new.out ≡ string_bytes c.push_features.new.out ++ codes ",\"links\":" = search rules in

@@ -9,7 +9,7 @@ loop-feature-preserved c =
     let all = c.args.features.items in
     let so = subst (λ l. TakenSoFar c.args.outlines.now all l c.args.fold.now c.loop-feature.fold c.loop-feature.place) c.in-Some.ensures.steps.0 inv.so_far in
     let long = ap length c.in-Some.ensures.steps.0 in
-    let is = c.has_id.ensures c.if-not-has_id.false in
+    let is = c.in_ok-has_id.ensures c.if-not-branch.false in
     record {
       goes = search rules;
       ends = search rules;

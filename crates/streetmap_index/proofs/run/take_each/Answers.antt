@@ -1,7 +1,7 @@
 use Rattle.std.proofs.Common.{◌≡◌, ◌+◌, ◌∷◌, ◌++◌, [], true, take, ap, sym, subst, ◌∙◌, arith}
 use Rattle.std.proofs.lemmas.List.{take_more, take_all}
 use Rattle.streetmap_ledger.proofs.Calls.{read_then, read_made, read_failed, read_after}
-use Rattle.streetmap_outlines.specs.declared.kept.KeptOutline.{KeptOutline}
+use Rattle.streetmap_ledger.specs.declared.outline.FeatureOutline.{FeatureOutline}
 use Rattle.streetmap_index.specs.OutlinePages.{TakesRun}
 use Rattle.streetmap_index.proofs.Runs.{taken_after}
 use Rattle.streetmap_index.proofs.run.take_each.Goals as goal
@@ -14,7 +14,7 @@ loop-outline-preserved g c =
     let o = c.outline-item.result in
     let old = c.args.fold.now in
     let new = c.take_one.new.fold in
-    let next : take (i + 1) os ≡ take i os ++ o ∷ [] = take_more os i o c.loop-outline-test.true ∙ ap (λ (x : KeptOutline). take i os ++ x ∷ []) (sym c.outline-item.is) in
+    let next : take (i + 1) os ≡ take i os ++ o ∷ [] = take_more os i o c.loop-outline-test.true ∙ ap (λ (x : FeatureOutline). take i os ++ x ∷ []) (sym c.outline-item.is) in
     read_after c.loop-outline.invariant c.in-Ok-true.ensures
     (λ s e so_far one. subst (λ xs. TakesRun name xs old new s true) (sym next) (taken_after s name (take i os) (o ∷ []) old c.loop-outline.fold new so_far (λ _. one c.in-Ok-true.field-0-test)))
 

@@ -1,7 +1,7 @@
 use Rattle.std.proofs.Common.{take, subst, arith}
 use Rattle.std.proofs.lemmas.List.{take_all}
 use Rattle.std.proofs.lemmas.List.Elements.{All-more, All-weaker}
-use Rattle.streetmap_outlines.specs.declared.kept.KeptOutline.{KeptOutline}
+use Rattle.streetmap_ledger.specs.declared.outline.FeatureOutline.{FeatureOutline}
 use Rattle.streetmap_outlines.specs.Outlines.{IsTimedBy, AllTimedBy}
 use Rattle.streetmap_outlines.proofs.bounds.bounds_of_seconds.Goals as goal
 
@@ -16,8 +16,8 @@ loop-outline-preserved c =
     let old = c.loop-outline.bounds in
     let new = c.bounds_of_seconds_too-bounds.result in
     let says = c.bounds_of_seconds_too-bounds.ensures in
-    let Old : KeptOutline → Type 0 = λ o. IsTimedBy o.seconds old in
-    let New : KeptOutline → Type 0 = λ o. IsTimedBy o.seconds new in
+    let Old : FeatureOutline → Type 0 = λ o. IsTimedBy o.seconds old in
+    let New : FeatureOutline → Type 0 = λ o. IsTimedBy o.seconds new in
     All-more New os i o (omega arith) (All-weaker Old New (λ o held. says.bounds o.seconds held) (take i os) c.loop-outline.invariant) (subst New c.outline-item.is says.seconds)
 
 pub returns : goal.returns

@@ -4,20 +4,20 @@ use Rattle.std.proofs.lemmas.List.Elements.{All-nil, All-more}
 use Rattle.streetmap_grid.specs.Bounds.{AreBounds}
 use Rattle.streetmap_grid.specs.Values.{PositionValue}
 use Rattle.streetmap_grid.specs.declared.grid_box.GridBox.{GridBox}
-use Rattle.streetmap_outlines.specs.declared.kept.KeptOutline.{KeptOutline}
+use Rattle.streetmap_ledger.specs.declared.outline.FeatureOutline.{FeatureOutline}
 use Rattle.streetmap_outlines.specs.Outlines.{LiesWithin, AllLieWithin}
 use Rattle.streetmap_outlines.proofs.Covering.{lie_too}
 use Rattle.streetmap_outlines.proofs.Extents.{Growing, grows_on, all_bounds}
 use Rattle.streetmap_outlines.proofs.bounds.grown.Goals as goal
 
 -- the outline that comes next
-turn : (os : List KeptOutline) (i : ℕ) (o : KeptOutline) → i < length os → o ≡ get_or os i o → drop i os ≡ o ∷ drop (i + 1) os
-turn os i o within is = drop_more os i o within ∙ ap (λ (x : KeptOutline). x ∷ drop (i + 1) os) (sym is)
+turn : (os : List FeatureOutline) (i : ℕ) (o : FeatureOutline) → i < length os → o ≡ get_or os i o → drop i os ≡ o ∷ drop (i + 1) os
+turn os i o within is = drop_more os i o within ∙ ap (λ (x : FeatureOutline). x ∷ drop (i + 1) os) (sym is)
 
 pub loop-outline-init : goal.loop-outline-init
 loop-outline-init c = record {
   exact = λ features ps fs pairs bounds. record { met = []; left = fs; whole = refl {a = fs}; pairs = pairs; bounds_are = subst (λ vs. AreBounds vs c.args.bounds) (sym (append-nil ps)) bounds };
-  within = All-nil (λ (o : KeptOutline). LiesWithin o.extent c.args.bounds);
+  within = All-nil (λ (o : FeatureOutline). LiesWithin o.extent c.args.bounds);
 }
 
 pub loop-outline-preserved : goal.loop-outline-preserved
@@ -31,7 +31,7 @@ loop-outline-preserved c =
     let says = c.bounds_of_both-bounds.ensures in
     let exact = subst (λ (e : Option GridBox). (vs qs : List PositionValue) → AreBounds vs old → AreBounds qs e → AreBounds (vs ++ qs) new) c.extent.ensures says.exact in
     let other = subst (λ (e : Option GridBox). LiesWithin e new) c.extent.ensures says.other in
-    let In : KeptOutline → Type 0 = λ o. LiesWithin o.extent new in
+    let In : FeatureOutline → Type 0 = λ o. LiesWithin o.extent new in
     record {
       exact = λ features ps fs pairs bounds. grows_on ps old new features fs o (drop (i + 1) os) (subst (Growing ps old features fs) (turn os i o (omega arith) c.outline-item.is) (inv.exact features ps fs pairs bounds)) exact;
       within = All-more In os i o (omega arith) (lie_too (take i os) old new inv.within says.one) (subst In c.outline-item.is other);

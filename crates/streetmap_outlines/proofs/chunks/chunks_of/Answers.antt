@@ -3,7 +3,7 @@ use Rattle.std.specs.Prelude.{Vec}
 use Rattle.std.specs.Vec.Iter.{into_iter_items}
 use Rattle.std.specs.declared.alloc.Global.{Global}
 use Rattle.std.proofs.lemmas.List.Elements.{All-head, All-tail, All-push, All-same}
-use Rattle.streetmap_outlines.specs.declared.kept.KeptOutline.{KeptOutline}
+use Rattle.streetmap_ledger.specs.declared.outline.FeatureOutline.{FeatureOutline}
 use Rattle.streetmap_outlines.specs.Outlines.{joined, joined_runs, IsBounded}
 use Rattle.streetmap_outlines.proofs.InChunks.{HasSome}
 use Rattle.streetmap_outlines.proofs.CutUp.{HasOutlines, run_taken}
@@ -14,7 +14,7 @@ loop-run-preserved c =
     let inv = c.loop-run.invariant in
     let chunks = c.loop-run.chunks.items in
     let rest = into_iter_items c.next.new.self in
-    let run : Vec KeptOutline Global = c.in-Some.run' in
+    let run : Vec FeatureOutline Global = c.in-Some.run' in
     let next = c.in-Some.ensures.steps.0 in
     let made = c.new.result in
     let pushes = c.in_ok-push.ensures.items in

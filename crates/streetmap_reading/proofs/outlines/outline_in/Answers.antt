@@ -1,4 +1,5 @@
-use Rattle.std.proofs.Common.{ap, arith, rules}
+use Rattle.std.proofs.Common.{◌≡◌, ◌∙◌, ap, arith, option_map, string_bytes}
+use Rattle.streetmap_grid.specs.Views.{box_value}
 use Rattle.sqlite.specs.Order.{Row, column}
 use Rattle.streetmap_reading.proofs.RowReadings.{good_of, no_err, within}
 use Rattle.streetmap_reading.proofs.outlines.outline_in.Goals as goal
@@ -28,6 +29,6 @@ returns-clause-reads c = λ p is fine.
     (ap (λ (r : Row). column r 3) is) (ap (λ (r : Row). column r 4) is) in
     let seconds = good_of (c.in_ok-seconds.ensures.reads p.0.seconds (within _ _ 6 is (omega arith))
     (ap (λ (r : Row). column r 5) is) (ap (λ (r : Row). column r 6) is)) in
-    let rowid = good_of (c.in_ok-rowid.ensures.reads p.1 (within _ _ 7 is (omega arith))
-    (ap (λ (r : Row). column r 7) is)) in
-    (λ i. record { id = id i; extent = extent i; seconds = seconds i }, search (rules, rowid))
+    let parts : record { id = string_bytes c.in_ok-id.id; extent = option_map box_value c.in_ok-extent.extent; seconds = c.in_ok-seconds.seconds } ≡ p.0 =
+    λ i. record { id = id i; extent = extent i; seconds = seconds i } in
+    c.of.ensures.outline ∙ parts

@@ -34,7 +34,7 @@ returns g c =
     let reported = all.2 (map (placed _ s keeps name) es)
     (all.1 ∙ sym (map_again placed_row (placed _ s keeps name) es)) (outlines_fine _ s keeps name)
     in
-    (reported.0 ∙ outlines_are _ s keeps name, took.1))
+    (reported ∙ outlines_are _ s keeps name, took.1))
 
 pub returns-then-not-all : goal.returns-then-not-all
 returns-then-not-all g c =

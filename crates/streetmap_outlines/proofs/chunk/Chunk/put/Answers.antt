@@ -1,5 +1,5 @@
 use Rattle.std.proofs.lemmas.List.Elements.{All-same, All-set}
-use Rattle.streetmap_outlines.specs.declared.kept.KeptOutline.{KeptOutline}
+use Rattle.streetmap_ledger.specs.declared.outline.FeatureOutline.{FeatureOutline}
 use Rattle.streetmap_outlines.proofs.Each.{each_inserted}
 use Rattle.streetmap_outlines.proofs.Listed.{Listed}
 use Rattle.streetmap_outlines.proofs.Places.{put_in_place, put_in_gap}
@@ -23,5 +23,5 @@ returns-in-Ok-clause-listed c = λ cells listed one.
 pub returns-in_ok-insert-in-Err-clause-listed : goal.returns-in_ok-insert-in-Err-clause-listed
 returns-in_ok-insert-in-Err-clause-listed c = λ cells listed one.
     let old = c.args.self.now in
-    let In : KeptOutline → Type 0 = Listed cells old.number in
+    let In : FeatureOutline → Type 0 = Listed cells old.number in
     rw (c.bound-in-Err.ensures.number, c.bound-in-Err.ensures.same) (All-same In _ _ c.in_ok-insert-in-Err.ensures.items (each_inserted In old.outlines.items c.in-Err.place c.args.outline one listed))

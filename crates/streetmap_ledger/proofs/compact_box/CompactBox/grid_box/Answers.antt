@@ -1,7 +1,7 @@
 use Rattle.std.proofs.Common.{ap}
 use Rattle.streetmap_grid.specs.declared.grid_box.GridBox.{GridBox}
-use Rattle.streetmap_outlines.proofs.SameBox.{same_box, same_bound}
-use Rattle.streetmap_outlines.proofs.compact_box.CompactBox.grid_box.Goals as goal
+use Rattle.streetmap_ledger.proofs.SameBox.{same_box, same_bound}
+use Rattle.streetmap_ledger.proofs.compact_box.CompactBox.grid_box.Goals as goal
 
 pub returns : goal.returns
 returns c =

@@ -55,7 +55,7 @@ impl Model for CompactBox {
 
 impl CompactBox {
     /// The same box in half the memory.
-    pub(crate) fn of(area: &GridBox) -> CompactBox
+    pub fn of(area: &GridBox) -> CompactBox
         ensures { result ≡ area.now }
     {
         CompactBox {
@@ -67,7 +67,7 @@ impl CompactBox {
     }
 
     /// The same box as a `GridBox`.
-    pub(crate) fn grid_box(&self) -> GridBox
+    pub fn grid_box(&self) -> GridBox
         ensures { result ≡ self.now }
     {
         GridBox {
