@@ -34,7 +34,7 @@ pub(crate) const CONDITIONAL: &str = "Gives answers tags, and takes conditions o
 
 pub(crate) const CHANGES: &str = "Answers /changes with the accepted batches";
 
-pub(crate) const FENCED: &str = "Refuses each batch";
+pub(crate) const FENCED: &str = "Refuses each batch (not with --follower)";
 
 pub(crate) const FOLLOWER: &str =
     "Takes batches only with the token in the first line of this file";
