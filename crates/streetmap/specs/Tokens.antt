@@ -1,5 +1,5 @@
 -- The token of a follower's script, as a file has it, and the guard that is requested.
-use Rattle.std.specs.Prelude.{◌≡◌, ◌≤◌, ◌<◌, ℕ, List, Bool, true, ◌&&◌, ◌==◌, nat_le, length, take}
+use Rattle.std.specs.Prelude.{◌≡◌, ℕ, Bool, true, ◌&&◌, ◌==◌, nat_le, length, take}
 use Rattle.std.specs.Prelude.{Option, None, Some, position}
 use Rattle.std.specs.List.{list_all}
 use Rattle.streetmap_batch.specs.Text.{Text}

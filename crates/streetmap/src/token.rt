@@ -1,6 +1,7 @@
 //! The token of a follower's script, which a file has in its first line.
 ghost use Rattle.std.specs.Prelude.{◌≡◌, ◌<◌, ◌==◌, true, take, length, IfOk, IfErr, IfSome};
 ghost use Rattle.std.specs.Prelude.{string_bytes, position};
+ghost use Rattle.std.specs.List.{list_all};
 ghost use Rattle.streetmap_command.specs.CommandView as command;
 ghost use Rattle.streetmap_web.specs.Site.{guard_value};
 ghost use Rattle.streetmap.specs.Tokens as spec;
@@ -23,11 +24,18 @@ fn is_visible(byte: u8) -> bool
     33 <= byte && byte <= 126
 }
 
+/// Whether all bytes of a text are visible.
+fn are_visible(text: &[u8]) -> bool
+    ensures { result ≡ list_all spec.is_visible text.now }
+{
+    text.iter().all(|byte| is_visible(*byte))
+}
+
 /// Whether a text is a token.
 fn is_token(text: &[u8]) -> bool
     ensures { result ≡ spec.is_token text.now }
 {
-    16 <= text.len() && text.len() <= 128 && text.iter().all(|byte| is_visible(*byte))
+    16 <= text.len() && text.len() <= 128 && are_visible(text)
 }
 
 /// The index of the first line feed.
