@@ -20,7 +20,7 @@ _streetmap() {
     case $prev in
         --port | --key | --collection | --count | --title | --time | --after) return ;;
         --scale | --shift | --journal-after) return ;;
-        --journal)
+        --journal | --follower)
             _filedir
             return
             ;;
@@ -47,10 +47,10 @@ _streetmap() {
     if [[ $cur == -* ]]; then
         local options=
         case ${words[1]} in
-            pipe) options="--base --conditional --changes" ;;
+            pipe) options="--base --conditional --changes --fenced --follower" ;;
             serve)
                 options="--port --count --clients --log --warm --conditional --changes --base
-                    --journal --journal-after --journal-sync"
+                    --journal --journal-after --journal-sync --fenced --follower"
                 ;;
             import) options="--key --collection --replace --progress" ;;
             export) options="--collection --progress" ;;

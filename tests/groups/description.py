@@ -1,9 +1,9 @@
 """docs/openapi.json is an OpenAPI document, and describes each request and answer of the rows.
 
-The rows are those of examples/http.jsonl, those of examples/conditional.jsonl with tags, and those
-of examples/changes.jsonl with changes. A request for one of the paths, by a method that is
-described, has an answer whose status, media type, tag and body are described. Any other has an
-error.
+The rows are those of examples/http.jsonl, those of examples/conditional.jsonl with tags, those of
+examples/changes.jsonl with changes, and those of services that refuse batches. A request for one of
+the paths, by a method that is described, has an answer whose status, media type, tag and body are
+described. Any other has an error.
 """
 
 import json
@@ -35,7 +35,7 @@ PATHS = {
     "/changes",
 }
 # The files of rows.
-ROWS = ("http.jsonl", "conditional.jsonl", "changes.jsonl")
+ROWS = ("http.jsonl", "conditional.jsonl", "changes.jsonl", "fenced.jsonl", "follower.jsonl")
 
 
 @dataclass(frozen=True)

@@ -284,6 +284,8 @@ def sentences(context: Context) -> None:
     explain("export", file, "--collection", "x", code="no_collection", sentence=NO_COLLECTION)
     base = "A base is an http or https address with the path / and nothing after it."
     explain("pipe", file, "--base", "x", code="bad_base", sentence=base)
+    token = "T cannot be read, or its first line is no token of 16 to 128 visible ASCII characters."
+    explain("pipe", file, "--follower", none, code="bad_token", sentence=token)
 
 
 def run(context: Context) -> None:

@@ -3,7 +3,8 @@
 A row (examples/http.jsonl; examples/conditional.jsonl of a service with tags,
 examples/changes.jsonl of one with tags and changes) has the batches that are there before, the
 bytes of the requests, and all bytes of the answers. A proved test runs the same rows over other
-keepers, from a table.
+keepers, from a table. The rows of fenced.jsonl and follower.jsonl are of services that refuse
+batches.
 """
 
 import json
@@ -15,6 +16,8 @@ from messages import OPEN_LAMPS, delete, feature, post, put
 
 MOST_BYTES = 8_388_608
 MOST_EDITS = 10_000
+# That of the rows of follower.jsonl.
+TOKEN = "a-token-of-a-script"
 
 
 def written(
@@ -59,6 +62,23 @@ def rows_in(name: str) -> list[tuple[str, list[str], bytes, str]]:
     ]
 
 
+def check_guards(context: Context, first: int) -> None:
+    """The rows of servers that refuse batches, and files without a token."""
+    token = context.folder / "token"
+    token.write_text(f"{TOKEN}\nmore\n")
+    guards = (("fenced.jsonl", ("--fenced",)), ("follower.jsonl", ("--follower", str(token))))
+    for name, options in guards:
+        for what, before, sent, wanted in rows_in(name):
+            answers = written(context, first, before, sent, ("--conditional", *options))
+            context.check(f"{name}: {what}", answers, wanted)
+            first += 1
+    file = context.new_file("unguarded")
+    for text in ("", TOKEN[:15], f"{TOKEN[:8]} {TOKEN[8:]}", "t" * 129, f"\n{TOKEN}"):
+        token.write_text(text)
+        context.run("pipe", file, "--follower", token, status=1, code="bad_token")
+    context.run("pipe", file, "--follower", f"{token}s", status=1, code="bad_token")
+
+
 def run(context: Context) -> None:
     context.check("the table of the proved test is that of the rows", http_table.is_current(), True)
     asked = [*rows_in("http.jsonl"), *limits()]
@@ -72,3 +92,4 @@ def run(context: Context) -> None:
     for number, (what, before, sent, wanted) in enumerate(changes, len(asked) + len(tagged)):
         answers = written(context, number, before, sent, ("--conditional", "--changes"))
         context.check(what, answers, wanted)
+    check_guards(context, len(asked) + len(tagged) + len(changes))

@@ -99,6 +99,7 @@ COMPLETIONS = {
     "help ch": "check",
     "serve town --c": "--count --clients --conditional --changes",
     "serve town --clients ": "1 64 1024",
+    "pipe town --f": "--fenced --follower",
     "import town lamps.json --": "--key --collection --replace --progress --explain --help",
     "load town --s": "--scale --shift --skip",
     "load town --fractions ": "text",

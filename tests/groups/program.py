@@ -70,6 +70,10 @@ MISTAKES = {
     " clients from 1 to 1024. For help: streetmap help serve",
     "serve a --port 80 --journal-sync": "The options of a journal go with --journal."
     " For help: streetmap help serve",
+    "serve a --port 80 --fenced --follower t": "A server is fenced or a follower, not both."
+    " For help: streetmap help serve",
+    "pipe a --follower t --fenced": "A server is fenced or a follower, not both."
+    " For help: streetmap help pipe",
     "batches a --after x": "A serial is a number from 0 to 4294967295."
     " For help: streetmap help batches",
     "help x": "After help comes the name of one command, or nothing. For help: streetmap help",

@@ -3,3 +3,4 @@ pub mod Nobody
 pub mod Counts
 pub mod Commands
 pub mod Readers
+pub mod Tokens

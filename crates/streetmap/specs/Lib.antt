@@ -5,3 +5,4 @@ pub mod Changes
 pub mod Piped
 pub mod Images
 pub mod Served
+pub mod Tokens

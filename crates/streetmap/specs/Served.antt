@@ -2,12 +2,14 @@
 use Rattle.streetmap_command.specs.declared.command.Connections.{Connections}
 use Rattle.streetmap_routes.specs.BaseView.{root_of}
 use Rattle.streetmap_routes.specs.declared.base.Base.{Base}
-use Rattle.streetmap_web.specs.Site.{SiteValue}
+use Rattle.streetmap_web.specs.Site.{SiteValue, guard_value}
+use Rattle.streetmap_web.specs.declared.guard.Guard.{Guard}
 
--- its base, with the tags and the changes that its options give
-abbrev pub site_of : Base → Connections → SiteValue
-site_of base connections = record {
+-- its base and its guard, with the tags and the changes that its options give
+abbrev pub site_of : Base → Guard → Connections → SiteValue
+site_of base guard connections = record {
   root = root_of base;
   tags = connections.conditional;
   changes = connections.changes;
+  guard = guard_value guard;
 }

@@ -13,7 +13,7 @@ use streetmap_command::{Connections, Import, JournalArguments, LoadArguments};
 use streetmap_faults::ProgramFault;
 use streetmap_placing::Numbers;
 use streetmap_routes::Base;
-use streetmap_web::Site;
+use streetmap_web::{Guard, Site};
 
 /// Whether a file of that name exists.
 fn is_there(rt: &HostRuntime, path: &str) -> Result<bool, ProgramFault> {
@@ -109,6 +109,7 @@ pub(crate) fn serve(
     path: &str,
     connections: Connections,
     base: Base,
+    guard: Guard,
     journal: Option<JournalArguments<'_>>,
 ) -> Result<(), ProgramFault> {
     refuse_missing(rt, path)?;
@@ -116,7 +117,7 @@ pub(crate) fn serve(
         refuse_same(rt, path, requested.path)?;
     }
     report_size(rt, path);
-    serve_file(rt, path, Unknown, connections, base, journal)?.ended
+    serve_file(rt, path, Unknown, connections, base, guard, journal)?.ended
 }
 
 /// Reads all rows of a file; before that its kept batches are replayed, if that is requested.

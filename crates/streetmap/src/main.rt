@@ -5,9 +5,9 @@
 //! `served` (`serve`, `pipe`) and `opened` (the other commands): what is done to FILE, from opening
 //! it to the end. Below these: `server` and `journal`; `exchange` (`import`, `export`), with
 //! `texts` and `progress`; `loads` (`load`); `batches` (`batches`, `apply`); `checks` (`check`).
-//! Beside them: `lines` (`lines`) and `help`. `fault` turns faults of the crates below into that of
-//! the program, and `report` prints them. The command line, what is printed for a fault, and what
-//! the commands do in turn are in those crates.
+//! Beside them: `lines` (`lines`), `help`, and `token` (which batches a server refuses). `fault`
+//! turns faults of the crates below into that of the program, and `report` prints them. The command
+//! line, what is printed for a fault, and what the commands do in turn are in those crates.
 #![tactic(auto)]
 
 mod batches;
@@ -27,6 +27,7 @@ mod same;
 mod served;
 mod server;
 mod texts;
+mod token;
 
 use std::env;
 use std::process::ExitCode;
@@ -49,7 +50,7 @@ fn run(rt: &HostRuntime, words: &[String]) -> Result<(), ProgramFault> {
     perform(rt, read_command(rt.alloc(), words)?)
 }
 
-/// Does what a command requests. A base of links is checked before the file is.
+/// Does what a command requests. A base of links is checked, and a token read, before the file is.
 fn perform(rt: &HostRuntime, command: Command<'_>) -> Result<(), ProgramFault> {
     match command {
         Command::Help(topic) => help::print(rt, topic),
@@ -61,8 +62,10 @@ fn perform(rt: &HostRuntime, command: Command<'_>) -> Result<(), ProgramFault> {
             base,
             conditional,
             changes,
+            guard,
         } => {
             let base = Base::new(rt.alloc(), base.as_str())?.ok_or(ProgramFault::BadBase)?;
+            let guard = token::guard_of(rt, guard)?;
             let tags = conditional;
             files::pipe(
                 rt,
@@ -71,6 +74,7 @@ fn perform(rt: &HostRuntime, command: Command<'_>) -> Result<(), ProgramFault> {
                     base,
                     tags,
                     changes,
+                    guard,
                 },
             )
         }
@@ -79,9 +83,11 @@ fn perform(rt: &HostRuntime, command: Command<'_>) -> Result<(), ProgramFault> {
             connections,
             base,
             journal,
+            guard,
         } => {
             let base = Base::new(rt.alloc(), base.as_str())?.ok_or(ProgramFault::BadBase)?;
-            files::serve(rt, file, connections, base, journal)
+            let guard = token::guard_of(rt, guard)?;
+            files::serve(rt, file, connections, base, guard, journal)
         }
         Command::Import { file, import } => files::import(rt, file, import),
         Command::Export {

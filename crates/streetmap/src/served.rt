@@ -20,7 +20,7 @@ use streetmap_faults::ProgramFault;
 use streetmap_ledger::{Durable, Keeper, KeepsBatches};
 use streetmap_routes::Base;
 use streetmap_tags::Tagged;
-use streetmap_web::{End, Site};
+use streetmap_web::{End, Guard, Site};
 
 /// The clients of a keeper, what served them, and how that ended.
 #[derive(Drop)]
@@ -43,12 +43,13 @@ fn serve_over<K: Durable + KeepsBatches + Tagged + Drop>(
     keeper: K,
     connections: Connections,
     base: Base,
+    guard: Guard,
     journal: Option<JournalArguments<'_>>,
 ) -> Result<Town<K>, ProgramFault>
     ensures guarantee { IfOk result (λ town.
         K.model.is_clean town.service.keeper.keeper → (s : State) → K.model.represents keeper s →
         GuaranteeOfTown K.holds (K.leaves town.service.keeper.keeper)
-        (site_of base connections) s
+        (site_of base guard connections) s
         (map client_history (clients_of town.clients))) }
     ensures began_clean { IfOk result (λ town.
         K.model.is_clean town.service.keeper.keeper → K.model.is_clean keeper) }
@@ -58,7 +59,7 @@ fn serve_over<K: Durable + KeepsBatches + Tagged + Drop>(
         IfSome connections.count (λ n. length (clients_of town.clients) ≤ n)) }
 {
     let mut clients = Clients::new(rt.alloc(), limits_of(connections.clients))?;
-    let mut service = service_of(rt, keeper, base, connections);
+    let mut service = service_of(rt, keeper, base, guard, connections);
     let ended = serve(rt, connections, journal, &mut clients, &mut service);
     Ok(Town {
         clients,
@@ -77,6 +78,7 @@ pub(crate) fn serve_file<S: Start>(
     start: S,
     connections: Connections,
     base: Base,
+    guard: Guard,
     journal: Option<JournalArguments<'_>>,
 ) -> Result<Town<ServedFile<S>>, ProgramFault>
     ensures guarantee { IfOk result (λ town.
@@ -84,7 +86,7 @@ pub(crate) fn serve_file<S: Start>(
         HoldsTables (image_at S.Start) s →
         GuaranteeOfTown ⟦<ServedFile<S> as Durable>⟧.holds
         (⟦<ServedFile<S> as Durable>⟧.leaves town.service.keeper.keeper)
-        (site_of base connections) s
+        (site_of base guard connections) s
         (map client_history (clients_of town.clients))) }
     ensures counted { IfOk result (λ town. IsOk town.ended →
         IfSome connections.count (λ n. n ≤ length (ended_of town.clients))) }
@@ -92,7 +94,7 @@ pub(crate) fn serve_file<S: Start>(
         IfSome connections.count (λ n. length (clients_of town.clients) ≤ n)) }
 {
     let keeper = open_indexed(rt, path, start)?;
-    match serve_over(rt, keeper, connections, base, journal) {
+    match serve_over(rt, keeper, connections, base, guard, journal) {
         Ok(town) => Ok(town),
         Err(refused) => Err(refused),
     }

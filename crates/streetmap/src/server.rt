@@ -23,7 +23,7 @@ use streetmap_journal::{Journal, JournalWriter, JournaledKeeper};
 use streetmap_ledger::{Durable, Keeper, KeepsBatches};
 use streetmap_routes::Base;
 use streetmap_tags::Tagged;
-use streetmap_web::{End, KeeperService, Site, Watch};
+use streetmap_web::{End, Guard, KeeperService, Site, Watch};
 
 /// Serves the requests of standard input on standard output; returns how that ended.
 pub(crate) fn pipe<K: Durable + Tagged>(
@@ -52,6 +52,7 @@ pub(crate) fn service_of<K: KeepsBatches + Tagged>(
     rt: &HostRuntime,
     keeper: K,
     base: Base,
+    guard: Guard,
     connections: Connections,
 ) -> Service<K>
     ensures keeper { result.keeper.keeper ≡ keeper }
@@ -60,6 +61,7 @@ pub(crate) fn service_of<K: KeepsBatches + Tagged>(
       base = base;
       tags = connections.conditional;
       changes = connections.changes;
+      guard = guard;
     } }
 {
     KeeperService {
@@ -73,6 +75,7 @@ pub(crate) fn service_of<K: KeepsBatches + Tagged>(
             base,
             tags: connections.conditional,
             changes: connections.changes,
+            guard,
         },
         log: connections.log.then(|| rt.stderr()),
         watch: Watch::new(rt.stderr(), connections.count.is_none()),

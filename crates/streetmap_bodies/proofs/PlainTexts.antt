@@ -162,6 +162,8 @@ request_code (request_faults.Batch fault) = batch_code fault
 request_code (request_faults.Refused refusal place) = refusal_code refusal
 request_code request_faults.BadCondition = (refl, lit≤ tt)
 request_code request_faults.Changed = (refl, lit≤ tt)
+request_code request_faults.Fenced = (refl, lit≤ tt)
+request_code request_faults.Follower = (refl, lit≤ tt)
 request_code (request_faults.Keeper fault) = keeper_code fault
 
 pub framing_description : (f : FramingFault) → IsPlain (framing.description_of f)
@@ -193,6 +195,8 @@ request_description (request_faults.Batch fault) = batch_description fault
 request_description (request_faults.Refused refusal place) = refusal_description refusal
 request_description request_faults.BadCondition = (refl, lit≤ tt)
 request_description request_faults.Changed = (refl, lit≤ tt)
+request_description request_faults.Fenced = (refl, lit≤ tt)
+request_description request_faults.Follower = (refl, lit≤ tt)
 request_description (request_faults.Keeper fault) = keeper_description fault
 
 pub request_cause : (f : RequestFault) → ForSome (request.cause_of f) IsPlain
@@ -210,4 +214,6 @@ request_cause request_faults.BadSerial = λ x e. cc
 request_cause (request_faults.Refused refusal place) = λ x e. cc
 request_cause request_faults.BadCondition = λ x e. cc
 request_cause request_faults.Changed = λ x e. cc
+request_cause request_faults.Fenced = λ x e. cc
+request_cause request_faults.Follower = λ x e. cc
 request_cause (request_faults.Keeper fault) = λ x e. cc

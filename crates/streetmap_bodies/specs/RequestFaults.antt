@@ -24,6 +24,7 @@ use Rattle.streetmap_bodies.specs.declared.request_fault.RequestFault.TheVariant
 use Rattle.streetmap_bodies.specs.declared.request_fault.RequestFault.TheVariants.{Refused, Keeper}
 use Rattle.streetmap_bodies.specs.declared.request_fault.RequestFault.TheVariants.{BadCondition}
 use Rattle.streetmap_bodies.specs.declared.request_fault.RequestFault.TheVariants.{Changed}
+use Rattle.streetmap_bodies.specs.declared.request_fault.RequestFault.TheVariants.{Fenced, Follower}
 use Rattle.streetmap_bodies.specs.declared.request_fault.RequestFault.TheVariants.{BadSerial}
 
 -- the name in the answer
@@ -38,6 +39,8 @@ code_of (Batch fault) = batch.code_of fault
 code_of (Refused refusal place) = ledger.code_of refusal
 code_of BadCondition = codes "bad_condition"
 code_of Changed = codes "changed"
+code_of Fenced = codes "fenced"
+code_of Follower = codes "follower"
 code_of (Keeper fault) = ledger.fault_code fault
 
 -- the sentence in the answer
@@ -52,6 +55,8 @@ description_of (Batch fault) = batch.description_of fault
 description_of (Refused refusal place) = ledger.description_of refusal
 description_of BadCondition = codes "A condition cannot be read."
 description_of Changed = codes "The state is not as a condition requires."
+description_of Fenced = codes "This server takes no batches."
+description_of Follower = codes "This server takes batches from its follower script only."
 description_of (Keeper fault) = ledger.fault_description fault
 
 -- the status of a query that cannot be read
@@ -81,6 +86,8 @@ status_of (Batch fault) = batch_status fault
 status_of (Refused refusal place) = 409
 status_of BadCondition = 400
 status_of Changed = 412
+status_of Fenced = 403
+status_of Follower = 403
 status_of (Keeper fault) = keeper_status fault
 
 -- the place of the edit at fault, counted from 1

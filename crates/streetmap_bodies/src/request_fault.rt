@@ -36,6 +36,10 @@ pub enum RequestFault {
     BadCondition,
     /// A condition of it does not hold.
     Changed,
+    /// The server takes no batches, and it is one.
+    Fenced,
+    /// The server takes batches from its follower script only, and it is another's.
+    Follower,
     /// The keeper did not answer.
     Keeper(Fault),
 }
@@ -57,6 +61,8 @@ impl RequestFault {
             RequestFault::Refused(refusal, _) => refusal.code(),
             RequestFault::BadCondition => "bad_condition",
             RequestFault::Changed => "changed",
+            RequestFault::Fenced => "fenced",
+            RequestFault::Follower => "follower",
             RequestFault::Keeper(fault) => fault.code(),
         }
     }
@@ -77,6 +83,8 @@ impl RequestFault {
             RequestFault::Refused(refusal, _) => refusal.description(),
             RequestFault::BadCondition => "A condition cannot be read.",
             RequestFault::Changed => "The state is not as a condition requires.",
+            RequestFault::Fenced => "This server takes no batches.",
+            RequestFault::Follower => "This server takes batches from its follower script only.",
             RequestFault::Keeper(fault) => fault.description(),
         }
     }
@@ -98,6 +106,7 @@ impl RequestFault {
             RequestFault::Refused(_, _) => StatusCode::CONFLICT,
             RequestFault::BadCondition => StatusCode::BAD_REQUEST,
             RequestFault::Changed => StatusCode::PRECONDITION_FAILED,
+            RequestFault::Fenced | RequestFault::Follower => StatusCode::FORBIDDEN,
             RequestFault::Keeper(_) => StatusCode::INTERNAL_SERVER_ERROR,
         }
     }

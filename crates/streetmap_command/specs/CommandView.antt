@@ -9,6 +9,8 @@ use Rattle.streetmap_command.specs.declared.command.Command.TheVariants.{Load, B
 use Rattle.streetmap_command.specs.declared.command.Connections.{Connections}
 use Rattle.streetmap_command.specs.declared.words.LoadArguments.{LoadArguments}
 use Rattle.streetmap_command.specs.declared.words.JournalArguments.{JournalArguments}
+use Rattle.streetmap_command.specs.declared.words.GuardArgument.{GuardArgument}
+use Rattle.streetmap_command.specs.declared.words.GuardArgument.TheVariants as guards
 use Rattle.std.specs.Prelude.{option_map}
 use Rattle.streetmap_command.specs.Program.{CommandValue, help_command, version_command}
 use Rattle.streetmap_command.specs.Program.{lines_command}
@@ -16,6 +18,7 @@ use Rattle.streetmap_command.specs.Program.{create_command, pipe_command, serve_
 use Rattle.streetmap_command.specs.Program.{import_command, export_command, check_command}
 use Rattle.streetmap_command.specs.Program.{load_command, batches_command, apply_command}
 use Rattle.streetmap_command.specs.Program.{LoadWords, JournalWords, ConnectionsWords}
+use Rattle.streetmap_command.specs.Program.{GuardWords, free_guard, fenced_guard, follower_guard}
 
 -- the options of a load as values
 abbrev pub load_value : LoadArguments → LoadWords
@@ -43,6 +46,12 @@ load_value l = record {
 abbrev pub journal_value : JournalArguments → JournalWords
 journal_value j = record { path = j.path.now; after = j.after; sync = j.sync }
 
+-- a guard as a value
+abbrev pub guard_value : GuardArgument → GuardWords
+guard_value guards.Free = free_guard
+guard_value guards.Fenced = fenced_guard
+guard_value (guards.Follower path) = follower_guard path.now
+
 -- connections as a value
 abbrev pub connections_value : Connections → ConnectionsWords
 connections_value c = record {
@@ -60,11 +69,11 @@ command_value (Help topic) = help_command topic
 command_value Version = version_command
 command_value Lines = lines_command
 command_value (Create file) = create_command file.now
-command_value (Pipe file base conditional changes) =
-    pipe_command file.now (string_bytes base) conditional changes
-command_value (Serve file c base journal) =
+command_value (Pipe file base conditional changes guard) =
+    pipe_command file.now (string_bytes base) conditional changes (guard_value guard)
+command_value (Serve file c base journal guard) =
     serve_command file.now (connections_value c) (string_bytes base)
-    (option_map journal_value journal)
+    (option_map journal_value journal) (guard_value guard)
 command_value (Import file i) =
     import_command file.now i.text.now i.key.now i.collection.now i.replace i.progress
 command_value (Export file collection progress) = export_command file.now collection.now progress

@@ -51,9 +51,13 @@ lines = with_rule (new_app (codes "lines")) explain
 abbrev pub create : App
 create = over_file (codes "create")
 
+-- a command with the options that say which batches are refused
+abbrev pub with_guard : App → App
+with_guard a = with_rule (with_rule a (flag (codes "fenced"))) (option (codes "follower"))
+
 abbrev pub pipe : App
-pipe = with_rule (with_rule (with_rule (over_file (codes "pipe")) (option (codes "base")))
-    (flag (codes "conditional"))) (flag (codes "changes"))
+pipe = with_guard (with_rule (with_rule (with_rule (over_file (codes "pipe"))
+    (option (codes "base"))) (flag (codes "conditional"))) (flag (codes "changes")))
 
 -- FILE, and the clients that are served
 abbrev pub serve_clients : App
@@ -63,10 +67,10 @@ serve_clients = with_rule (with_rule (with_rule (with_rule (with_rule (with_rule
     (flag (codes "log"))) (option (codes "base"))) (flag (codes "warm")))
     (flag (codes "conditional"))) (flag (codes "changes"))
 
--- and a journal of what is accepted
+-- and a journal of what is accepted, and which batches are refused
 abbrev pub serve : App
-serve = with_rule (with_rule (with_rule serve_clients (option (codes "journal")))
-    (option (codes "journal-after"))) (flag (codes "journal-sync"))
+serve = with_guard (with_rule (with_rule (with_rule serve_clients (option (codes "journal")))
+    (option (codes "journal-after"))) (flag (codes "journal-sync")))
 
 -- FILE, TEXT, the key, the collection, whether features are replaced, and whether the progress of
 -- the import is reported
@@ -183,15 +187,22 @@ pub record ConnectionsWords : Type 0 where
   pub conditional : Bool
   pub changes : Bool
 
+-- which batches are refused: none, all, or those without the token in the file at this path
+pub data GuardWords : Type 0 where
+  free_guard : GuardWords
+  fenced_guard : GuardWords
+  follower_guard : (path : Text) → GuardWords
+
 -- what a command line requests
 pub data CommandValue : Type 0 where
   help_command : (topic : Topic) → CommandValue
   version_command : CommandValue
   lines_command : CommandValue
   create_command : (file : Text) → CommandValue
-  pipe_command : (file base : Text) (conditional changes : Bool) → CommandValue
+  pipe_command : (file base : Text) (conditional changes : Bool) (guard : GuardWords)
+      → CommandValue
   serve_command : (file : Text) (connections : ConnectionsWords) (base : Text)
-      (journal : Option JournalWords) → CommandValue
+      (journal : Option JournalWords) (guard : GuardWords) → CommandValue
   import_command : (file text key collection : Text) (replace progress : Bool) → CommandValue
   export_command : (file collection : Text) (progress : Bool) → CommandValue
   check_command : (file : Text) (replay : Bool) → CommandValue
@@ -242,11 +253,22 @@ abbrev pub is_set : Option Text → Bool
 is_set None = false
 is_set (Some value) = bytes_eq value (codes "true")
 
+-- which batches are refused; a server is fenced or a follower, not both
+abbrev pub guard_given : (fenced : Bool) (follower : Option Text) → Option GuardWords
+guard_given false None = Some free_guard
+guard_given true None = Some fenced_guard
+guard_given false (Some path) = Some (follower_guard path)
+guard_given true (Some path) = None
+
+abbrev pub guard_by : List Row → Option GuardWords
+guard_by rows = guard_given (is_set (first_of (codes "fenced") rows))
+    (first_of (codes "follower") rows)
+
 abbrev pub pipe_by : List Row → Option CommandValue
-pipe_by rows = option_map (λ f.
+pipe_by rows = option_and_then (λ f. option_map (λ g.
     pipe_command f (unwrap_or (first_of (codes "base") rows) plain_base)
-    (is_set (first_of (codes "conditional") rows)) (is_set (first_of (codes "changes") rows)))
-    (first_of (codes "file") rows)
+    (is_set (first_of (codes "conditional") rows)) (is_set (first_of (codes "changes") rows)) g)
+    (guard_by rows)) (first_of (codes "file") rows)
 
 -- the serial after which something begins, up to 2^32 - 1; 0 if none is given
 abbrev pub after_given : Option Text → Option ℕ
@@ -286,16 +308,17 @@ connections_by rows = connections_given (first_of (codes "port") rows)
     (first_of (codes "log") rows) (first_of (codes "warm") rows)
     (first_of (codes "conditional") rows) (first_of (codes "changes") rows)
 
--- the command `serve`, from the file, connections, journal and base that are given
+-- the command `serve`, from the file, connections, journal, guard and base that are given
 abbrev pub serve_given : (file : Option Text) (connections : Option ConnectionsWords)
-    (journal : Option (Option JournalWords)) (base : Option Text) → Option CommandValue
-serve_given file connections journal base =
-    option_and_then (λ f. option_and_then (λ c. option_map (λ j.
-    serve_command f c (unwrap_or base (base_at c.port)) j) journal) connections) file
+    (journal : Option (Option JournalWords)) (guard : Option GuardWords) (base : Option Text)
+    → Option CommandValue
+serve_given file connections journal guard base =
+    option_and_then (λ f. option_and_then (λ c. option_and_then (λ j. option_map (λ g.
+    serve_command f c (unwrap_or base (base_at c.port)) j g) guard) journal) connections) file
 
 abbrev pub serve_by : List Row → Option CommandValue
 serve_by rows = serve_given (first_of (codes "file") rows) (connections_by rows)
-    (journal_by rows) (first_of (codes "base") rows)
+    (journal_by rows) (guard_by rows) (first_of (codes "base") rows)
 
 -- the command `import`, from the file, text, key, collection and flags that are given
 abbrev pub import_given : (file text key collection replace progress : Option Text)

@@ -18,7 +18,8 @@ ghost use Rattle.streetmap_command.specs.CommandView.{command_value, connections
 use crate::help::{Topic, help_called, topic_of};
 use crate::parser::make_parser;
 use crate::words::{
-    JournalArguments, LoadArguments, read_apply, read_batches, read_journal, read_load,
+    GuardArgument, JournalArguments, LoadArguments, read_apply, read_batches, read_guard,
+    read_journal, read_load,
 };
 use clap::error::ErrorKind;
 use clap::{ArgMatches, Error};
@@ -77,20 +78,22 @@ pub enum Command<'a> {
     },
     /// `streetmap pipe FILE`: serve one stream of requests on standard input and output, with links
     /// under the base; with `conditional` answers have tags, and requests conditions; with
-    /// `changes` `/changes` is answered.
+    /// `changes` `/changes` is answered; the guard says which batches are refused.
     Pipe {
         file: &'a str,
         base: String,
         conditional: bool,
         changes: bool,
+        guard: GuardArgument<'a>,
     },
     /// `streetmap serve FILE`: serve connections, with links under the base, and write a journal of
-    /// what is accepted.
+    /// what is accepted; the guard says which batches are refused.
     Serve {
         file: &'a str,
         connections: Connections,
         base: String,
         journal: Option<JournalArguments<'a>>,
+        guard: GuardArgument<'a>,
     },
     /// `streetmap import FILE TEXT`: put the features of a text into a collection by one batch.
     Import {
@@ -251,6 +254,7 @@ fn read_serve<'a>(alloc: Global, found: &ArgMatches<'a>) -> Result<Command<'a>, 
     let file = value_of(found, "file").ok_or(CommandFault::Usage)?;
     let connections = read_connections(found).ok_or(CommandFault::Usage)?;
     let journal = read_journal(found).ok_or(CommandFault::Usage)?;
+    let guard = read_guard(found).ok_or(CommandFault::Usage)?;
     let port = connections.port;
     let default = format!(in alloc; "http://localhost:{port}/")?;
     let base = read_base(alloc, value_of(found, "base"), default.as_str())?;
@@ -259,6 +263,7 @@ fn read_serve<'a>(alloc: Global, found: &ArgMatches<'a>) -> Result<Command<'a>, 
         connections,
         base,
         journal,
+        guard,
     })
 }
 
@@ -281,6 +286,7 @@ fn read_pipe<'a>(alloc: Global, found: &ArgMatches<'a>) -> Result<Command<'a>, C
         → e ≡ CommandFault.Memory) }
 {
     let file = value_of(found, "file").ok_or(CommandFault::Usage)?;
+    let guard = read_guard(found).ok_or(CommandFault::Usage)?;
     let base = read_base(alloc, value_of(found, "base"), "http://localhost/")?;
     let conditional = has_flag(found, "conditional");
     let changes = has_flag(found, "changes");
@@ -289,6 +295,7 @@ fn read_pipe<'a>(alloc: Global, found: &ArgMatches<'a>) -> Result<Command<'a>, C
         base,
         conditional,
         changes,
+        guard,
     })
 }
 

@@ -8,7 +8,7 @@ use crate::command::{has_flag, read_connections, value_of};
 use crate::help::{help_called, topic_named};
 use crate::parser::make_parser;
 use crate::texts;
-use crate::words::{read_each, read_fractions, read_journal};
+use crate::words::{read_each, read_fractions, read_guard, read_journal};
 use clap::{ArgMatches, Error};
 use std::alloc::{AllocError, Global};
 
@@ -89,6 +89,7 @@ fn first_sentence(alloc: Global, error: &Error) -> Result<String, AllocError> {
 fn wrong_value(matches: &ArgMatches<'_>) -> &'static str {
     match matches.subcommand() {
         Some(("serve", found)) => wrong_in_serve(found),
+        Some(("pipe", _)) => texts::FENCED_FOLLOWER,
         Some(("load", found)) => wrong_in_load(found),
         Some(_) => texts::WRONG_SERIAL,
         None => texts::NO_COMMAND,
@@ -99,6 +100,8 @@ fn wrong_value(matches: &ArgMatches<'_>) -> &'static str {
 fn wrong_in_serve(found: &ArgMatches<'_>) -> &'static str {
     if read_connections(found).is_none() {
         texts::WRONG_CONNECTIONS
+    } else if read_guard(found).is_none() {
+        texts::FENCED_FOLLOWER
     } else if value_of(found, "journal").is_none() && read_journal(found).is_none() {
         texts::NO_JOURNAL
     } else {

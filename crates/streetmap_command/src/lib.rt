@@ -20,4 +20,4 @@ pub use command::{
 pub use explain::{is_explained, usage_sentence};
 pub use help::{Topic, help_text};
 pub use parser::VERSION;
-pub use words::{JournalArguments, LoadArguments};
+pub use words::{GuardArgument, JournalArguments, LoadArguments};

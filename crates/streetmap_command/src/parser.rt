@@ -153,7 +153,9 @@ pub(crate) fn make_pipe<'a>(alloc: Global) -> Result<Command<'a>, AllocError>
     let command = file_command(alloc, "pipe", texts::PIPE, texts::FILE);
     let command = with_argument(command, option_arg(alloc, "base", texts::BASE));
     let command = with_argument(command, flag_arg(alloc, "conditional", texts::CONDITIONAL));
-    with_argument(command, flag_arg(alloc, "changes", texts::CHANGES))
+    let command = with_argument(command, flag_arg(alloc, "changes", texts::CHANGES));
+    let command = with_argument(command, flag_arg(alloc, "fenced", texts::FENCED));
+    with_argument(command, option_arg(alloc, "follower", texts::FOLLOWER))
 }
 
 fn make_serve_clients<'a>(alloc: Global) -> Result<Command<'a>, AllocError>
@@ -181,10 +183,12 @@ pub(crate) fn make_serve<'a>(alloc: Global) -> Result<Command<'a>, AllocError>
         command,
         option_arg(alloc, "journal-after", texts::JOURNAL_AFTER),
     );
-    with_argument(
+    let command = with_argument(
         command,
         flag_arg(alloc, "journal-sync", texts::JOURNAL_SYNC),
-    )
+    );
+    let command = with_argument(command, flag_arg(alloc, "fenced", texts::FENCED));
+    with_argument(command, option_arg(alloc, "follower", texts::FOLLOWER))
 }
 
 pub(crate) fn make_import<'a>(alloc: Global) -> Result<Command<'a>, AllocError>

@@ -34,6 +34,11 @@ pub(crate) const CONDITIONAL: &str = "Gives answers tags, and takes conditions o
 
 pub(crate) const CHANGES: &str = "Answers /changes with the accepted batches";
 
+pub(crate) const FENCED: &str = "Refuses each batch (not with --follower)";
+
+pub(crate) const FOLLOWER: &str =
+    "Takes batches only with the token in the first line of this file";
+
 pub(crate) const JOURNAL: &str = "Writes each accepted batch to this file before its answer";
 
 pub(crate) const JOURNAL_AFTER: &str = "Begins an empty journal after this serial";
@@ -111,6 +116,8 @@ pub(crate) const WRONG_CONNECTIONS: &str =
     "A port is a number from 1 to 65535, a count from 1 to 4294967295, clients from 1 to 1024";
 
 pub(crate) const NO_JOURNAL: &str = "The options of a journal go with --journal";
+
+pub(crate) const FENCED_FOLLOWER: &str = "A server is fenced or a follower, not both";
 
 pub(crate) const WRONG_EACH: &str = "A batch has 1 to 10000 features";
 

@@ -2,8 +2,9 @@
 ghost use Rattle.std.specs.Prelude.{◌≡◌, ◌≤◌, IfOk, IfErr, IfSome, Some, IsSome, option_map, codes};
 ghost use Rattle.clap.specs.Words.{rows_of, found_of, first_of};
 ghost use Rattle.streetmap_command.specs.CommandView.{command_value, load_value, journal_value};
+ghost use Rattle.streetmap_command.specs.CommandView.{guard_value};
 ghost use Rattle.streetmap_command.specs.Program.{load_by, batches_by, apply_by, agrees};
-ghost use Rattle.streetmap_command.specs.Program.{options_given, journal_by};
+ghost use Rattle.streetmap_command.specs.Program.{options_given, journal_by, guard_by};
 ghost use Rattle.streetmap_command.specs.Program.{each_given, after_given, fractions_given};
 ghost use Rattle.streetmap_command.specs.Program.{text_given};
 
@@ -63,6 +64,17 @@ pub struct JournalArguments<'a> {
     pub sync: bool,
 }
 
+/// Which batches a server refuses.
+#[derive(Clone, Copy, Drop)]
+pub enum GuardArgument<'a> {
+    /// None.
+    Free,
+    /// Each.
+    Fenced,
+    /// Each without the token in the first line of the file at this path.
+    Follower(&'a str),
+}
+
 /// The edits of a batch.
 pub(crate) fn read_each(given: Option<&str>) -> Option<u32>
     ensures value { result ≡ each_given (option_map (λ s. s.now) given.entry) }
@@ -111,6 +123,18 @@ pub(crate) fn read_journal<'a>(found: &ArgMatches<'a>) -> Option<Option<JournalA
         })),
         None if after.is_none() && !sync => Some(None),
         None => None,
+    }
+}
+
+/// The guard that is given: a server is fenced or a follower, not both.
+pub(crate) fn read_guard<'a>(found: &ArgMatches<'a>) -> Option<GuardArgument<'a>>
+    ensures { option_map guard_value result ≡ guard_by (rows_of (found_of found.now)) }
+{
+    match (has_flag(found, "fenced"), value_of(found, "follower")) {
+        (false, None) => Some(GuardArgument::Free),
+        (true, None) => Some(GuardArgument::Fenced),
+        (false, Some(path)) => Some(GuardArgument::Follower(path)),
+        (true, Some(_)) => None,
     }
 }
 

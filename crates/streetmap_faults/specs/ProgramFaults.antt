@@ -30,6 +30,7 @@ report_of program.PassedOver = of_row table.PASSED_OVER
 report_of (program.Follow count fault) = of_follow count fault
 report_of program.SameFile = of_row table.SAME_FILE
 report_of program.NoJournal = of_row table.NO_JOURNAL
+report_of program.BadToken = of_row table.BAD_TOKEN
 report_of program.JournalAhead = of_row table.JOURNAL_AHEAD
 report_of (program.NotItsJournal serial) = on_line (of_row table.NOT_ITS_JOURNAL) (Some serial)
 report_of (program.NotReplayed serial) = on_line (of_row table.NOT_REPLAYED) serial

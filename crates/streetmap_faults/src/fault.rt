@@ -47,6 +47,8 @@ pub enum ProgramFault {
     SameFile,
     /// `no_journal`: the journal cannot be opened or made.
     NoJournal,
+    /// `bad_token`: the file of the follower's token cannot be read, or its first line is none.
+    BadToken,
     /// `journal_ahead`: the journal has serials that the file lacks.
     JournalAhead,
     /// `not_its_journal`: the line with this serial is not that of the file's batch.

@@ -32,6 +32,7 @@ impl ProgramFault {
             ProgramFault::Follow(count, fault) => of_follow(count, fault),
             ProgramFault::SameFile => of_row(table::SAME_FILE),
             ProgramFault::NoJournal => of_row(table::NO_JOURNAL),
+            ProgramFault::BadToken => of_row(table::BAD_TOKEN),
             ProgramFault::JournalAhead => of_row(table::JOURNAL_AHEAD),
             ProgramFault::NotItsJournal(serial) => on_line(
                 of_row(table::NOT_ITS_JOURNAL),

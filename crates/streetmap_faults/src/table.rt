@@ -50,6 +50,12 @@ pub const NO_JOURNAL: Row = (
     "J cannot be opened or made: look at its folder, its owner and its rights.",
 );
 
+pub const BAD_TOKEN: Row = (
+    "bad_token",
+    1,
+    "T cannot be read, or its first line is no token of 16 to 128 visible ASCII characters.",
+);
+
 pub const JOURNAL_AHEAD: Row = (
     "journal_ahead",
     1,

@@ -22,6 +22,7 @@ use Rattle.streetmap_tags.specs.Changes.{changes_in}
 use Rattle.streetmap_tags.proofs.NoneLeftOut.{changes_go_on}
 use Rattle.streetmap_routes.specs.ChangesQuery.{ChangesValue, no_parameters, serial_of, serial_read, limit_read, set_after, set_limit, with_pair, with_pairs, changes_of, default_limit}
 use Rattle.streetmap_routes.specs.Operations.{ResourceValue, landing, api, conformance, collections, collection, items, item, batches, OperationValue, changes, faulty, batch_operation, page_operation, unqueried, without_query, queried, placed, allows, methods_of, resource_at, path_part, query_part, begins_with_slash, operation_of, changes_operation, changes_wanted, changes_path, operation_with}
+use Rattle.streetmap_web.specs.Guards.{GuardValue, is_of_batch, refusal_by, refused_for, guarded}
 use Rattle.streetmap_web.specs.Site.{SiteValue}
 use Rattle.streetmap_web.specs.Response.{plainly, needs_state, wanted_of, request_of, response_in}
 use Rattle.streetmap_guarantee.specs.Changes.{ChangesAreAnswered}
@@ -180,9 +181,21 @@ wanted_is true p o h = by (needs_state o && not (are_readable p)) where
   by true = no_change (faulty BadCondition) (λ after limit e. cc)
   by false = h
 
+guarded_is : (guard : GuardValue) (token : Option Text) (o : OperationValue) → FromOne o → FromOne (guarded guard token o)
+unfolding guarded
+guarded_is guard token o h = by (refusal_by guard token) where
+  held : (fault : RequestFault) (t : Bool) → FromOne (if t then faulty fault else o)
+  held fault true = no_change (faulty fault) (λ after limit e. cc)
+  held fault false = h
+
+  by : (r : Option RequestFault) → FromOne (refused_for r o)
+  by None = h
+  by (Some fault) = held fault (is_of_batch o)
+
 request_from_one : (site : SiteValue) (h : HeadValue) (body : Text) → FromOne (request_of site h body).wanted.operation
 request_from_one site h body =
-    wanted_is site.tags h.preconditions (operation_with site.changes h.method h.target body) (with_from_one site.changes h.method h.target body)
+    wanted_is site.tags h.preconditions (guarded site.guard h.token (operation_with site.changes h.method h.target body))
+    (guarded_is site.guard h.token (operation_with site.changes h.method h.target body) (with_from_one site.changes h.method h.target body))
 
 pub changes_are_answered : ChangesAreAnswered
 changes_are_answered site h body s after limit sound is = record {

@@ -81,6 +81,8 @@ status_304 (request_faults.Batch fault) e = batch_304 fault e
 status_304 (request_faults.Refused refusal place) e = omega (arith, e)
 status_304 request_faults.BadCondition e = omega (arith, e)
 status_304 request_faults.Changed e = omega (arith, e)
+status_304 request_faults.Fenced e = omega (arith, e)
+status_304 request_faults.Follower e = omega (arith, e)
 status_304 (request_faults.Keeper fault) e = keeper_304 fault e
 
 pub fault_304 : (fault : RequestFault) → (fault_response fault).status ≡ 304 → ⊥

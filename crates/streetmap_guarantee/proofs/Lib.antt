@@ -11,3 +11,4 @@ pub mod Tagging
 pub mod TagsOfRuns
 pub mod ChangesAnswered
 pub mod WithoutOptions
+pub mod Guarded

@@ -9,3 +9,4 @@ pub mod Tagging
 pub mod TagsOfRuns
 pub mod Changes
 pub mod WithoutOptions
+pub mod Guarded

@@ -1,19 +1,20 @@
--- What a service without options answers: it gives no tags, and offers no changes.
+-- What a service without options answers: it gives no tags, offers no changes, and refuses no batch.
 use Rattle.std.specs.Prelude.{◌≡◌, false, None}
 use Rattle.streetmap_http.specs.Framing.{HeadValue}
 use Rattle.streetmap_batch.specs.Text.{Text}
 use Rattle.streetmap_ledger.specs.State.{State}
 use Rattle.streetmap_routes.specs.Operations.{operation_of}
+use Rattle.streetmap_web.specs.Guards.{free}
 use Rattle.streetmap_web.specs.Site.{SiteValue}
 use Rattle.streetmap_web.specs.Response.{plainly, request_of, response_in, response_to, state_in}
 use Rattle.streetmap_web.specs.Response.{state_to}
 
 -- a service without options
 abbrev pub plain_site : Text → SiteValue
-plain_site root = record { root = root; tags = false; changes = false }
+plain_site root = record { root = root; tags = false; changes = false; guard = free }
 
--- A request to it wants what its method, target and body say, whatever its conditions are. It is
--- answered by the state alone, without a tag.
+-- A request to it wants what its method, target and body say, whatever its conditions and its
+-- token are. It is answered by the state alone, without a tag.
 pub record IsPlain (root : Text) (h : HeadValue) (body : Text) (s : State) : Type 0 where
   pub wants :
       (request_of (plain_site root) h body).wanted

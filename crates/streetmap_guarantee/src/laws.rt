@@ -1,5 +1,7 @@
-//! Laws of tags and conditions, and of changes.
+//! Laws of tags and conditions, of changes, and of services that refuse batches.
 ghost use Rattle.streetmap_guarantee.specs.Changes.{ChangesAreAnswered};
+ghost use Rattle.streetmap_guarantee.specs.Guarded.{FencedIsUnchanged, FollowerIsUnchanged};
+ghost use Rattle.streetmap_guarantee.specs.Guarded.{ScriptIsServed};
 ghost use Rattle.streetmap_guarantee.specs.Tagging.{OneTagOneState, NotModifiedIsTheSame};
 ghost use Rattle.streetmap_guarantee.specs.Tagging.{NoLostChange};
 ghost use Rattle.streetmap_guarantee.specs.WithoutOptions.{AllArePlain};
@@ -30,4 +32,20 @@ pub fn changes_are_answered()
 /// state alone, without a tag.
 pub fn all_are_plain_without_options()
     ensures { AllArePlain }
+{}
+
+/// No request changes the state of a fenced server: each batch is answered with status 403, and any
+/// other request as ever.
+pub fn fenced_is_unchanged()
+    ensures { FencedIsUnchanged }
+{}
+
+/// No request without the token of its script changes the state of a follower.
+pub fn follower_is_unchanged()
+    ensures { FollowerIsUnchanged }
+{}
+
+/// A request with the token of its script wants of a follower what it wants of any server.
+pub fn script_is_served()
+    ensures { ScriptIsServed }
 {}

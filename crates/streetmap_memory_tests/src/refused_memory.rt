@@ -9,7 +9,7 @@ use std::test::Fail;
 use streetmap_memory::PlainKeeper;
 use streetmap_routes::Base;
 use streetmap_text_lines::Flush;
-use streetmap_web::{Site, serve};
+use streetmap_web::{Guard, Site, serve};
 
 /// A batch, requests for all collections and for one, and one for a page of it.
 const STREAM: &[u8] =
@@ -87,6 +87,7 @@ fn refused_memory_is_answered_or_not_seen(rt: HostRuntime) -> Result<(), Fail> {
         base,
         tags: false,
         changes: false,
+        guard: Guard::Free,
     };
     let mut keeper = PlainKeeper::new(rt.alloc());
     let mut reader = STREAM;

@@ -5,7 +5,7 @@ use std::test::Fail;
 use streetmap_http::{Sent, send};
 use streetmap_memory::PlainKeeper;
 use streetmap_routes::Base;
-use streetmap_web::{End, Site, serve};
+use streetmap_web::{End, Guard, Site, serve};
 
 /// The result of sending an answer to a writer with this much room, and whether it took the prefix
 /// that fits.
@@ -51,6 +51,7 @@ fn a_failed_flush_ends_a_stream(rt: HostRuntime) -> Result<(), Fail> {
         base,
         tags: false,
         changes: false,
+        guard: Guard::Free,
     };
     let sink = Sink {
         taken: [0; 8],

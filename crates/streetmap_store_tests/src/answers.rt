@@ -4,7 +4,7 @@ use std::io::BufWriter;
 use streetmap_ledger::{Keeper, read_batch};
 use streetmap_routes::Base;
 use streetmap_tags::Tagged;
-use streetmap_web::{Site, serve};
+use streetmap_web::{Guard, Site, serve};
 
 /// A keeper's answers to requests, of a service with tags and changes or without both; none if
 /// memory runs out.
@@ -19,6 +19,7 @@ pub(crate) fn answers<K: Tagged>(
         base,
         tags,
         changes: tags,
+        guard: Guard::Free,
     };
     let mut reader = requests.as_bytes();
     let mut writer = BufWriter::new(alloc, Vec::new(alloc)).ok()?;

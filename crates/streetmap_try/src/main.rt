@@ -11,7 +11,7 @@ use std::process::ExitCode;
 use streetmap_connections::{Clients, Limits, ServeFault};
 use streetmap_memory::PlainKeeper;
 use streetmap_routes::Base;
-use streetmap_web::{KeeperService, Site, Watch, serve_clients};
+use streetmap_web::{Guard, KeeperService, Site, Watch, serve_clients};
 
 /// How many clients are served at once.
 const MOST_CLIENTS: usize = 16;
@@ -89,6 +89,7 @@ fn run(rt: &HostRuntime) -> Result<(), TryFault> {
             base,
             tags: false,
             changes: false,
+            guard: Guard::Free,
         },
         log: false.then(|| rt.stderr()),
         watch: Watch::new(rt.stderr(), true),

@@ -1,3 +1,4 @@
+pub mod Guards
 pub mod Site
 pub mod Response
 pub mod Conditions

@@ -40,6 +40,7 @@ use Rattle.streetmap_bodies.specs.Replies.{reply_body}
 use Rattle.streetmap_bodies.specs.RequestFaults.{status_of, allow_of, fault_body}
 use Rattle.streetmap_bodies.specs.declared.request_fault.RequestFault.{RequestFault}
 use Rattle.streetmap_bodies.specs.declared.request_fault.RequestFault.TheVariants as faults
+use Rattle.streetmap_web.specs.Guards.{guarded}
 use Rattle.streetmap_web.specs.Site.{SiteValue}
 use Rattle.streetmap_web.specs.declared.verdict.Verdict.{Verdict}
 use Rattle.streetmap_web.specs.declared.verdict.Verdict.TheVariants.{Holds, NotModified, Changed}
@@ -279,11 +280,12 @@ readable_under p operation =
 abbrev pub wanted_of : (tags : Bool) → PreconditionsValue → OperationValue → Wanted
 wanted_of tags p operation = if tags then readable_under p operation else plainly operation
 
--- that of a head and a body, of a service that gives tags or not, and offers changes or not
+-- that of a head and a body, of a service that gives tags or not, offers changes or not, and refuses
+-- batches or not; a batch that is refused has no conditions
 abbrev pub request_of : SiteValue → HeadValue → Text → RequestValue
 request_of site h body = record {
   wanted = wanted_of site.tags h.preconditions
-      (operation_with site.changes h.method h.target body);
+      (guarded site.guard h.token (operation_with site.changes h.method h.target body));
   closes = h.closes;
   bare = is_bare h.method;
 }

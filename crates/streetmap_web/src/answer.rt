@@ -13,6 +13,7 @@ ghost use Rattle.streetmap_bodies.specs.declared.request_fault.RequestFault.TheV
 ghost use Rattle.streetmap_bodies.specs.declared.request_fault.RequestFault.TheVariants as faults;
 
 use crate::conditional::{respond, wanted_of};
+use crate::guard::guarded;
 use crate::respond::faulty;
 use crate::response::Response;
 use crate::site::Site;
@@ -143,6 +144,7 @@ fn try_answer<K: Tagged>(
     let Ok(operation) = base.operation(alloc, site.changes, method, target, body) else {
         return Err(Fault::Memory);
     };
+    let operation = guarded(&site.guard, request.token, operation);
     let wanted = wanted_of(site.tags, request.preconditions, operation);
     match respond(alloc, keeper, base.root(), &wanted) {
         Ok(response) => {

@@ -16,15 +16,19 @@
 //! A service may give tags (`Site`): then an answer that needs the state has the tag of it, and a
 //! request may have conditions on the tag (`specs/Response`, `response_to`).
 //!
-//! Modules, in the order of reading: `site`, `response`, `respond` (the answer in a state),
-//! `verdict` and `conditional` (the same under conditions), `answer` (with its head), `requests`
-//! (the bytes of one), `turns` (a stream); `log`, `watch`, `keeper_service` (a request of a
-//! client), `clients`.
+//! A service may refuse batches (`Guard`): each, or each of a request without its follower script's
+//! token (`specs/Guards`).
+//!
+//! Modules, in the order of reading: `guard` and `site`, `response`, `respond` (the answer in a
+//! state), `verdict` and `conditional` (the same under conditions), `answer` (with its head),
+//! `requests` (the bytes of one), `turns` (a stream); `log`, `watch`, `keeper_service` (a request
+//! of a client), `clients`.
 #![tactic(auto)]
 
 mod answer;
 mod clients;
 mod conditional;
+mod guard;
 mod keeper_service;
 mod log;
 mod requests;
@@ -36,6 +40,7 @@ mod verdict;
 mod watch;
 
 pub use clients::{serve_clients, serve_count};
+pub use guard::Guard;
 pub use keeper_service::KeeperService;
 pub use requests::answer_request;
 pub use site::Site;

@@ -1,4 +1,5 @@
 //! A service on the web.
+use crate::guard::Guard;
 use streetmap_routes::Base;
 
 /// What a service is on the web.
@@ -10,4 +11,6 @@ pub struct Site {
     pub tags: bool,
     /// Whether it answers `/changes` with the accepted batches.
     pub changes: bool,
+    /// Which batches it refuses.
+    pub guard: Guard,
 }
