@@ -70,7 +70,8 @@ BEGIN
     INSERT INTO streetmap_acting
     SELECT edit.serial, edit.place, edit.op, edit.collection, edit.id, edit.body, held.properties,
         ST_SetSRID(ST_GeomFromGeoJSON(edit.geometry), 0),
-        CASE WHEN opened.time IS NOT NULL THEN streetmap_time(held.properties -> opened.time) END,
+        CASE WHEN opened.time IS NOT NULL
+            THEN streetmap_held_time(held.properties -> opened.time) END,
         coalesce((opened.serial, opened.place) < (edit.serial, edit.place), false),
         kept.id IS NOT NULL,
         lag(edit.op) OVER of_feature,
@@ -203,19 +204,26 @@ BEGIN
 END
 $$;
 
--- Notes kinds of values that were not seen before, whose views are due then.
+-- Notes kinds of values that were not seen before, whose views are due then. Features of the same
+-- names and types count once, but each that has a number above 2^63 - 1. The number of edits is not
+-- known to the planner, and a hash of them takes less than to sort them.
 CREATE OR REPLACE FUNCTION streetmap_note_kinds()
-RETURNS void LANGUAGE plpgsql AS $$
+RETURNS void LANGUAGE plpgsql SET enable_sort = off AS $$
 BEGIN
-    WITH held AS (
-        SELECT DISTINCT edit.collection, property.key AS name, CASE jsonb_typeof(property.value)
-            WHEN 'number' THEN
-                CASE WHEN property.value::numeric > 9223372036854775807 THEN 'large'
-                    ELSE 'number' END
-            ELSE jsonb_typeof(property.value) END AS kind
-        FROM streetmap_acting AS edit CROSS JOIN LATERAL jsonb_each(edit.properties) AS property
-        WHERE edit.is_last AND octet_length(property.key) <= 63
-            AND jsonb_typeof(property.value) <> 'null'
+    WITH forms AS MATERIALIZED (
+        SELECT DISTINCT edit.collection, ARRAY(SELECT jsonb_object_keys(edit.properties)) AS names,
+            jsonb_path_query_array(edit.properties, '$.*.type()') AS types,
+            CASE WHEN edit.properties @? 'strict $.* ? (@ > 9223372036854775807)'
+                THEN edit.properties END AS large
+        FROM streetmap_acting AS edit WHERE edit.is_last AND edit.properties IS NOT NULL
+    ), held AS (
+        SELECT DISTINCT forms.collection, property.name, CASE
+            WHEN property.type = 'number' AND (large -> name)::numeric > 9223372036854775807
+                THEN 'large'
+            ELSE property.type END AS kind
+        FROM forms CROSS JOIN LATERAL ROWS FROM (
+            unnest(names), jsonb_array_elements_text(types)) AS property (name, type)
+        WHERE octet_length(property.name) <= 63 AND property.type <> 'null'
     ), noted AS (
         INSERT INTO streetmap_properties (collection, name, kind)
         SELECT collection, name, kind FROM held
@@ -260,8 +268,8 @@ $$;
 -- nothing is known yet of the temporary table, the plans are those for few edits: by indexes.
 CREATE OR REPLACE FUNCTION streetmap_act(most_lines integer)
 RETURNS bigint LANGUAGE plpgsql
-SET enable_seqscan = off SET enable_hashjoin = off SET enable_mergejoin = off SET jit = off
-SET work_mem = '64MB' AS $$
+SET enable_seqscan = off SET enable_bitmapscan = off SET enable_hashjoin = off
+SET enable_mergejoin = off SET jit = off SET work_mem = '64MB' AS $$
 DECLARE
     begun bigint;
     ended bigint;
