@@ -11,18 +11,23 @@ $$;
 -- The temporary table of the edits that are about to act, in each session. `before` is the kind of
 -- the edit before it of the same feature, if that is among them; the last of a feature `is_last`.
 -- `is_open` says that an edit before it opened its collection, and `was_there` that its feature is
--- there before all of them.
+-- there before all of them. Beside it is that of the tiles that they concern (tiles.sql).
 CREATE OR REPLACE FUNCTION streetmap_clear_edits()
 RETURNS void LANGUAGE plpgsql AS $$
 BEGIN
-    IF to_regclass('pg_temp.streetmap_acting') IS NOT NULL THEN
+    IF to_regclass('pg_temp.streetmap_near') IS NOT NULL THEN
         DELETE FROM pg_temp.streetmap_acting;
+        DELETE FROM pg_temp.streetmap_near;
         RETURN;
     END IF;
     CREATE TEMPORARY TABLE streetmap_acting (
         serial bigint, place integer, op text, collection text COLLATE "C", id text COLLATE "C",
         body text, properties jsonb, grid geometry, time tstzrange, is_open boolean,
         was_there boolean, before text, is_last boolean
+    ) ON COMMIT DELETE ROWS;
+    CREATE TEMPORARY TABLE streetmap_near (
+        collection text COLLATE "C", first_column integer, last_column integer, first_row integer,
+        last_row integer
     ) ON COMMIT DELETE ROWS;
 END
 $$;
@@ -141,32 +146,51 @@ $$;
 CREATE OR REPLACE FUNCTION streetmap_put_features(is_careful boolean)
 RETURNS void LANGUAGE plpgsql AS $$
 BEGIN
-    UPDATE streetmap_features AS kept
-    SET serial = edit.serial, body = edit.body, properties = edit.properties, grid = edit.grid,
-        time = edit.time,
-        geometry = streetmap_placed(edit.grid, mirror.easting, mirror.northing, mirror.srid),
-        mercator = CASE WHEN is_careful THEN streetmap_mercator_or_null(
-                edit.grid, mirror.easting, mirror.northing, mirror.srid)
-            ELSE streetmap_mercator(edit.grid, mirror.easting, mirror.northing, mirror.srid) END
-    FROM streetmap_acting AS edit CROSS JOIN streetmap_mirror AS mirror
-    WHERE edit.is_last AND edit.op IN ('insert', 'replace') AND edit.was_there
-        AND kept.collection = edit.collection AND kept.id = edit.id;
-    INSERT INTO streetmap_features
-        (collection, id, serial, body, properties, grid, time, geometry, mercator)
-    SELECT edit.collection, edit.id, edit.serial, edit.body, edit.properties, edit.grid, edit.time,
-        streetmap_placed(edit.grid, mirror.easting, mirror.northing, mirror.srid),
-        CASE WHEN is_careful THEN streetmap_mercator_or_null(
-                edit.grid, mirror.easting, mirror.northing, mirror.srid)
-            ELSE streetmap_mercator(edit.grid, mirror.easting, mirror.northing, mirror.srid) END
-    FROM streetmap_acting AS edit CROSS JOIN streetmap_mirror AS mirror
-    WHERE edit.is_last AND edit.op IN ('insert', 'replace') AND NOT edit.was_there;
+    WITH put AS (
+        UPDATE streetmap_features AS kept
+        SET serial = edit.serial, body = edit.body, properties = edit.properties, grid = edit.grid,
+            time = edit.time,
+            geometry = streetmap_placed(edit.grid, mirror.easting, mirror.northing, mirror.srid),
+            mercator = CASE WHEN is_careful THEN streetmap_mercator_or_null(
+                    edit.grid, mirror.easting, mirror.northing, mirror.srid)
+                ELSE streetmap_mercator(
+                    edit.grid, mirror.easting, mirror.northing, mirror.srid) END
+        FROM streetmap_acting AS edit CROSS JOIN streetmap_mirror AS mirror
+        WHERE edit.is_last AND edit.op IN ('insert', 'replace') AND edit.was_there
+            AND kept.collection = edit.collection AND kept.id = edit.id
+        RETURNING kept.collection, kept.mercator
+    )
+    INSERT INTO streetmap_near SELECT DISTINCT put.collection, near.*
+    FROM put CROSS JOIN LATERAL streetmap_tile_range(put.mercator) AS near
+    WHERE put.mercator IS NOT NULL;
+    WITH put AS (
+        INSERT INTO streetmap_features
+            (collection, id, serial, body, properties, grid, time, geometry, mercator)
+        SELECT edit.collection, edit.id, edit.serial, edit.body, edit.properties, edit.grid,
+            edit.time, streetmap_placed(edit.grid, mirror.easting, mirror.northing, mirror.srid),
+            CASE WHEN is_careful THEN streetmap_mercator_or_null(
+                    edit.grid, mirror.easting, mirror.northing, mirror.srid)
+                ELSE streetmap_mercator(
+                    edit.grid, mirror.easting, mirror.northing, mirror.srid) END
+        FROM streetmap_acting AS edit CROSS JOIN streetmap_mirror AS mirror
+        WHERE edit.is_last AND edit.op IN ('insert', 'replace') AND NOT edit.was_there
+        RETURNING collection, mercator
+    )
+    INSERT INTO streetmap_near SELECT DISTINCT put.collection, near.*
+    FROM put CROSS JOIN LATERAL streetmap_tile_range(put.mercator) AS near
+    WHERE put.mercator IS NOT NULL;
 END
 $$;
 
--- Changes the features as the edits in the temporary table say.
+-- Changes the features as the edits in the temporary table say. The tiles in which they were, or are
+-- now, are in the other one then.
 CREATE OR REPLACE FUNCTION streetmap_change_features()
 RETURNS void LANGUAGE plpgsql AS $$
 BEGIN
+    INSERT INTO streetmap_near SELECT DISTINCT kept.collection, near.*
+    FROM streetmap_acting AS edit JOIN streetmap_features AS kept USING (collection, id)
+    CROSS JOIN LATERAL streetmap_tile_range(kept.mercator) AS near
+    WHERE edit.is_last AND edit.was_there AND kept.mercator IS NOT NULL;
     DELETE FROM streetmap_features AS kept USING streetmap_acting AS edit
     WHERE edit.is_last AND edit.op = 'delete'
         AND kept.collection = edit.collection AND kept.id = edit.id;
@@ -192,7 +216,8 @@ RETURNS TABLE (collection text, id text, mercator geometry) LANGUAGE sql STABLE 
 $$;
 
 -- Places features again in EPSG:3857 if one of the first thousand is not there: in a mirror that
--- was made without that, or after PROJ was given another grid.
+-- was made without that, or after PROJ was given another grid. All tiles are noted then, and in a
+-- mirror that has none yet.
 CREATE OR REPLACE FUNCTION streetmap_place_again()
 RETURNS void LANGUAGE plpgsql AS $$
 BEGIN
@@ -200,6 +225,15 @@ BEGIN
         UPDATE streetmap_features AS kept SET mercator = made.mercator
         FROM streetmap_misplaced(NULL) AS made
         WHERE kept.collection = made.collection AND kept.id = made.id;
+        DELETE FROM streetmap_tiles;
+    END IF;
+    IF NOT EXISTS (SELECT FROM streetmap_tiles) THEN
+        PERFORM streetmap_clear_edits();
+        INSERT INTO streetmap_near SELECT DISTINCT kept.collection, near.*
+        FROM streetmap_features AS kept
+        CROSS JOIN LATERAL streetmap_tile_range(kept.mercator) AS near
+        WHERE kept.mercator IS NOT NULL;
+        PERFORM streetmap_note_tiles(serial) FROM streetmap_mirror;
     END IF;
 END
 $$;
@@ -287,6 +321,7 @@ BEGIN
                                           nullif(fault.place, 0)));
     END IF;
     PERFORM streetmap_change_features();
+    PERFORM streetmap_note_tiles(ended);
     PERFORM streetmap_note_kinds();
     UPDATE streetmap_collections SET changed = ended
     WHERE id IN (SELECT collection FROM streetmap_acting);
