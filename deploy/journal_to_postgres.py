@@ -1,6 +1,7 @@
 """Puts the lines of a journal into a table of PostgreSQL, as the journal grows.
 
-    python3 deploy/journal_to_postgres.py J DSN [--town NAME] [--features [--system S --shift E,N]]
+    python3 deploy/journal_to_postgres.py J DSN [--town NAME]
+        [--features [--system S --shift E,N] [--tiles]]
         [--lease FILE] [--once | --renew | --upgrade | --promote]
 
 J is the journal that `streetmap serve --journal J` writes, or the path that all its files share
@@ -11,7 +12,8 @@ replication, and follow.py reads it there. With `--town` the tables are in a sch
 
 With `--features` each line acts in the same transaction on the mirror beside the table
 (postgis/README.md): PostGIS tables of the collections and features, in the office's system S
-(`EPSG:25832`), where the grid's 0,0 is at E,N. The mirror keeps S, E and N from its first start.
+(`EPSG:25832`), where the grid's 0,0 is at E,N. The mirror keeps S, E and N from its first start. With
+`--tiles` it also draws tiles of the mirror ahead, as long as it runs (journal_tiles.py).
 
 It runs until it is stopped, at any time and in any way, and then goes on after the last serial of
 the table. It begins by comparing the last line that both have. A database that is away, and a J

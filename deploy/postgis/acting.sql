@@ -182,13 +182,18 @@ BEGIN
 END
 $$;
 
--- Changes the features as the edits in the temporary table say. The tiles in which they were, or are
--- now, are in the other one then.
+-- Changes the features as the edits in the temporary table say. The tiles in which they were, or
+-- are now, are in the other one then.
 CREATE OR REPLACE FUNCTION streetmap_change_features()
 RETURNS void LANGUAGE plpgsql AS $$
 BEGIN
-    INSERT INTO streetmap_near SELECT DISTINCT kept.collection, near.*
-    FROM streetmap_acting AS edit JOIN streetmap_features AS kept USING (collection, id)
+    -- OFFSET 0 has each feature found by its key.
+    INSERT INTO streetmap_near SELECT DISTINCT edit.collection, near.*
+    FROM streetmap_acting AS edit
+    CROSS JOIN LATERAL (
+        SELECT kept.mercator FROM streetmap_features AS kept
+        WHERE kept.collection = edit.collection AND kept.id = edit.id OFFSET 0
+    ) AS kept
     CROSS JOIN LATERAL streetmap_tile_range(kept.mercator) AS near
     WHERE edit.is_last AND edit.was_there AND kept.mercator IS NOT NULL;
     DELETE FROM streetmap_features AS kept USING streetmap_acting AS edit

@@ -1,37 +1,45 @@
 -- Tiles of EPSG:3857: which of them a change concerns, and how one is drawn.
 
+-- The column or row of level 14 at some metres from the north-west of the world. What is beyond all
+-- tiles is beside them.
+CREATE OR REPLACE FUNCTION streetmap_tile_at(metres double precision)
+RETURNS integer LANGUAGE sql IMMUTABLE PARALLEL SAFE AS $$
+    SELECT least(greatest(floor(metres / 2445.98490512564), -1), 16384)::integer
+$$;
+
 -- The tiles of level 14 that a geometry meets or is near, from one column and row to another. A
--- tile has 64 of its 4,096 units around it; here are twice as many, since boxes that are compared
--- are rounded. What is beyond all tiles is beside them.
+-- tile has 64 of its 4,096 units around it, which are 38.2 m of EPSG:3857. Here they are twice as
+-- many, since boxes that are compared are rounded.
 CREATE OR REPLACE FUNCTION streetmap_tile_range(mercator geometry)
 RETURNS TABLE (first_column integer, last_column integer, first_row integer, last_row integer)
 LANGUAGE sql IMMUTABLE PARALLEL SAFE AS $$
-    SELECT least(greatest(floor(
-            (ST_XMin(mercator) + 20037508.342789244) / 2445.98490512564 - 0.03125), -1), 16384)::integer,
-        least(greatest(floor(
-            (ST_XMax(mercator) + 20037508.342789244) / 2445.98490512564 + 0.03125), -1), 16384)::integer,
-        least(greatest(floor(
-            (20037508.342789244 - ST_YMax(mercator)) / 2445.98490512564 - 0.03125), -1), 16384)::integer,
-        least(greatest(floor(
-            (20037508.342789244 - ST_YMin(mercator)) / 2445.98490512564 + 0.03125), -1), 16384)::integer
+    SELECT streetmap_tile_at(ST_XMin(mercator) + 20037508.342789244 - 76.4),
+        streetmap_tile_at(ST_XMax(mercator) + 20037508.342789244 + 76.4),
+        streetmap_tile_at(20037508.342789244 - ST_YMax(mercator) - 76.4),
+        streetmap_tile_at(20037508.342789244 - ST_YMin(mercator) + 76.4)
 $$;
 
 -- Notes that the tiles in the temporary table of them have changed. Of a feature that meets more
 -- than 1,024 tiles all that are noted have: one that is not noted is as new as its collection.
 CREATE OR REPLACE FUNCTION streetmap_note_tiles(ended bigint)
 RETURNS void LANGUAGE plpgsql AS $$
+DECLARE
+    most integer := 1024;
+    wide text[] := ARRAY(
+        SELECT DISTINCT collection FROM streetmap_near
+        WHERE (last_column - first_column + 1) * (last_row - first_row + 1)::bigint > most);
 BEGIN
     INSERT INTO streetmap_tiles AS kept (collection, "column", "row", changed)
     SELECT DISTINCT near.collection, "column", "row", ended
     FROM streetmap_near AS near
     CROSS JOIN LATERAL generate_series(first_column, last_column) AS "column"
     CROSS JOIN LATERAL generate_series(first_row, last_row) AS "row"
-    WHERE (last_column - first_column + 1) * (last_row - first_row + 1)::bigint <= 1024
+    WHERE (last_column - first_column + 1) * (last_row - first_row + 1)::bigint <= most
     ON CONFLICT (collection, "column", "row") DO UPDATE SET changed = excluded.changed;
-    UPDATE streetmap_tiles AS kept SET changed = ended
-    WHERE kept.changed < ended AND kept.collection IN (
-        SELECT near.collection FROM streetmap_near AS near
-        WHERE (last_column - first_column + 1) * (last_row - first_row + 1)::bigint > 1024);
+    IF wide <> '{}' THEN
+        UPDATE streetmap_tiles SET changed = ended
+        WHERE changed < ended AND collection = ANY (wide);
+    END IF;
 END
 $$;
 

@@ -52,8 +52,8 @@ WHERE collection = {collection} AND "column" = {column} AND "row" = {row}
 """
 # The tile has the first 10,000 features by id; the others are left out.
 DRAW = """
-SELECT is_cut, body FROM streetmap_draw(
-    {collection}, ST_MakeEnvelope({west}, {south}, {east}, {north}, {srid}), {level}, {column}, {row})
+SELECT is_cut, body FROM ST_MakeEnvelope({west}, {south}, {east}, {north}, {srid}) AS bounds
+CROSS JOIN LATERAL streetmap_draw({collection}, bounds, {level}, {column}, {row})
 """
 PLACED = """
 SELECT ST_X(it.placed), ST_Y(it.placed) FROM (

@@ -56,7 +56,7 @@ class Asked:
         x, y = self.position()
         shape = point(x, y)
         if self.chance.random() < 0.3:
-            far = LONG if self.chance.random() < 0.05 else 700_000
+            far = LONG if self.chance.random() < 0.2 else 700_000
             shape = {"type": "LineString", "coordinates": [[x, y], [x + far, y + far]]}
         op = "replace" if identity in there else "insert"
         there.add(identity)
