@@ -6,12 +6,12 @@ from dataclasses import dataclass, field
 from typing import Any
 
 from followers_tests.postgres import Database
-from followers_tests.processes import wait_until
+from followers_tests.processes import Process, Script, running, wait_until
 from gateway_tests.service import Gateway, gateway
 from harness import Context, free_port
-from journal_mirror import MirroredTable
 from messages import delete, feature, open_collection, point, put
-from mirror_tests.front import SYSTEM, mirror_settings, reader_of
+from mirror_tests.front import SYSTEM, TRANSPORT, mirror_settings, reader_of
+from mirror_tests.kills import SCRIPT
 from mirror_tests.mirrors import SYSTEM as OFFICE
 from mirror_tests.mirrors import Mirror
 from mirror_tests.tiles import MIDDLE, path_of, tile_of
@@ -25,7 +25,8 @@ CROSS JOIN LATERAL ST_Segmentize(
     ST_Expand(tile, ST_Perimeter(tile) / 80), ST_Perimeter(tile) / 40) AS around
 CROSS JOIN LATERAL streetmap_draw('lamps', ST_Transform(around, 25832), {0}, {2}, {1})
 """
-MAKE, DUE = "SELECT streetmap_make_tile()", "WHERE drawn IS NULL OR drawn < changed"
+MAKE = "SELECT streetmap_make_tile()"
+DUE = "SELECT count(*) FROM streetmap_tiles WHERE drawn IS NULL OR drawn < changed"
 # The middle of the tiles on the grid.
 IN_MIDDLE = f"""
 SELECT 1000 * ST_X(it) - {OFFICE.easting}, 1000 * ST_Y(it) - {OFFICE.northing}
@@ -104,10 +105,11 @@ def check_ahead(asked: Asked, reader: str) -> None:
     until a feature in the tile changes."""
     mirror = asked.mirror
     check, database = mirror.context.check, mirror.database
-    table = MirroredTable(database.dsn, "mirror", OFFICE, has_tiles=True)
-    table.rest()
-    count = f"SELECT count(*) FROM streetmap_tiles {DUE}"
-    wait_until("no tile is due", lambda: database.ask(count) == [(0,)], mirror.context.seconds)
+    journal = mirror.context.folder / "drawn.journal"
+    journal.write_bytes(database.journal())
+    words = Script(mirror.context, SCRIPT).command(journal, database.dsn, *TRANSPORT, "--tiles")
+    with running(Process(mirror.context, "drawn-transport", words)):
+        wait_until("no tile is due", lambda: database.ask(DUE) == [(0,)], mirror.context.seconds)
     row, column = tile_of(14)
     path = path_of("lamps", 14, row, column)
     asked.check((14, row, column))
