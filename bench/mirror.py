@@ -26,20 +26,24 @@ from gateway import CONNECTIONS, WANTED, boxes, bytes_of, by_fastcgi, nginx, pri
 from gateway import print_row, rates, walked
 from harness import free_port
 from measures import compact, create, fail, report
-from messages import open_collection
-from tables import FEATURES, batches
-from town import KINDS, ordinary, write_journal
+from messages import open_collection, put
+from tables import FEATURES, batches, lamp
+from tables import ROW as LAMPS
+from town import EACH, KINDS, ROW, asset, ordinary, write_journal
 
 HEIGHTS, EACH_HEIGHT = 9000, 450
 # A tile of level 14 has all that it can have, 10,000 of these lamps, and one of 16 some 1,400. Of
 # each other collection one of level 14 has some 2,200.
 LEVELS, LEVEL, ROUNDS_OF_TILES = (14, 15, 16, 17), 14, 9
+# The features in the middle: a lamp, and one of each other collection.
+LAMP, OTHER = LAMPS // 2 * (LAMPS + 1), EACH // 2 + ROW // 2
 # Batches whose delay is measured, and features of the mirror that is filled.
 DELAYS, FILLED, SLOW_FILLED = 40, 100_000, 1_000_000
 # What is wanted: a tile of level 14 and the delay at most, in milliseconds, and features a second.
 TILE_WANTED, DELAY_WANTED, FILLED_WANTED = 20, 60, 10_000
 MIRROR = '[mirror]\ndatabase = "{database}"\n'
 MIRRORED = "SELECT serial FROM streetmap_mirror"
+DUE = "SELECT count(*) FROM streetmap_tiles WHERE drawn IS NULL OR drawn < changed"
 GIVEN = ("--features", "--system", "EPSG:25832", "--shift", f"{EASTING},{NORTHING}")
 PROJECT = """
 import sys
@@ -122,25 +126,28 @@ class Site:
     serial: int
     psql: subprocess.Popen[str]
 
-    def mirrored(self) -> str:
-        """The serial of the mirror, over a connection that stays open."""
+    def value(self, query: str) -> str:
+        """The one value of a query, over a connection that stays open."""
         assert self.psql.stdin is not None and self.psql.stdout is not None
-        self.psql.stdin.write(f"{MIRRORED};\n")
+        self.psql.stdin.write(f"{query};\n")
         self.psql.stdin.flush()
         return self.psql.stdout.readline().strip()
 
-    def wait(self) -> None:
-        """Waits until the mirror has the server's last batch."""
+    def wait(self, query: str = MIRRORED, wanted: str = "") -> None:
+        """Waits until the mirror has the server's last batch, or until a query has a value."""
         ends = time.monotonic() + WAIT_SECONDS
-        while self.mirrored() != str(self.serial):
+        while self.value(query) != (wanted or str(self.serial)):
             if time.monotonic() > ends:
                 fail(f"the mirror has no serial {self.serial}")
             time.sleep(0.001)
 
     def change(self) -> None:
-        """A batch that changes each collection, so that no tile is kept."""
-        edits = [{"op": "delete", "collection": "lamps", "id": f"lamp-{self.serial:06}"}]
-        edits += [{"op": "delete", "collection": it, "id": f"F{self.serial:07}"} for it in KINDS]
+        """A batch that changes a feature in the middle of each collection, so that no tile there is
+        what it was."""
+        edits = [put("replace", "lamps", lamp(LAMP, f"lamp-{LAMP:06}"))]
+        edits += [put("replace", it, asset(it, OTHER)) for it in KINDS]
+        for edit in edits:
+            edit["feature"]["properties"]["changed"] = self.serial
         body = compact({"key": f"change-{self.serial}", "edits": edits}).encode()
         urllib.request.urlopen(f"http://127.0.0.1:{self.server}/batches", body, timeout=60).close()
         self.serial += 1
@@ -153,7 +160,7 @@ def mirrored(program: Path, file: Path, journal: Path, database: int) -> Iterato
     words: list[str | Path] = ["serve", file, "--port", str(port), "--warm", "--journal", journal]
     with contextlib.ExitStack() as started:
         started.enter_context(until_done(quietly([program, *words]), port))
-        copying = quietly(transport(journal, source(database)))
+        copying = quietly(transport(journal, source(database), "--tiles"))
         started.callback(copying.wait)
         started.callback(copying.terminate)
         while not rows(database, MIRRORED):
@@ -253,27 +260,29 @@ def milliseconds(service: Service, target: str) -> tuple[float, int]:
     return (time.perf_counter() - begun) * 1000, size
 
 
-def drawn_and_kept(service: Service, targets: list[str]) -> list[tuple[float, float, int]]:
-    """What each tile takes when it is drawn, and when it is kept, in milliseconds; its bytes."""
-    found = []
-    for target in targets:
-        drawn, size = milliseconds(service, target)
-        found.append((drawn, milliseconds(service, target)[0], size))
-    return found
+def tile_times(service: Service, site: Site, target: str) -> tuple[float, float, float, int]:
+    """What a tile takes in milliseconds: once a feature in it has changed; once the mirror has
+    drawn it ahead, if it does that at this level, and before a gateway has it; and again. Its
+    bytes."""
+    site.change()
+    site.wait()
+    changed, _ = milliseconds(service, target)
+    site.change()
+    site.wait()
+    site.wait(DUE, "0")
+    first, size = milliseconds(service, target)
+    return changed, first, milliseconds(service, target)[0], size
 
 
 def report_tiles(service: Service, site: Site) -> None:
-    """Medians of several rounds. Before each the collections change."""
-    targets = tiles_of(service)
-    rounds = []
-    for _ in range(ROUNDS_OF_TILES):
-        site.change()
-        site.wait()
-        rounds.append(drawn_and_kept(service, targets))
-    for target, figures in zip(targets, zip(*rounds)):
-        drawn, kept, size = (statistics.median(each) for each in zip(*figures))
+    """Medians of several rounds, and the least."""
+    for target in tiles_of(service):
+        rounds = [tile_times(service, site, target) for _ in range(ROUNDS_OF_TILES)]
+        changed, first, again, size = (
+            f"{statistics.median(each):.1f} ({min(each):.1f})" for each in zip(*rounds)
+        )
         _, _, name, _, _, level, _, _ = target.split("/")
-        what = f"{drawn:.1f} ms, again {kept:.1f} ms, {size:.0f} bytes"
+        what = f"first {first} ms, again {again} ms, just changed {changed} ms, {size} bytes"
         wanted = f"; at most {TILE_WANTED} ms are wanted" if level == str(LEVEL) else ""
         report(f"a tile of {name}, level {level}", f"{what}{wanted}")
 

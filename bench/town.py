@@ -5,11 +5,12 @@ Trees, kerbs and buildings, 10,000 of each, are in the square of the lamps. So a
 in a town of 100,000 of them that is 10 km wide, and lamps are ten times as dense.
 """
 
+import json
 from collections.abc import Iterator
 from pathlib import Path
 from typing import Any
 
-from measures import Batch, compact
+from measures import Batch
 from messages import feature, open_collection, put
 
 KINDS = ("trees", "kerbs", "buildings")
@@ -44,12 +45,17 @@ def ordinary() -> Iterator[Batch]:
             yield {"key": f"{kind}{first}", "edits": edits}
 
 
+def batch_text(batch: Batch) -> str:
+    """A batch as the server writes it: the members of each object in order of their names."""
+    return json.dumps(batch, separators=(",", ":"), sort_keys=True)
+
+
 def write_journal(path: Path, count: int) -> None:
-    """A journal of so many features of all kinds, in batches as `load` makes them."""
+    """A journal of N features of all kinds, in batches as `load` makes them."""
     opening = {"edits": [open_collection("assets", title="Assets", time="set")], "key": "open"}
     with path.open("w") as file:
-        file.write(f"1\t{compact(opening)}\n")
+        file.write(f"1\t{batch_text(opening)}\n")
         for serial, first in enumerate(range(0, count, BATCH), 2):
             numbers = range(first, first + BATCH)
             edits = [put("insert", "assets", asset(KINDS[at % 3], at, 1000)) for at in numbers]
-            file.write(f"{serial}\t{compact({'edits': edits, 'key': f'k{serial}'})}\n")
+            file.write(f"{serial}\t{batch_text({'edits': edits, 'key': f'k{serial}'})}\n")

@@ -6,9 +6,11 @@ refuse ends as the fault `refused SERIAL CODE PLACE`, and nothing of its transac
 """
 
 import argparse
+import contextlib
 import re
 import time
 from collections.abc import Sequence
+from concurrent.futures import ThreadPoolExecutor
 from dataclasses import dataclass
 from decimal import Decimal, InvalidOperation
 from pathlib import Path
@@ -16,11 +18,12 @@ from typing import Any
 
 from journal_lines import Fault, Line, tell
 from journal_table import LOCK, MIRRORED, JournalTable
+from journal_tiles import TileMaker
 
 FOLDER = Path(__file__).resolve().parent / "postgis"
 # What makes the tables and functions, in this order; the indexes, which can wait until the
 # mirror has come up to the journal's end; and what takes all of it away.
-PARTS = ("names.sql", "tables.sql", "reading.sql", "acting.sql", "views.sql")
+PARTS = ("names.sql", "tables.sql", "reading.sql", "tiles.sql", "acting.sql", "views.sql")
 INDEXES, MEMORY = "indexes.sql", "SET LOCAL maintenance_work_mem = '256MB'"
 DROPPING = ("names.sql", "dropping.sql")
 SYSTEM = "SELECT srid, easting, northing FROM streetmap_mirror"
@@ -71,13 +74,22 @@ class MirroredTable(JournalTable):
     """A journal's table with the mirror beside it. A system that is None is that of the mirror
     which is there, else none."""
 
-    def __init__(self, dsn: str, name: str, system: OfficeSystem | None, town: str = "") -> None:
+    def __init__(
+        self,
+        dsn: str,
+        name: str,
+        system: OfficeSystem | None,
+        town: str = "",
+        has_tiles: bool = False,
+    ) -> None:
         super().__init__(dsn, town)
         self.name = name
+        self.town = town
         self.system = system
         self.is_indexed = False
         # When views that are due are to be made, by the monotonic clock; None if none is.
         self.views_at: float | None = 0.0
+        self.tiles = TileMaker(name, JournalTable(dsn, town)) if has_tiles else None
 
     def make(self) -> None:
         """Makes the mirror if it is missing, and lets it come up to the table's last line."""
@@ -137,18 +149,34 @@ class MirroredTable(JournalTable):
     def put(self, lines: Sequence[Line]) -> None:
         super().put(lines)
         self.make_views()
+        if self.tiles is not None:
+            self.tiles.due.set()
 
     def make_views(self) -> None:
         """Makes some of the views that are due; others, and one that is read just now, later."""
         due = self.ask_number(MAKE_VIEWS, MOST_VIEWS)
         self.views_at = time.monotonic() + AGAIN_SECONDS if due else None
 
+    def make_index(self, statement: str) -> None:
+        """Makes an index over a connection of its own."""
+        table = JournalTable(self.dsn, self.town, self.connect_seconds)
+        with contextlib.closing(table), table.transaction() as cursor:
+            cursor.execute(MEMORY)
+            cursor.execute(statement)
+
     def complete(self) -> None:
         """Makes the indexes and the views that are missing, once all lines are in."""
         if not self.is_indexed:
-            with self.transaction() as cursor:
-                cursor.execute(MEMORY)
-                cursor.execute((FOLDER / INDEXES).read_text())
+            statements = (FOLDER / INDEXES).read_text().split(";")[:-1]
+            # All at the same time, since PostgreSQL makes each in one processor.
+            with ThreadPoolExecutor(len(statements)) as threads:
+                list(threads.map(self.make_index, statements))
             self.is_indexed = True
         if self.views_at is not None and time.monotonic() >= self.views_at:
             self.make_views()
+
+    def rest(self) -> None:
+        """Has tiles drawn ahead from now on."""
+        if self.tiles is not None and not self.tiles.is_alive():
+            self.tiles.start()
+            self.tiles.due.set()

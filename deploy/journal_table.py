@@ -400,6 +400,9 @@ class JournalTable:
     def complete(self) -> None:
         """What is done each time once all present lines are put in."""
 
+    def rest(self) -> None:
+        """What is done each time before more lines are waited for."""
+
     def texts(self, cursor: Any, lines: Sequence[Line]) -> dict[int, bytes]:
         """The texts that the table has for the serials of lines."""
         cursor.execute(BETWEEN, (lines[0].serial, lines[-1].serial))

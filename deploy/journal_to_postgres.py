@@ -1,6 +1,7 @@
 """Puts the lines of a journal into a table of PostgreSQL, as the journal grows.
 
-    python3 deploy/journal_to_postgres.py J DSN [--town NAME] [--features [--system S --shift E,N]]
+    python3 deploy/journal_to_postgres.py J DSN [--town NAME]
+        [--features [--system S --shift E,N] [--tiles]]
         [--lease FILE] [--once | --renew | --upgrade | --promote]
 
 J is the journal that `streetmap serve --journal J` writes, or the path that all its files share
@@ -11,7 +12,8 @@ replication, and follow.py reads it there. With `--town` the tables are in a sch
 
 With `--features` each line acts in the same transaction on the mirror beside the table
 (postgis/README.md): PostGIS tables of the collections and features, in the office's system S
-(`EPSG:25832`), where the grid's 0,0 is at E,N. The mirror keeps S, E and N from its first start.
+(`EPSG:25832`), where the grid's 0,0 is at E,N. The mirror keeps S, E and N from its first start. With
+`--tiles` it also draws tiles of the mirror ahead, as long as it runs (journal_tiles.py).
 
 It runs until it is stopped, at any time and in any way, and then goes on after the last serial of
 the table. It begins by comparing the last line that both have. A database that is away, and a J
@@ -178,6 +180,7 @@ def run(copying: Copying, once: bool) -> None:
             pauses.end()
             if once:
                 return
+            copying.table.rest()
             copying.journal.wait()
         except Away as away:
             copying.lose()
@@ -190,7 +193,7 @@ def table_of(asked: argparse.Namespace) -> JournalTable:
         return JournalTable(asked.dsn, asked.town)
     given = asked.system is not None
     system = OfficeSystem(asked.system, *asked.shift) if given else None
-    return MirroredTable(asked.dsn, NAME, system, asked.town)
+    return MirroredTable(asked.dsn, NAME, system, asked.town, asked.tiles)
 
 
 def arguments() -> argparse.Namespace:
@@ -199,6 +202,7 @@ def arguments() -> argparse.Namespace:
     words.add_argument("dsn", type=not_empty, help="the database, as postgresql://..")
     words.add_argument("--town", type=town_of, default="", metavar="NAME", help="of several towns")
     words.add_argument("--features", action="store_true", help="keeps the mirror too")
+    words.add_argument("--tiles", action="store_true", help="draws tiles of the mirror ahead")
     words.add_argument("--system", type=system_of, metavar="S", help="as EPSG:25832")
     words.add_argument("--shift", type=shift_of, metavar="E,N", help="where the grid's 0,0 is in S")
     ends = words.add_mutually_exclusive_group()
@@ -210,6 +214,8 @@ def arguments() -> argparse.Namespace:
     asked = words.parse_args()
     if (asked.system is None) != (asked.shift is None) or asked.system and not asked.features:
         words.error("--system and --shift belong together, and to --features")
+    if asked.tiles and not asked.features:
+        words.error("--tiles needs --features")
     if asked.promote and asked.lease is None:
         words.error("--promote needs --lease")
     return asked

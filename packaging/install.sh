@@ -54,7 +54,7 @@ fi
 
 put "$prefix/share/streetmap/deploy" \
     deploy/{follow,journal_changes,journal_files,journal_lines,journal_mirror,journal_table}.py \
-    deploy/{journal_digest,journal_lease,journal_to_postgres,program,restore}.py \
+    deploy/{journal_digest,journal_lease,journal_tiles,journal_to_postgres,program,restore}.py \
     deploy/{exporter,mirror_check}.py deploy/{alerts.yml,dashboard.json}
 put "$prefix/share/streetmap/deploy/postgis" deploy/postgis/*
 install -m 755 -t "$root$prefix/share/streetmap/deploy" \

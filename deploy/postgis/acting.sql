@@ -11,18 +11,23 @@ $$;
 -- The temporary table of the edits that are about to act, in each session. `before` is the kind of
 -- the edit before it of the same feature, if that is among them; the last of a feature `is_last`.
 -- `is_open` says that an edit before it opened its collection, and `was_there` that its feature is
--- there before all of them.
+-- there before all of them. Beside it is that of the tiles that they concern (tiles.sql).
 CREATE OR REPLACE FUNCTION streetmap_clear_edits()
 RETURNS void LANGUAGE plpgsql AS $$
 BEGIN
-    IF to_regclass('pg_temp.streetmap_acting') IS NOT NULL THEN
+    IF to_regclass('pg_temp.streetmap_near') IS NOT NULL THEN
         DELETE FROM pg_temp.streetmap_acting;
+        DELETE FROM pg_temp.streetmap_near;
         RETURN;
     END IF;
     CREATE TEMPORARY TABLE streetmap_acting (
         serial bigint, place integer, op text, collection text COLLATE "C", id text COLLATE "C",
         body text, properties jsonb, grid geometry, time tstzrange, is_open boolean,
         was_there boolean, before text, is_last boolean
+    ) ON COMMIT DELETE ROWS;
+    CREATE TEMPORARY TABLE streetmap_near (
+        collection text COLLATE "C", first_column integer, last_column integer, first_row integer,
+        last_row integer
     ) ON COMMIT DELETE ROWS;
 END
 $$;
@@ -70,7 +75,8 @@ BEGIN
     INSERT INTO streetmap_acting
     SELECT edit.serial, edit.place, edit.op, edit.collection, edit.id, edit.body, held.properties,
         ST_SetSRID(ST_GeomFromGeoJSON(edit.geometry), 0),
-        CASE WHEN opened.time IS NOT NULL THEN streetmap_time(held.properties -> opened.time) END,
+        CASE WHEN opened.time IS NOT NULL
+            THEN streetmap_held_time(held.properties -> opened.time) END,
         coalesce((opened.serial, opened.place) < (edit.serial, edit.place), false),
         kept.id IS NOT NULL,
         lag(edit.op) OVER of_feature,
@@ -140,32 +146,56 @@ $$;
 CREATE OR REPLACE FUNCTION streetmap_put_features(is_careful boolean)
 RETURNS void LANGUAGE plpgsql AS $$
 BEGIN
-    UPDATE streetmap_features AS kept
-    SET serial = edit.serial, body = edit.body, properties = edit.properties, grid = edit.grid,
-        time = edit.time,
-        geometry = streetmap_placed(edit.grid, mirror.easting, mirror.northing, mirror.srid),
-        mercator = CASE WHEN is_careful THEN streetmap_mercator_or_null(
-                edit.grid, mirror.easting, mirror.northing, mirror.srid)
-            ELSE streetmap_mercator(edit.grid, mirror.easting, mirror.northing, mirror.srid) END
-    FROM streetmap_acting AS edit CROSS JOIN streetmap_mirror AS mirror
-    WHERE edit.is_last AND edit.op IN ('insert', 'replace') AND edit.was_there
-        AND kept.collection = edit.collection AND kept.id = edit.id;
-    INSERT INTO streetmap_features
-        (collection, id, serial, body, properties, grid, time, geometry, mercator)
-    SELECT edit.collection, edit.id, edit.serial, edit.body, edit.properties, edit.grid, edit.time,
-        streetmap_placed(edit.grid, mirror.easting, mirror.northing, mirror.srid),
-        CASE WHEN is_careful THEN streetmap_mercator_or_null(
-                edit.grid, mirror.easting, mirror.northing, mirror.srid)
-            ELSE streetmap_mercator(edit.grid, mirror.easting, mirror.northing, mirror.srid) END
-    FROM streetmap_acting AS edit CROSS JOIN streetmap_mirror AS mirror
-    WHERE edit.is_last AND edit.op IN ('insert', 'replace') AND NOT edit.was_there;
+    WITH put AS (
+        UPDATE streetmap_features AS kept
+        SET serial = edit.serial, body = edit.body, properties = edit.properties, grid = edit.grid,
+            time = edit.time,
+            geometry = streetmap_placed(edit.grid, mirror.easting, mirror.northing, mirror.srid),
+            mercator = CASE WHEN is_careful THEN streetmap_mercator_or_null(
+                    edit.grid, mirror.easting, mirror.northing, mirror.srid)
+                ELSE streetmap_mercator(
+                    edit.grid, mirror.easting, mirror.northing, mirror.srid) END
+        FROM streetmap_acting AS edit CROSS JOIN streetmap_mirror AS mirror
+        WHERE edit.is_last AND edit.op IN ('insert', 'replace') AND edit.was_there
+            AND kept.collection = edit.collection AND kept.id = edit.id
+        RETURNING kept.collection, kept.mercator
+    )
+    INSERT INTO streetmap_near SELECT DISTINCT put.collection, near.*
+    FROM put CROSS JOIN LATERAL streetmap_tile_range(put.mercator) AS near
+    WHERE put.mercator IS NOT NULL;
+    WITH put AS (
+        INSERT INTO streetmap_features
+            (collection, id, serial, body, properties, grid, time, geometry, mercator)
+        SELECT edit.collection, edit.id, edit.serial, edit.body, edit.properties, edit.grid,
+            edit.time, streetmap_placed(edit.grid, mirror.easting, mirror.northing, mirror.srid),
+            CASE WHEN is_careful THEN streetmap_mercator_or_null(
+                    edit.grid, mirror.easting, mirror.northing, mirror.srid)
+                ELSE streetmap_mercator(
+                    edit.grid, mirror.easting, mirror.northing, mirror.srid) END
+        FROM streetmap_acting AS edit CROSS JOIN streetmap_mirror AS mirror
+        WHERE edit.is_last AND edit.op IN ('insert', 'replace') AND NOT edit.was_there
+        RETURNING collection, mercator
+    )
+    INSERT INTO streetmap_near SELECT DISTINCT put.collection, near.*
+    FROM put CROSS JOIN LATERAL streetmap_tile_range(put.mercator) AS near
+    WHERE put.mercator IS NOT NULL;
 END
 $$;
 
--- Changes the features as the edits in the temporary table say.
+-- Changes the features as the edits in the temporary table say. The tiles in which they were, or
+-- are now, are in the other one then.
 CREATE OR REPLACE FUNCTION streetmap_change_features()
 RETURNS void LANGUAGE plpgsql AS $$
 BEGIN
+    -- OFFSET 0 has each feature found by its key.
+    INSERT INTO streetmap_near SELECT DISTINCT edit.collection, near.*
+    FROM streetmap_acting AS edit
+    CROSS JOIN LATERAL (
+        SELECT kept.mercator FROM streetmap_features AS kept
+        WHERE kept.collection = edit.collection AND kept.id = edit.id OFFSET 0
+    ) AS kept
+    CROSS JOIN LATERAL streetmap_tile_range(kept.mercator) AS near
+    WHERE edit.is_last AND edit.was_there AND kept.mercator IS NOT NULL;
     DELETE FROM streetmap_features AS kept USING streetmap_acting AS edit
     WHERE edit.is_last AND edit.op = 'delete'
         AND kept.collection = edit.collection AND kept.id = edit.id;
@@ -191,7 +221,8 @@ RETURNS TABLE (collection text, id text, mercator geometry) LANGUAGE sql STABLE 
 $$;
 
 -- Places features again in EPSG:3857 if one of the first thousand is not there: in a mirror that
--- was made without that, or after PROJ was given another grid.
+-- was made without that, or after PROJ was given another grid. All tiles are noted then, and in a
+-- mirror that has none yet.
 CREATE OR REPLACE FUNCTION streetmap_place_again()
 RETURNS void LANGUAGE plpgsql AS $$
 BEGIN
@@ -199,23 +230,39 @@ BEGIN
         UPDATE streetmap_features AS kept SET mercator = made.mercator
         FROM streetmap_misplaced(NULL) AS made
         WHERE kept.collection = made.collection AND kept.id = made.id;
+        DELETE FROM streetmap_tiles;
+    END IF;
+    IF NOT EXISTS (SELECT FROM streetmap_tiles) THEN
+        PERFORM streetmap_clear_edits();
+        INSERT INTO streetmap_near SELECT DISTINCT kept.collection, near.*
+        FROM streetmap_features AS kept
+        CROSS JOIN LATERAL streetmap_tile_range(kept.mercator) AS near
+        WHERE kept.mercator IS NOT NULL;
+        PERFORM streetmap_note_tiles(serial) FROM streetmap_mirror;
     END IF;
 END
 $$;
 
--- Notes kinds of values that were not seen before, whose views are due then.
+-- Notes kinds of values that were not seen before, whose views are due then. Features of the same
+-- names and types count once, but each that has a number above 2^63 - 1. The number of edits is not
+-- known to the planner, and a hash of them takes less than to sort them.
 CREATE OR REPLACE FUNCTION streetmap_note_kinds()
-RETURNS void LANGUAGE plpgsql AS $$
+RETURNS void LANGUAGE plpgsql SET enable_sort = off AS $$
 BEGIN
-    WITH held AS (
-        SELECT DISTINCT edit.collection, property.key AS name, CASE jsonb_typeof(property.value)
-            WHEN 'number' THEN
-                CASE WHEN property.value::numeric > 9223372036854775807 THEN 'large'
-                    ELSE 'number' END
-            ELSE jsonb_typeof(property.value) END AS kind
-        FROM streetmap_acting AS edit CROSS JOIN LATERAL jsonb_each(edit.properties) AS property
-        WHERE edit.is_last AND octet_length(property.key) <= 63
-            AND jsonb_typeof(property.value) <> 'null'
+    WITH forms AS MATERIALIZED (
+        SELECT DISTINCT edit.collection, ARRAY(SELECT jsonb_object_keys(edit.properties)) AS names,
+            jsonb_path_query_array(edit.properties, '$.*.type()') AS types,
+            CASE WHEN edit.properties @? 'strict $.* ? (@ > 9223372036854775807)'
+                THEN edit.properties END AS large
+        FROM streetmap_acting AS edit WHERE edit.is_last AND edit.properties IS NOT NULL
+    ), held AS (
+        SELECT DISTINCT forms.collection, property.name, CASE
+            WHEN property.type = 'number' AND (large -> name)::numeric > 9223372036854775807
+                THEN 'large'
+            ELSE property.type END AS kind
+        FROM forms CROSS JOIN LATERAL ROWS FROM (
+            unnest(names), jsonb_array_elements_text(types)) AS property (name, type)
+        WHERE octet_length(property.name) <= 63 AND property.type <> 'null'
     ), noted AS (
         INSERT INTO streetmap_properties (collection, name, kind)
         SELECT collection, name, kind FROM held
@@ -260,8 +307,8 @@ $$;
 -- nothing is known yet of the temporary table, the plans are those for few edits: by indexes.
 CREATE OR REPLACE FUNCTION streetmap_act(most_lines integer)
 RETURNS bigint LANGUAGE plpgsql
-SET enable_seqscan = off SET enable_hashjoin = off SET enable_mergejoin = off SET jit = off
-SET work_mem = '64MB' AS $$
+SET enable_seqscan = off SET enable_bitmapscan = off SET enable_hashjoin = off
+SET enable_mergejoin = off SET jit = off SET work_mem = '64MB' AS $$
 DECLARE
     begun bigint;
     ended bigint;
@@ -279,6 +326,7 @@ BEGIN
                                           nullif(fault.place, 0)));
     END IF;
     PERFORM streetmap_change_features();
+    PERFORM streetmap_note_tiles(ended);
     PERFORM streetmap_note_kinds();
     UPDATE streetmap_collections SET changed = ended
     WHERE id IN (SELECT collection FROM streetmap_acting);

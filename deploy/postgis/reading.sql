@@ -44,20 +44,21 @@ BEGIN
 END
 $$;
 
--- The time of a day, from its first to its last nanosecond; empty if the text is none.
+-- The time of a day, from its first to its last nanosecond; empty if the text is none. By the days
+-- since 1970, since names of time zones take long to read. PostgreSQL has no year 0 (see above).
 CREATE OR REPLACE FUNCTION streetmap_day(given text)
 RETURNS tstzrange LANGUAGE plpgsql IMMUTABLE PARALLEL SAFE AS $$
 DECLARE
-    year integer := substr(given, 1, 4)::integer;
-    month integer := substr(given, 6, 2)::integer;
-    day integer := substr(given, 9, 2)::integer;
-    begun timestamp;
+    year integer := substr(given, 1, 4);
+    month integer := substr(given, 6, 2);
+    day integer := substr(given, 9, 2);
+    begun integer;
 BEGIN
     IF NOT streetmap_is_day(year, month, day) THEN
         RETURN 'empty';
     END IF;
-    begun := streetmap_clock(year, month, day, 0, 0, 0);
-    RETURN tstzrange(begun AT TIME ZONE 'UTC', (begun + interval '1 day') AT TIME ZONE 'UTC');
+    begun := make_date(CASE year WHEN 0 THEN -1 ELSE year END, month, day) - date '1970-01-01';
+    RETURN tstzrange(to_timestamp(begun * 86400.0), to_timestamp((begun + 1) * 86400.0));
 END
 $$;
 
@@ -87,20 +88,23 @@ END
 $$;
 
 -- The time that a time property holds: a date-time, an interval, or a date. NULL if it has
--- none; empty if it cannot be read (bad_time). Views call it, whoever reads them.
-CREATE OR REPLACE FUNCTION streetmap_time(held jsonb)
-RETURNS tstzrange LANGUAGE plpgsql IMMUTABLE PARALLEL SAFE SET search_path FROM CURRENT AS $$
+-- none; empty if it cannot be read (bad_time).
+CREATE OR REPLACE FUNCTION streetmap_held_time(held jsonb)
+RETURNS tstzrange LANGUAGE plpgsql IMMUTABLE PARALLEL SAFE AS $$
 DECLARE
     given text := held #>> '{}';
-    slash integer := strpos(given, '/');
+    slash integer;
 BEGIN
-    IF given IS NULL THEN
+    -- Days first, since most times are days. No other value than a text is written so.
+    IF translate(given, '123456789', '000000000') = '0000-00-00' THEN
+        RETURN streetmap_day(given);
+    ELSIF given IS NULL THEN
         RETURN NULL;
     ELSIF jsonb_typeof(held) <> 'string' THEN
         RETURN 'empty';
-    ELSIF given ~ '^[0-9]{4}-[0-9]{2}-[0-9]{2}$' THEN
-        RETURN streetmap_day(given);
-    ELSIF slash > 0 THEN
+    END IF;
+    slash := strpos(given, '/');
+    IF slash > 0 THEN
         RETURN streetmap_span(left(given, slash - 1), substr(given, slash + 1));
     ELSIF given IN ('', '..') THEN
         RETURN 'empty';
@@ -109,13 +113,35 @@ BEGIN
 END
 $$;
 
+-- The same. Views call it, whoever reads them.
+CREATE OR REPLACE FUNCTION streetmap_time(held jsonb)
+RETURNS tstzrange LANGUAGE plpgsql IMMUTABLE PARALLEL SAFE SET search_path FROM CURRENT AS $$
+BEGIN
+    RETURN streetmap_held_time(held);
+END
+$$;
+
 -- A geometry of the grid in the office's system: each coordinate is the double nearest to
--- origin + grid / 1000, which a product of doubles need not be.
+-- origin + grid / 1000, which a product of doubles need not be. By its text, or, in a third of the
+-- time, by TWKB, whose whole numbers are divided by a power of ten that its first byte names: here
+-- 0 becomes 3. TWKB leaves out positions that are those before them, and parts of a collection have
+-- such a byte each.
 CREATE OR REPLACE FUNCTION streetmap_placed(
     grid geometry, easting bigint, northing bigint, srid integer
-) RETURNS geometry LANGUAGE sql IMMUTABLE PARALLEL SAFE AS $$
-    SELECT ST_GeomFromText(
-        ST_AsText(ST_TransScale(ST_Force2D(grid), easting, northing, 0.001, 0.001), 3), srid)
+) RETURNS geometry LANGUAGE plpgsql IMMUTABLE PARALLEL SAFE AS $$
+DECLARE
+    shifted geometry := ST_TransScale(ST_Force2D(grid), easting, northing, 1, 1);
+    packed bytea := ST_AsTWKB(shifted, 0);
+    placed geometry;
+BEGIN
+    IF get_byte(packed, 0) < 7 THEN
+        placed := ST_GeomFromTWKB(set_byte(packed, 0, get_byte(packed, 0) + 96));
+        IF ST_NPoints(placed) = ST_NPoints(grid) THEN
+            RETURN ST_SetSRID(placed, srid);
+        END IF;
+    END IF;
+    RETURN ST_GeomFromText(ST_AsText(ST_TransScale(shifted, 0, 0, 0.001, 0.001), 3), srid);
+END
 $$;
 
 -- The same in EPSG:3857, by PostGIS's own operation, which may fail: that does not lead there from

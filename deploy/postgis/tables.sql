@@ -66,6 +66,21 @@ BEGIN
 END
 $$;
 
+-- A tile of level 14 that a feature was in, or near: the serial of the state in which one of them
+-- last changed; and the tile as it was drawn in the state of a serial, if it was.
+CREATE TABLE IF NOT EXISTS streetmap_tiles (
+    collection text COLLATE "C" NOT NULL,
+    "column" integer NOT NULL,
+    "row" integer NOT NULL,
+    changed bigint NOT NULL,
+    drawn bigint,
+    is_cut boolean,
+    body bytea,
+    PRIMARY KEY (collection, "column", "row")
+);
+CREATE INDEX IF NOT EXISTS streetmap_tiles_due
+    ON streetmap_tiles (changed) WHERE drawn IS NULL OR drawn < changed;
+
 -- The kinds of values seen in a property: string, number, large (a number above 2^63 - 1),
 -- boolean, array, object. Nulls, and names of more than 63 bytes, are not noted.
 CREATE TABLE IF NOT EXISTS streetmap_properties (
@@ -93,10 +108,12 @@ CREATE TABLE IF NOT EXISTS streetmap_due_views (
 
 CREATE INDEX IF NOT EXISTS streetmap_journal_key ON streetmap_journal (key);
 
--- Long batch texts are packed and unpacked in less time, if this PostgreSQL was built so.
+-- Long batch texts, and tiles, are packed and unpacked in less time, if this PostgreSQL was built
+-- so.
 DO $$
 BEGIN
     ALTER TABLE streetmap_journal ALTER COLUMN batch SET COMPRESSION lz4;
+    ALTER TABLE streetmap_tiles ALTER COLUMN body SET COMPRESSION lz4;
 EXCEPTION
     WHEN feature_not_supported THEN NULL;
 END
@@ -127,7 +144,7 @@ BEGIN
         EXECUTE format('GRANT USAGE ON SCHEMA %I, %I TO streetmap_reader',
             current_schema, streetmap_views_schema());
         GRANT SELECT ON streetmap_mirror, streetmap_collections, streetmap_features,
-            streetmap_properties, streetmap_columns TO streetmap_reader;
+            streetmap_tiles, streetmap_properties, streetmap_columns TO streetmap_reader;
         EXECUTE format('GRANT SELECT ON ALL TABLES IN SCHEMA %I TO streetmap_reader',
             streetmap_views_schema());
     END IF;

@@ -77,10 +77,8 @@ class Catalogue:
 IDENTITY = Property(ID, frozenset({"string"}), "text")
 
 
-def read_changed(reading: Reading, collection: str) -> int:
-    """The serial of a collection's last change; a refusal if the mirror has none of this name."""
-    changed: int = read_opened(reading, collection)[3]
-    return changed
+def no_collection() -> Problem:
+    return Problem(404, "no_collection", "The mirror has no such collection.")
 
 
 def read_opened(reading: Reading, collection: str) -> Row:
@@ -89,7 +87,7 @@ def read_opened(reading: Reading, collection: str) -> Row:
     if "\0" not in collection:
         found = reading.row(SQL(COLLECTION).format(Literal(collection)))
     if found is None or found[1] is None:
-        raise Problem(404, "no_collection", "The mirror has no such collection.")
+        raise no_collection()
     return found
 
 

@@ -71,17 +71,19 @@ class MirrorSystem:
     srid: int
     grid: Grid
 
-    def within(self, bounds: Rectangle) -> Composable:
-        """That a feature's extent meets bounds on the grid, which are grown by a step."""
+    def bounds(self, bounds: Rectangle) -> Rectangle:
+        """Bounds on the grid in the system, grown by a step."""
         x0, y0, x1, y1 = bounds
-        values = (
+        return (
             (self.grid.easting + x0 - 1) / STEPS,
             (self.grid.northing + y0 - 1) / STEPS,
             (self.grid.easting + x1 + 1) / STEPS,
             (self.grid.northing + y1 + 1) / STEPS,
-            self.srid,
         )
-        return SQL(WITHIN).format(*map(Value, values))
+
+    def within(self, bounds: Rectangle) -> Composable:
+        """That a feature's extent meets bounds on the grid, which are grown by a step."""
+        return SQL(WITHIN).format(*map(Value, (*self.bounds(bounds), self.srid)))
 
 
 def joined(clauses: Iterable[Composable], word: str) -> Composable:

@@ -12,7 +12,7 @@ from ..problems import Problem
 from ..settings import Mirror, SettingsFault
 from ..systems import Systems
 from . import tiles
-from .catalogue import Catalogue, read_catalogue, read_changed
+from .catalogue import Catalogue, read_catalogue
 from .clauses import MirrorSystem
 from .database import Database, Reading
 from .pages import MirrorPage, Paging
@@ -35,7 +35,7 @@ class MirrorService:
         code = int(systems.office.uri.rpartition("/")[2])
         self.system = MirrorSystem(code, systems.office.grid)
         self.is_compared = False
-        # Each tile with the serial of its collection's last change.
+        # Each tile with its serial.
         self.kept: Kept[tuple[str, tiles.TileAddress], tuple[int, tiles.Tile]] = Kept(KEPT_BYTES)
 
     @classmethod
@@ -100,23 +100,26 @@ class MirrorService:
     async def tile(
         self, collection: str, at: tiles.TileAddress, is_known: Callable[[int], bool]
     ) -> tuple[int, tiles.Tile | None]:
-        """The serial of the collection's last change, and the tile unless that serial is known. A
-        tile is drawn once for each such serial."""
+        """The serial of the last change in or near a tile, and the tile unless that serial is
+        known. A tile is read or drawn once for each such serial."""
         kept = self.kept.get((collection, at))
 
         def tile(reading: Reading) -> tuple[int, tiles.Tile | None]:
-            changed = read_changed(reading, collection)
-            if is_known(changed):
-                return changed, None
-            if kept is not None and kept[0] == changed:
+            state = tiles.read_state(reading, collection, at)
+            if is_known(state.serial):
+                return state.serial, None
+            if kept is not None and kept[0] == state.serial:
                 return kept
-            return changed, tiles.draw(reading, self.system, self.systems, collection, at)
+            if state.is_drawn:
+                return state.serial, tiles.read_drawn(reading, collection, at)
+            drawn = tiles.draw(reading, self.system, self.systems, collection, at)
+            return state.serial, drawn
 
-        changed, drawn = await self.read(tile)
+        serial, drawn = await self.read(tile)
         if drawn is not None:
             size = len(drawn.body) + ENTRY_BYTES
-            self.kept.put((collection, at), (changed, drawn), size)
-        return changed, drawn
+            self.kept.put((collection, at), (serial, drawn), size)
+        return serial, drawn
 
     async def close(self) -> None:
         self.database.close()

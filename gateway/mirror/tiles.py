@@ -1,9 +1,10 @@
 """Vector tiles (MVT 2.1) of collections, in the tile matrix set WebMercatorQuad (OGC 17-083r4, D.1;
 OGC 20-057).
 
-PostGIS draws them, by its own operation from the office's system to EPSG:3857. So the gateway
-compares that with its own operation first, and serves no tile if they differ. The tag of a tile is
-the serial of its collection's last change.
+PostGIS draws them (deploy/postgis/tiles.sql), by its own operation from the office's system to
+EPSG:3857. So the gateway compares that with its own operation first, and serves no tile if they
+differ. The tag of a tile is the serial of the last change in or near it, and for those of low
+levels that of its collection's.
 """
 
 import math
@@ -13,12 +14,12 @@ from decimal import Decimal
 from typing import Any
 
 import numpy
-from psycopg2.sql import SQL, Literal as Value
+from psycopg2.sql import SQL, Composable, Literal as Value
 
 from ..grid import BOUND, STEPS, nearest_steps
 from ..problems import Problem
 from ..systems import CRS84, EPSG, Systems
-from .catalogue import Catalogue
+from .catalogue import Catalogue, no_collection
 from .clauses import MirrorSystem
 from .database import Reading
 
@@ -30,30 +31,29 @@ LEVELS = 25
 HALF, UNITS, MARGIN = Decimal("20037508.3427892480"), 4096, 64
 # The cells of a side of a tile, and the metres of one on paper, in the definition of the set.
 PIXELS, PAPER = 256, Decimal("0.00028")
-# The first features of a tile by id that are drawn; the others are left out.
-MOST_FEATURES = 10_000
-# The first features are taken in the order of the CTE. OFFSET 0 has each geometry made once,
-# although it is both tested and drawn. A row that another hand put in may have no `mercator`.
-TILE = """
-WITH chosen AS MATERIALIZED (
-    SELECT id, properties, geometry, mercator FROM streetmap_features
-    WHERE collection = {collection} AND {within}
-    ORDER BY id LIMIT {most} + 1
-)
-SELECT (SELECT count(*) FROM chosen) > {most}, ST_AsMVT(drawn, {collection}, {units}, 'geometry')
-FROM (
-    SELECT id, CASE WHEN ({has_id}) THEN properties - 'id' ELSE properties END AS properties,
-        ST_AsMVTGeom(
-            coalesce(mercator, ST_Transform(geometry, 3857)),
-            ST_TileEnvelope({level}, {column}, {row}), {units}, {margin}
-        ) AS geometry
-    FROM (SELECT * FROM chosen LIMIT {most}) AS first
-    OFFSET 0
-) AS drawn WHERE geometry IS NOT NULL
+# The mirror notes of which serial the last change in or near each tile of one level is. Above the
+# widest level, whose tiles have many of those, the collection's last change counts.
+NOTED, WIDEST = 14, 10
+# A tile that is not noted is as new as its collection. One that was drawn ahead is in the mirror.
+STATE = """
+SELECT coalesce(near.changed, opened.changed), coalesce(near.is_drawn, false)
+FROM streetmap_collections AS opened LEFT JOIN LATERAL (
+    SELECT max(changed) AS changed, bool_and({level} = {noted} AND drawn >= changed) AS is_drawn
+    FROM streetmap_tiles
+    WHERE {level} >= {widest} AND collection = opened.id
+        AND "column" BETWEEN {first_column} AND {last_column}
+        AND "row" BETWEEN {first_row} AND {last_row}
+) AS near ON true
+WHERE opened.id = {collection}
 """
-# Whether a property has the name of the id, which a tile has once.
-HAS_ID = """
-SELECT EXISTS (SELECT FROM streetmap_properties WHERE collection = {collection} AND name = 'id')
+DRAWN = """
+SELECT is_cut, body FROM streetmap_tiles
+WHERE collection = {collection} AND "column" = {column} AND "row" = {row}
+"""
+# The tile has the first 10,000 features by id; the others are left out.
+DRAW = """
+SELECT is_cut, body FROM ST_MakeEnvelope({west}, {south}, {east}, {north}, {srid}) AS bounds
+CROSS JOIN LATERAL streetmap_draw({collection}, bounds, {level}, {column}, {row})
 """
 PLACED = """
 SELECT ST_X(it.placed), ST_Y(it.placed) FROM (
@@ -97,6 +97,14 @@ class TileAddress:
             raise no_tile()
         return found
 
+    def noted(self, place: int) -> tuple[int, int]:
+        """The first and the last column, or row, of the noted level that a tile of this column, or
+        row, is in, or that it and its margin meet."""
+        if self.level >= NOTED:
+            return place >> (self.level - NOTED), place >> (self.level - NOTED)
+        each, around = 1 << (NOTED - self.level), MARGIN / UNITS
+        return math.floor((place - around) * each), math.floor((place + 1 + around) * each)
+
     def bounds(self) -> list[Decimal]:
         """West, south, east and north of the tile and its margin, in degrees. West may be below
         -180, and east above 180."""
@@ -121,6 +129,42 @@ class Tile:
     is_cut: bool
 
 
+@dataclass(frozen=True)
+class TileState:
+    """The serial of the last change in or near a tile, and whether the mirror has it drawn."""
+
+    serial: int
+    is_drawn: bool
+
+
+def read_state(reading: Reading, collection: str, at: TileAddress) -> TileState:
+    """The state of a tile; a refusal if the mirror has no collection of this name."""
+    first_column, last_column = at.noted(at.column)
+    first_row, last_row = at.noted(at.row)
+    asked = SQL(STATE).format(
+        collection=Value(collection),
+        level=Value(at.level),
+        noted=Value(NOTED),
+        widest=Value(WIDEST),
+        first_column=Value(first_column),
+        last_column=Value(last_column),
+        first_row=Value(first_row),
+        last_row=Value(last_row),
+    )
+    found = None if "\0" in collection else reading.row(asked)
+    if found is None:
+        raise no_collection()
+    return TileState(*found)
+
+
+def read_drawn(reading: Reading, collection: str, at: TileAddress) -> Tile:
+    """The tile as the mirror has it."""
+    asked = SQL(DRAWN).format(
+        collection=Value(collection), column=Value(at.column), row=Value(at.row)
+    )
+    return tile_of(reading, asked)
+
+
 def draw(
     reading: Reading, system: MirrorSystem, systems: Systems, collection: str, at: TileAddress
 ) -> Tile:
@@ -128,18 +172,24 @@ def draw(
     region = systems.by_uri[CRS84].box(at.bounds()).region((-BOUND, -BOUND, BOUND, BOUND))
     if region.bounds is None:
         return Tile(b"", False)
-    asked = SQL(TILE).format(
+    west, south, east, north = system.bounds(region.bounds)
+    asked = SQL(DRAW).format(
         collection=Value(collection),
-        has_id=SQL(HAS_ID).format(collection=Value(collection)),
-        within=system.within(region.bounds),
-        most=Value(MOST_FEATURES),
-        units=Value(UNITS),
-        margin=Value(MARGIN),
+        west=Value(west),
+        south=Value(south),
+        east=Value(east),
+        north=Value(north),
+        srid=Value(system.srid),
         level=Value(at.level),
         column=Value(at.column),
         row=Value(at.row),
     )
-    is_cut, body = reading.values(asked)
+    return tile_of(reading, asked)
+
+
+def tile_of(reading: Reading, query: Composable) -> Tile:
+    """The tile of the one row of a query."""
+    is_cut, body = reading.values(query)
     return Tile(body or b"", is_cut == TRUE)
 
 

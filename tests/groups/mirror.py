@@ -8,7 +8,8 @@ with the server's exports by `mirror_check.py`. QGIS and others open the views.
 from followers_tests import postgres
 from followers_tests.processes import running, wait_until
 from harness import Context
-from mirror_tests import acting, changes, filling, kills, over_mirror, rows, times, tools, views
+from mirror_tests import acting, changes, drawn, filling, kills, over_mirror, rows, times, tools
+from mirror_tests import views
 from mirror_tests.mirrors import Mirror
 
 PACKAGES = (
@@ -52,6 +53,7 @@ def run(context: Context) -> None:
         rows.check_towns(context, cluster)
         changes.check_changes(context, cluster)
         changes.check_places(context, cluster)
+        drawn.check_drawn(context, cluster)
         views.check_views(context, cluster)
         tools.check_tools(context, cluster)
         filling.check_filling(context, cluster)

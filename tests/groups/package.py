@@ -74,6 +74,7 @@ share/streetmap/deploy/journal_lease.py
 share/streetmap/deploy/journal_lines.py
 share/streetmap/deploy/journal_mirror.py
 share/streetmap/deploy/journal_table.py
+share/streetmap/deploy/journal_tiles.py
 share/streetmap/deploy/journal_to_postgres.py
 share/streetmap/deploy/mirror_check.py
 share/streetmap/deploy/postgis/acting.sql
@@ -82,6 +83,7 @@ share/streetmap/deploy/postgis/indexes.sql
 share/streetmap/deploy/postgis/names.sql
 share/streetmap/deploy/postgis/reading.sql
 share/streetmap/deploy/postgis/tables.sql
+share/streetmap/deploy/postgis/tiles.sql
 share/streetmap/deploy/postgis/views.sql
 share/streetmap/deploy/program.py
 share/streetmap/deploy/report_failure.sh
