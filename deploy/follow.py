@@ -1,7 +1,7 @@
 """Posts the lines of a journal, in order, to another Streetmap: a follower, which answers pages.
 
     python3 deploy/follow.py SOURCE URL [--town NAME] [--login FILE] [--ca FILE]
-                             [--position FILE] [--journal F] [--once]
+                             [--token FILE] [--position FILE] [--journal F] [--once]
 
 SOURCE is one of these. URL is that of the follower, which nobody else sends batches to. It runs
 until it is stopped, at any time and in any way, and then goes on where the follower is.
@@ -27,12 +27,17 @@ start, by their digests, and before each line what F has there: so nothing is se
 that somebody else gave a batch. Without F, and of a batch that comes between the comparison and the
 line, that is seen once one line was sent, and no further one is.
 
+With `--token FILE` each request to the follower has `Authorization: Bearer TOKEN`, and a follower
+that `serve --follower` guards takes batches of nobody else. TOKEN is the first line of FILE: 16 to
+128 visible ASCII characters. It is sent over TLS, and over plain HTTP to this machine alone.
+
 Who is away is tried again, with pauses that grow to ten seconds; standard error says so. It ends
 with status 1 at what a person has to examine, and sends nothing after it:
 
     forked SERIAL ANSWERED    the follower has another batch there, or has it elsewhere
     not_a_follower KEY        the follower has collections, and lacks the first batch
-    refused SERIAL CODE ..    the follower refused the batch, with the place and the cause
+    refused SERIAL CODE ..    the follower refused the batch, with the place and the cause; or all
+                              (`fenced`), or all without its token (`follower`)
     body_too_large SERIAL     the batch text is longer than a body; the options that help follow
     position_ahead SERIAL     the follower lacks the batch up to which it should go on
     lines_missing FROM TO     SOURCE begins after what the follower needs next
@@ -41,13 +46,15 @@ with status 1 at what a person has to examine, and sends nothing after it:
     bad_position FILE         FILE has no position
     bad_source CODE           the database refuses a query, or the server a request
 
-`position_not_written FILE` has status 3; `usage`, `bad_login` and `bad_authority` have 2.
+`position_not_written FILE` has status 3; `usage`, `bad_login`, `bad_authority` and `bad_token FILE`
+have 2.
 """
 
 import argparse
 import bisect
 import http.client
 import json
+import re
 import sys
 import time
 from contextlib import suppress
@@ -56,7 +63,7 @@ from pathlib import Path
 from typing import Any
 from urllib.parse import urlsplit
 
-from journal_changes import Changes, is_address, login_of
+from journal_changes import Changes, is_address, is_this_machine, login_of
 from journal_files import JournalFiles, last_line, replace_file
 from journal_lines import (
     MOST_OF_BODY,
@@ -81,6 +88,8 @@ POSITION_SECONDS = 0.5
 IDLE_SECONDS = 20
 # Of so many lines one is asked for, as long as the follower has it.
 PROBED = 100
+# The token of a follower, and one byte more than it has at most.
+TOKEN, MOST_OF_TOKEN = re.compile(rb"[!-~]{16,128}"), 129
 # Answers of a follower, or of a proxy before it, that is away for now.
 PASSING = (408, 429, 500, 502, 503, 504)
 
@@ -117,14 +126,18 @@ class Answer:
 
 
 class Follower:
-    """A Streetmap at a URL, over one connection that is kept."""
+    """A Streetmap at a URL, over one connection that is kept. Each request has the token, if it has
+    one."""
 
-    def __init__(self, url: str) -> None:
+    def __init__(self, url: str, token: str = "") -> None:
         parts = urlsplit(url)
         over_tls, plain = http.client.HTTPSConnection, http.client.HTTPConnection
         self.kind = over_tls if parts.scheme == "https" else plain
         self.url, self.host, self.port = url, parts.hostname or "", parts.port
         self.path = parts.path.rstrip("/")
+        if token and self.kind is plain and not is_this_machine(self.host):
+            raise Fault("bad_token", "a token is sent over https, or to this machine", status=2)
+        self.fields = {"Authorization": f"Bearer {token}"} if token else {}
         self.connection: http.client.HTTPConnection | None = None
         self.used = 0.0
 
@@ -151,7 +164,7 @@ class Follower:
         """What is answered to a request. Ends as `Away` if no answer comes, or a passing one."""
         try:
             connection = self.connected()
-            connection.request(method, self.path + path, body)
+            connection.request(method, self.path + path, body, self.fields)
             response = connection.getresponse()
             answer = Answer(response.status, read_json(response.read()))
         except (OSError, http.client.HTTPException) as error:
@@ -432,6 +445,23 @@ def source_of(asked: argparse.Namespace) -> Source:
     return TableSource(text, asked.town)
 
 
+def token_of(path: Path | None) -> str:
+    """The token in the first line of a file; none without a file. It is read as the server reads
+    it."""
+    if path is None:
+        return ""
+    try:
+        if path.stat().st_mode & 0o007:
+            raise Fault("bad_token", path, "any user may read it: chmod 600", status=2)
+        with path.open("rb") as file:
+            line = file.read(MOST_OF_TOKEN).partition(b"\n")[0]
+    except OSError as error:
+        raise Fault("bad_token", path, error, status=2) from error
+    if TOKEN.fullmatch(line) is None:
+        raise Fault("bad_token", path, "its first line is no token", status=2)
+    return line.decode()
+
+
 def own_place(journal: Path) -> Place:
     """The place of a follower, by its own journal."""
     try:
@@ -448,6 +478,7 @@ def arguments() -> argparse.Namespace:
     words.add_argument("--town", type=town_of, default="", metavar="NAME", help="of several towns")
     words.add_argument("--login", type=path_of, metavar="FILE", help="has USER:PASSWORD")
     words.add_argument("--ca", type=path_of, metavar="FILE", help="certificates that are trusted")
+    words.add_argument("--token", type=path_of, metavar="FILE", help="has the follower's token")
     words.add_argument("--position", type=Path, help="the file that keeps the serial")
     words.add_argument("--journal", default="", help="the follower's own journal, if it has one")
     words.add_argument("--once", action="store_true", help="ends with the lines that are there")
@@ -460,7 +491,7 @@ def main() -> int:
         position = PositionFile(asked.position) if asked.position else None
         own = JournalFiles(Path(asked.journal)) if asked.journal else None
         place = own_place(own.path) if own else position.read() if position else Place()
-        follower = Follower(asked.url)
+        follower = Follower(asked.url, token_of(asked.token))
         run(Following(source_of(asked), follower, place, position, own), asked.once)
     except Fault as fault:
         return end(NAME, fault)
