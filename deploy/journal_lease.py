@@ -4,12 +4,14 @@
 
 Its one row has an epoch and a holder, and a script has both in a file of its own machine. Each
 transaction that stores lines compares the two, and locks the row against others until it ends: a
-script with an older epoch, or with none, is `fenced`, and puts nothing in. A promotion raises the
-epoch by one for a new holder. The higher epoch counts, so a database that was set back to before a
-promotion takes its lease from the file again.
+script with an older epoch, or with none, is `fenced` (status 4), and puts nothing in. A promotion
+raises the epoch by one for a new holder. The higher epoch counts, so a database that was set back
+to before a promotion takes its lease from the file again. A script that has no line to store reads
+the row each second, without a lock.
 
-What it does not do: a server learns nothing of it, and accepts batches as before. Nor does it bind
-another database, scripts of versions before it, and whoever writes to the table by other means.
+What it does not do: a server does not read it. The unit of a script that is `fenced` has its server
+refuse batches from then on (streetmap-journal@.service). Nor does it bind another database, scripts
+of versions before it, and whoever writes to the table by other means.
 """
 
 import os
@@ -28,7 +30,8 @@ CREATE TABLE IF NOT EXISTS streetmap_lease (
     is_only_row boolean PRIMARY KEY DEFAULT true CHECK (is_only_row),
     epoch bigint NOT NULL, holder text NOT NULL, taken timestamptz NOT NULL DEFAULT now())
 """
-FOUND = "SELECT epoch, holder, taken::text FROM streetmap_lease FOR SHARE"
+FOUND = "SELECT epoch, holder, taken::text FROM streetmap_lease"
+LOCKED = f"{FOUND} FOR SHARE"
 TAKE = """
 INSERT INTO streetmap_lease AS lease (epoch, holder) VALUES (%s, %s)
 ON CONFLICT (is_only_row) DO UPDATE SET epoch = excluded.epoch, holder = excluded.holder,
@@ -75,10 +78,10 @@ class LeaseFile:
             raise Fault("lease_not_written", self.path, error.strerror, status=3) from error
 
 
-def held(cursor: Any) -> tuple[Lease, str]:
+def held(cursor: Any, query: str = LOCKED) -> tuple[Lease, str]:
     """The lease of a table that is there, which stays until the transaction ends, and since when;
     epoch 0 if nobody has it."""
-    cursor.execute(FOUND)
+    cursor.execute(query)
     epoch, holder, since = cursor.fetchone() or (0, "nobody", "ever")
     return Lease(epoch, holder), since
 
@@ -95,6 +98,16 @@ def hold(cursor: Any, own: Lease, is_there: bool) -> None:
     if found.epoch < own.epoch:
         cursor.execute(TAKE, (own.epoch, own.holder))
         found, since = held(cursor)
-    if found.epoch > 0 and found != own:
+    refuse_other(found, since, own)
+
+
+def check(cursor: Any, own: Lease) -> None:
+    """Ends as `fenced EPOCH OWN` if another has the lease of a table that is there. Nothing is
+    locked, so the database writes nothing."""
+    refuse_other(*held(cursor, FOUND), own)
+
+
+def refuse_other(found: Lease, since: str, own: Lease) -> None:
+    if found.epoch >= own.epoch and found != own:
         more = f"{found.holder} has the lease since {since}, and this machine is {own.holder}"
-        raise Fault("fenced", found.epoch, own.epoch, more=(more,))
+        raise Fault("fenced", found.epoch, own.epoch, status=4, more=(more,))

@@ -9,8 +9,8 @@ digest before it, and then of the line with its line feed. Before the first line
 two journals with the same digest at a serial have the same lines up to it.
 
 A script that ends by itself prints `NAME: CODE ..` on standard error. Its exit status is 0 if it
-was to end (`--once`), 1 for what is the same at the next start, 2 for options it does not take,
-and 3 if a file of its own cannot be written.
+was to end (`--once`), 1 for what is the same at the next start, 2 for options it does not take, 3
+if a file of its own cannot be written, and 4 if another machine has its lease (`fenced`).
 """
 
 import argparse

@@ -27,7 +27,7 @@ from dataclasses import dataclass
 from typing import Any
 
 import psycopg2
-from journal_lease import ALONE, Lease, held, hold
+from journal_lease import ALONE, Lease, check, held, hold
 from journal_lines import NO_LINES, Fault, Line, SourceAway
 from psycopg2.extensions import make_dsn, parse_dsn
 
@@ -260,6 +260,12 @@ class JournalTable:
     def hold(self, cursor: Any) -> None:
         """Has the lease hold until the transaction ends. Ends as `fenced` if another has it."""
         hold(cursor, self.lease, self.has(cursor, "streetmap_lease"))
+
+    def check_lease(self) -> None:
+        """Ends as `fenced` if another has the lease now."""
+        with self.transaction() as cursor:
+            if self.has(cursor, "streetmap_lease"):
+                check(cursor, self.lease)
 
     def held(self) -> Lease:
         """The lease that the table has; epoch 0 if nobody has it."""

@@ -25,7 +25,8 @@ digests of what the table has are compared with the lines that it puts in or com
 
 With `--lease FILE` it puts lines in only as long as the table's lease is its own, which FILE keeps
 (journal_lease.py). The first such script takes the lease, and all others are refused from then on,
-also those without the option. `--promote` has this machine take it, with the next epoch.
+also those without the option. `--promote` has this machine take it, with the next epoch: another
+that runs ends within a second or so, also if no line comes.
 
 With `--renew` it makes the table again from the first line on that J has with another text, or has
 no more, or whose digest is wrong; what the table had there is moved to
@@ -33,7 +34,8 @@ no more, or whose digest is wrong; what the table had there is moved to
 that it had if none is given. With `--upgrade` it gives a table of an earlier version its columns,
 and fills in digests that are missing. After each of these three it ends.
 
-It ends with status 1 at what a person has to examine, and puts nothing in after it:
+It ends with status 1 at what a person has to examine, and puts nothing in after it; `fenced` has
+status 4, at which its unit has the server refuse batches:
 
     other_text SERIAL        the table has another text there, the first that differs: it is another
                              server's
@@ -56,6 +58,7 @@ It ends with status 1 at what a person has to examine, and puts nothing in after
 
 import argparse
 import sys
+import time
 from collections.abc import Iterable, Iterator
 from pathlib import Path
 
@@ -68,6 +71,8 @@ from journal_table import JournalTable, OtherText
 NAME = "journal_to_postgres"
 # A transaction has at most MOST_LINES lines, or those that reach MOST_BYTES bytes.
 MOST_LINES, MOST_BYTES = 1000, 4_194_304
+# In seconds: between two readings of the lease while no line comes.
+LEASE_SECONDS = 1.0
 
 
 def groups(lines: Iterable[Line]) -> Iterator[list[Line]]:
@@ -101,6 +106,7 @@ class Copying:
         self.renews = renews
         self.lease = lease
         self.serial: int | None = None
+        self.lease_read = 0.0
 
     def begin(self) -> int:
         """The serial before that of the last line that both have."""
@@ -157,6 +163,13 @@ class Copying:
             self.put(group)
             self.serial = group[-1].serial
         self.table.complete()
+        self.check_lease()
+
+    def check_lease(self) -> None:
+        """Reads the lease, if that is some time ago. Ends as `fenced` if it is another's."""
+        if time.monotonic() - self.lease_read > LEASE_SECONDS:
+            self.table.check_lease()
+            self.lease_read = time.monotonic()
 
     def put(self, group: list[Line]) -> None:
         try:

@@ -17,6 +17,11 @@ SCRIPT = "journal_to_postgres.py"
 HELD = "SELECT epoch, holder FROM streetmap_lease"
 
 
+def status_of(fault: str) -> int:
+    """The exit status of a fault."""
+    return 4 if fault.startswith("fenced") else 1
+
+
 @dataclass
 class Leases:
     """A database, and two machines that both have a journal and a place for a lease."""
@@ -42,7 +47,7 @@ class Leases:
         ended = subprocess.run(command, capture_output=True, text=True, check=False)
         said = [it.partition(": ")[2] for it in ended.stderr.splitlines() if "going on" not in it]
         got = ended.returncode, said[:1]
-        self.context.check(what, got, (1, [ends]) if ends else ENDED)
+        self.context.check(what, got, (status_of(ends), [ends]) if ends else ENDED)
         self.kept(what, kept)
 
     def kept(self, what: str, count: int) -> None:
@@ -82,7 +87,7 @@ def check_one(leases: Leases) -> None:
     context.check("it gets no lease", leases.path("new", "lease").exists(), False)
     for words in (["--once"], ["--renew"], ["--upgrade"]):
         status, said = script.ends(journal, leases.database.dsn, *words)
-        context.check(f"without the option, {words}", (status, said[0]), (1, "fenced 1 0"))
+        context.check(f"without the option, {words}", (status, said[0]), (4, "fenced 1 0"))
     leases.kept("without the option", 4)
     for text in ("", "x y", "1", "-1 x"):
         leases.path("none", "lease").write_text(text)
@@ -100,10 +105,10 @@ def check_promotion(leases: Leases) -> None:
         leases.command("new", 5)
         context.check("the promotion", leases.promote("new").wait(context.seconds), 0)
         leases.is_held("promoted", "new", 2)
+        assert old.process is not None
+        context.check("the old one ends, idle", old.process.wait(context.seconds), 4)
         with leases.path("old", "journal").open("ab") as journal:
             journal.write(LINES[5])
-        assert old.process is not None
-        context.check("the old one ends", old.process.wait(context.seconds), 1)
     said = [it for it in old.log.read_text().splitlines() if "fenced" in it]
     context.check("what it says", said, ["journal_to_postgres: fenced 2 1"])
     leases.kept("what came too late", 5)
@@ -146,7 +151,7 @@ def check_race(leases: Leases) -> None:
         commands = [leases.command(name, 8, "--once") for name in names]
         both = [subprocess.Popen(it, stderr=subprocess.DEVNULL) for it in commands]
         ended = sorted(it.wait(leases.context.seconds) for it in both)
-        leases.context.check(f"two at once, {at}", ended, [0, 1])
+        leases.context.check(f"two at once, {at}", ended, [0, 4])
 
 
 def check_leases(context: Context, cluster: Database) -> None:

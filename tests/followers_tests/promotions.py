@@ -5,7 +5,7 @@ from contextlib import contextmanager
 from dataclasses import dataclass, replace
 from pathlib import Path
 
-from followers_tests.leases import SCRIPT, Leases
+from followers_tests.leases import SCRIPT, Leases, status_of
 from followers_tests.postgres import Database
 from followers_tests.processes import Process, Script, running, wait_until
 from followers_tests.rows import LINES, TEXTS, lamp, text_of
@@ -84,7 +84,8 @@ def check_two(old: Machine, new: Machine) -> None:
             (old.follower(), "forked 5 b5 is n5 in the source"),
         ):
             with running(process):
-                context.check(f"the old one: {process.name}", ended(process), (1, fault))
+                wanted = status_of(fault), fault
+                context.check(f"the old one: {process.name}", ended(process), wanted)
     context.check("the table", database.journal() == whole, True)
     context.check("the old one's batches", old.journal.read_bytes(), b"".join(LINES[:5]))
     context.check("the new one's", new.journal.read_bytes() == whole, True)
