@@ -233,6 +233,11 @@ def check_words(context: Context) -> None:
         ("settings before tags", "CONDITIONAL=yes\n", "\n", []),
         ("changes", "CHANGES=\n", "CHANGES=yes\n", [tags, "--changes"]),
         ("settings before changes", "CHANGES=\n", "\n", [tags]),
+        ("a fenced server", "FENCED=\n", "FENCED=yes\n", [tags, "--fenced"]),
+        ("settings before it", "FENCED=\n", "\n", [tags]),
+        ("a token", "FOLLOWER_TOKEN=\n", "FOLLOWER_TOKEN=/t k\n", [tags, "--follower", "/t k"]),
+        ("settings before tokens", "FOLLOWER_TOKEN=\n", "\n", [tags]),
+        ("both", "FOLLOWER_TOKEN=\n", "FOLLOWER_TOKEN=/t\nFENCED=1\n", [tags, "--fenced"]),
         ("a missing journal", "JOURNAL=\n", "\n", [tags]),
         ("a journal", "JOURNAL=\n", f"JOURNAL={path}\n", [tags, "--journal", path]),
         (

@@ -1,6 +1,7 @@
 """systemctl of a machine of a test: starts and stops streetmap@town by the line of its unit.
 
-It is called as `systemctl.py MACHINE PROGRAM start|stop|restart|is-active .. streetmap@town`.
+It is called as `systemctl.py MACHINE PROGRAM start|stop|restart|try-restart|is-active ..
+streetmap@town`. Of other units, and by other commands, nothing is done.
 The server goes on when this has ended; its process is named in a file of the machine. A file
 `kill-at` names a command at which the caller is killed: after a stop, and before a start. While
 a file `is-restarting` exists, the unit waits to be started again after a crash.
@@ -8,6 +9,7 @@ a file `is-restarting` exists, the unit waits to be started again after a crash.
 
 import contextlib
 import os
+import re
 import signal
 import subprocess
 import sys
@@ -18,6 +20,8 @@ sys.path.insert(0, str(Path(__file__).resolve().parents[1]))
 
 from units import started  # noqa: E402
 
+# A setting in the environment, whose paths are those of the machine already.
+SETTING = re.compile("[A-Z_]+=")
 UNIT = Path(__file__).resolve().parents[2] / "deploy" / "streetmap@.service"
 
 
@@ -43,7 +47,7 @@ def start(machine: Path, program: str) -> None:
     places = {"/usr/bin/streetmap": program, "/var/lib/": f"{machine}/var/lib/"}
     words = started(UNIT, settings)
     for old, new in places.items():
-        words = [word if word.startswith("JOURNAL=") else word.replace(old, new) for word in words]
+        words = [word if SETTING.match(word) else word.replace(old, new) for word in words]
     with (machine / "unit.log").open("ab") as log:
         process = subprocess.Popen(words, stdout=log, stderr=log, start_new_session=True)
     (machine / "unit.pid").write_text(f"{process.pid} {began(process.pid)}")
@@ -77,6 +81,8 @@ def main() -> int:
         if "--quiet" not in sys.argv:
             print("activating" if waits else "active" if active(folder) else "inactive")
         return 0 if active(folder) else 3
+    if command == "try-restart" and active(folder) is not None:
+        command = "restart"
     if command in ("stop", "restart"):
         stop(folder)
     kill_caller(folder, command)
