@@ -6,15 +6,15 @@ the standby's. nginx sends what reads to the followers, and what writes to the f
 end each collection's export is the same bytes on all, and each journal that of the first.
 
 Before that, over a PostgreSQL of its own: digests and audits, single bits that are flipped in files
-and tables, leases and promotions, restores up to a serial or a time, and followers that somebody
-else has given batches.
+and tables, leases and promotions, restores up to a serial or a time, followers that somebody else
+has given batches, followers with a token, and primaries that are fenced.
 """
 
 import random
 import time
 
 from followers_tests import audits, figures, flips, forks, fronts, leases, parts, postgres
-from followers_tests import promotions, reading, restores, rows, tables
+from followers_tests import promotions, reading, restores, roles, rows, tables
 from followers_tests.load import Load, delays, tell_delays
 from followers_tests.processes import running, wait_until
 from followers_tests.site import Site, site
@@ -108,6 +108,7 @@ def check_tables_alone(context: Context) -> None:
         audits.check_audits(context, own)
         leases.check_leases(context, own)
         promotions.check_promotions(context, own)
+        roles.check_roles(context, own)
         restores.check_restores(context, own)
         flips.check_flips(context, own)
 
@@ -120,6 +121,7 @@ def run(context: Context) -> None:
     if not context.takes("serve", context.folder / "none", *words):
         return
     forks.check_forks(context)
+    roles.check_guards(context)
     check_tables_alone(context)
     with site(context) as made:
         tables.check_tables(context, made.primary)
