@@ -57,11 +57,7 @@ pub(crate) fn next_id(page: Page) -> Option<Id>
 
 /// Appends features as they are in an array, each after a comma; the first has one only if others
 /// come before it.
-fn push_part(
-    out: &mut String,
-    features: &[PackedFeature],
-    later: bool,
-) -> Result<(), AllocError>
+fn push_part(out: &mut String, features: &[PackedFeature], later: bool) -> Result<(), AllocError>
     ensures { OnOk result (string_bytes out.new
         ≡ string_bytes out.old ++ part_text later features.now) }
 {
