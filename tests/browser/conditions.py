@@ -11,7 +11,7 @@ from harness import Context
 
 from browser.browsers import browser
 from browser.merging import change, theirs
-from browser.page import Page
+from browser.page import NOT_YET, Page
 from browser.relay import response
 from browser.site import Site, site
 from browser.towns import town
@@ -195,8 +195,10 @@ def crowded(context: Context) -> None:
         found = page.until(wanted, lambda: page.texts("#panel-queue li.batch .buttons button"))
         context.check("it is free", found, wanted)
         made.relay.before = lambda _: None
-        page.press("Try now")
-        page.wait_sent()
+        # The page may have begun a try by itself meanwhile.
+        with contextlib.suppress(*NOT_YET):
+            page.press_if_there("Try now")
+        page.wait_sent(120)
         context.check("at last", kept(made)["kind"], "mine")
         context.check("under one key", len(set(made.relay.keys())), 1)
 

@@ -146,18 +146,18 @@ class Page:
 
     def press(self, text: str, within: str = "body") -> None:
         """Presses the button with this text."""
+        self.wait(f"the button {text!r}", lambda: self.press_if_there(text, within))
+
+    def press_if_there(self, text: str, within: str = "body") -> bool:
+        """Presses the button with this text, if it is there now. Returns whether it was."""
         match = (
             "return [...document.querySelectorAll(`${arguments[0]} button`)].find(it =>"
             " it.innerText.trim() === arguments[1] && it.checkVisibility()) ?? null"
         )
-
-        def pressed() -> bool:
-            button = self.script(match, within, text)
-            if button is not None:
-                button.click()
-            return button is not None
-
-        self.wait(f"the button {text!r}", pressed)
+        button = self.script(match, within, text)
+        if button is not None:
+            button.click()
+        return button is not None
 
     def click(self, selector: str) -> None:
         """Presses an element, also if it is drawn again meanwhile or not shown yet."""
