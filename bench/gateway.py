@@ -278,8 +278,8 @@ def walked(service: Service) -> list[str]:
     if service.name != "gateway":
         offsets = range(0, FEATURES, EACH_WALKED * LIMIT)
         targets = [service.target(f"&offset={offset}") for offset in offsets]
-        goes_on = f"lamp-{offsets[1]:06}" in service.page(targets[1]).decode()
-        return targets if goes_on else []
+        first, second = (json.loads(service.page(it))["features"] for it in targets[:2])
+        return targets if first != second else []
     found: list[str] = []
     target: str | None = service.target()
     while target is not None:
