@@ -18,11 +18,11 @@ ghost use Rattle.streetmap_batch.specs.BatchView.{edit_value, feature_edit_value
 use crate::batch_fault::BatchFault;
 use crate::edit::{CollectionId, Edit, TimeProperty, Title};
 use crate::format::{Format, Operation};
-use crate::member::{has_only, operation_at, text_at};
+use crate::member::{has_only, operation_at, take_member, text_at};
 use serde_json::Value;
 use std::alloc::Global;
 use streetmap_feature_text::WrittenFeature;
-use streetmap_geojson::{Id, JsonFault, read_feature, read_id};
+use streetmap_geojson::{Id, JsonFault, read_id, take_feature};
 
 /// The fault of an edit at that place which does not have the form of an edit.
 fn misshapen(place: u64) -> BatchFault
@@ -127,10 +127,10 @@ fn read_open(alloc: Global, value: &Value, place: u64) -> Result<Edit, BatchFaul
 }
 
 /// A feature, whose time is set when its edit acts.
-fn check_feature(alloc: Global, stated: &Value, place: u64) -> Result<WrittenFeature, BatchFault>
-    ensures { Gives (λ f. f) result (as_cause place (feature None (view stated.now))) }
+fn check_feature(alloc: Global, stated: Value, place: u64) -> Result<WrittenFeature, BatchFault>
+    ensures { Gives (λ f. f) result (as_cause place (feature None (view stated))) }
 {
-    match read_feature(alloc, stated, None) {
+    match take_feature(alloc, stated, None) {
         Ok(feature) => Ok(WrittenFeature::new(alloc, feature)?),
         Err(JsonFault::Memory) => Err(BatchFault::Memory),
         Err(JsonFault::Fault(cause)) => Err(BatchFault::BadFeature { place, cause }),
@@ -139,11 +139,10 @@ fn check_feature(alloc: Global, stated: &Value, place: u64) -> Result<WrittenFea
 
 fn read_stated_feature(
     alloc: Global,
-    stated: Option<&Value>,
+    stated: Option<Value>,
     place: u64,
 ) -> Result<WrittenFeature, BatchFault>
-    ensures { Gives (λ f. f) result
-        (stated_feature place (option_map (λ v. view v.now) stated.entry)) }
+    ensures { Gives (λ f. f) result (stated_feature place (option_map view stated)) }
 {
     match stated {
         Some(stated) => check_feature(alloc, stated, place),
@@ -155,21 +154,21 @@ fn read_stated_feature(
 #[tactic(auto, unfolding(crate::specs::ParsedBatches::feature_at))]
 fn read_members(
     alloc: Global,
-    value: &Value,
+    value: Value,
     place: u64,
 ) -> Result<(CollectionId, WrittenFeature), BatchFault>
-    ensures { Gives feature_edit_value result (feature_at place (view value.now)) }
+    ensures { Gives feature_edit_value result (feature_at place (view value)) }
 {
-    if !has_only(value, Format::Feature) {
+    if !has_only(&value, Format::Feature) {
         return Err(misshapen(place));
     }
-    let collection = read_collection(alloc, value, place)?;
-    let feature = read_stated_feature(alloc, value.get("feature"), place)?;
+    let collection = read_collection(alloc, &value, place)?;
+    let feature = read_stated_feature(alloc, take_member(value, "feature"), place)?;
     Ok((collection, feature))
 }
 
-fn read_insert(alloc: Global, value: &Value, place: u64) -> Result<Edit, BatchFault>
-    ensures { Gives edit_value result (insert_at place (view value.now)) }
+fn read_insert(alloc: Global, value: Value, place: u64) -> Result<Edit, BatchFault>
+    ensures { Gives edit_value result (insert_at place (view value)) }
 {
     let (collection, feature) = read_members(alloc, value, place)?;
     Ok(Edit::Insert {
@@ -178,8 +177,8 @@ fn read_insert(alloc: Global, value: &Value, place: u64) -> Result<Edit, BatchFa
     })
 }
 
-fn read_replace(alloc: Global, value: &Value, place: u64) -> Result<Edit, BatchFault>
-    ensures { Gives edit_value result (replace_at place (view value.now)) }
+fn read_replace(alloc: Global, value: Value, place: u64) -> Result<Edit, BatchFault>
+    ensures { Gives edit_value result (replace_at place (view value)) }
 {
     let (collection, feature) = read_members(alloc, value, place)?;
     Ok(Edit::Replace {
@@ -219,16 +218,16 @@ fn read_delete(alloc: Global, value: &Value, place: u64) -> Result<Edit, BatchFa
     Ok(Edit::Delete { collection, id })
 }
 
-/// The edit that a value is.
+/// The edit that a value is. Its feature is taken out of the value, and not copied.
 #[tactic(auto, unfolding(crate::specs::ParsedBatches::edit_at))]
-pub(crate) fn read_edit(alloc: Global, value: &Value, place: u64) -> Result<Edit, BatchFault>
-    ensures { Gives edit_value result (edit_at place (view value.now)) }
+pub(crate) fn read_edit(alloc: Global, value: Value, place: u64) -> Result<Edit, BatchFault>
+    ensures { Gives edit_value result (edit_at place (view value)) }
 {
-    match operation_at(value) {
-        Some(Operation::Open) => read_open(alloc, value, place),
+    match operation_at(&value) {
+        Some(Operation::Open) => read_open(alloc, &value, place),
         Some(Operation::Insert) => read_insert(alloc, value, place),
         Some(Operation::Replace) => read_replace(alloc, value, place),
-        Some(Operation::Delete) => read_delete(alloc, value, place),
+        Some(Operation::Delete) => read_delete(alloc, &value, place),
         None => Err(misshapen(place)),
     }
 }

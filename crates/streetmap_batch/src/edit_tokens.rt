@@ -26,10 +26,10 @@ pub(crate) type Edits = Result<Vec<Edit>, BatchFault>;
 const MOST_EDITS: u64 = 10000;
 
 /// The edits, with that of the next place after them.
-fn with_next(alloc: Global, edits: Edits, value: &Value, place: u64) -> Edits
+fn with_next(alloc: Global, edits: Edits, value: Value, place: u64) -> Edits
     ensures { (ds : List Data) → place ≡ length ds + 1
         → Gives edits_view edits (edits_after 0 ds)
-        → Gives edits_view result (edits_after 0 (ds ++ view value.now ∷ [])) }
+        → Gives edits_view result (edits_after 0 (ds ++ view value ∷ [])) }
 {
     let mut edits = edits?;
     let edit = read_edit(alloc, value, place)?;
@@ -48,11 +48,11 @@ fn read_items(alloc: Global, reader: &mut Reader<'_>, depth: usize) -> Result<Ed
         let value = read_value(alloc, reader, depth)?;
         if count < MOST_EDITS {
             count += 1;
-            edits = with_next(alloc, edits, &value, count);
+            edits = with_next(alloc, edits, value, count);
         } else {
+            drop(value);
             edits = Err(BatchFault::TooManyEdits);
         }
-        drop(value);
     }
     Ok(edits)
 }

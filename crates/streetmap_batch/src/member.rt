@@ -2,6 +2,7 @@
 ghost use Rattle.std.specs.Prelude.{◌≡◌, option_map, string_bytes};
 ghost use Rattle.std.specs.BTreeMap.{keys};
 ghost use Rattle.std.specs.List.{list_all};
+ghost use Rattle.serde_json.specs.Find.{get};
 ghost use Rattle.serde_json.specs.View.{view};
 ghost use Rattle.streetmap_batch.specs.ParsedBatches.{has_only, may_have, names_pass, operation_at};
 ghost use Rattle.streetmap_batch.specs.ParsedBatches.{operation_of, text_at};
@@ -43,6 +44,16 @@ pub(crate) fn text_at<'v>(value: &'v Value, name: &str) -> Option<&'v str>
     ensures { option_map (λ t. t.now) result ≡ text_at name.now (view value.now) }
 {
     value.get(name).and_then(Value::as_str)
+}
+
+/// The member of that name, taken out of a value, of which the rest is of no use.
+pub(crate) fn take_member(mut value: Value, name: &str) -> Option<Value>
+    ensures { option_map view result ≡ get name.now (view value) }
+{
+    match value.get_mut(name) {
+        Some(member) => Some(member.take()),
+        None => None,
+    }
 }
 
 fn operation_of(name: &str) -> Option<Operation>

@@ -11,7 +11,7 @@ use Rattle.streetmap_batch.proofs.edit_tokens.with_next.Goals as goal
 pub returns-in_err-edits : goal.returns-in_err-edits
 returns-in_err-edits c ds following given =
     let fault = c.in_err-edits.field-0.0 in
-    let d = view c.args.value.now in
+    let d = view c.args.value in
     let was : c.args.edits ≡ Err fault = c.in_err-edits.was in
     let same : c.from_residual.result ≡ Err fault = grind arith in
     subst (λ r. Gives edits_view r (edits_after 0 (ds ++ d ∷ []))) (sym same) (faulty_before ds d c.args.place following fault (subst (λ r. Gives edits_view r (edits_after 0 ds)) was given))
@@ -19,7 +19,7 @@ returns-in_err-edits c ds following given =
 pub returns-in_err-edit : goal.returns-in_err-edit
 returns-in_err-edit c ds following given =
     let fault = c.in_err-edit.field-0.0 in
-    let d = view c.args.value.now in
+    let d = view c.args.value in
     let was : c.args.edits ≡ Ok c.in_ok-edits.edits = c.in_ok-edits.was in
     let same : c.from_residual-in_err-edit.result ≡ Err fault = grind arith in
     subst (λ r. Gives edits_view r (edits_after 0 (ds ++ d ∷ []))) (sym same)
@@ -27,7 +27,7 @@ returns-in_err-edit c ds following given =
 
 pub returns : goal.returns
 returns c ds following given =
-    let d = view c.args.value.now in
+    let d = view c.args.value in
     let was : c.args.edits ≡ Ok c.in_ok-edits.edits = c.in_ok-edits.was in
     let pushed : edits_view c.push.new.self ≡ edits_view c.in_ok-edits.edits ++ edit_value c.in_ok-edit.edit ∷ [] = rw (c.in_ok-push.ensures.items, map_push edit_value c.in_ok-edits.edits.items c.in_ok-edit.edit) refl in
     one_more_edit ds d c.args.place following (edits_view c.in_ok-edits.edits) (edit_value c.in_ok-edit.edit) (subst (λ r. Gives edits_view r (edits_after 0 ds)) was given) c.in_ok-edit.ensures
