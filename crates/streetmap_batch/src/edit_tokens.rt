@@ -25,14 +25,14 @@ pub(crate) type Edits = Result<Vec<Edit>, BatchFault>;
 /// How many edits a batch may have.
 const MOST_EDITS: u64 = 10000;
 
-/// The edits, with that of the next place after them.
-fn with_next(alloc: Global, edits: Edits, value: Value, place: u64) -> Edits
+/// The edits, with that of the next place after them. The value is taken.
+fn with_next(alloc: Global, edits: Edits, value: &mut Value, place: u64) -> Edits
     ensures { (ds : List Data) → place ≡ length ds + 1
         → Gives edits_view edits (edits_after 0 ds)
-        → Gives edits_view result (edits_after 0 (ds ++ view value ∷ [])) }
+        → Gives edits_view result (edits_after 0 (ds ++ view value.old ∷ [])) }
 {
     let mut edits = edits?;
-    let edit = read_edit(alloc, value, place)?;
+    let edit = read_edit(alloc, value.take(), place)?;
     edits.push(edit)?;
     Ok(edits)
 }
@@ -45,14 +45,14 @@ fn read_items(alloc: Global, reader: &mut Reader<'_>, depth: usize) -> Result<Ed
     let mut edits = Ok(Vec::new(alloc));
     let mut count = 0;
     'items: while !reader.take_end_array() {
-        let value = read_value(alloc, reader, depth)?;
+        let mut value = read_value(alloc, reader, depth)?;
         if count < MOST_EDITS {
             count += 1;
-            edits = with_next(alloc, edits, value, count);
+            edits = with_next(alloc, edits, &mut value, count);
         } else {
-            drop(value);
             edits = Err(BatchFault::TooManyEdits);
         }
+        drop(value);
     }
     Ok(edits)
 }
