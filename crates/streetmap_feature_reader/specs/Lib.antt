@@ -1,4 +1,5 @@
 pub mod Places
+pub mod StatedFeature
 pub mod UsualGeometry
 pub mod UsualMembers
 pub mod UsualTexts
