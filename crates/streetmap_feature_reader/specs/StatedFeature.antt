@@ -2,20 +2,20 @@
 use Rattle.std.specs.Prelude.{ℕ, List, Option, None, Some, codes, option_map}
 use Rattle.json.specs.Token.{Token}
 use Rattle.json.specs.Json.{value, members}
-use Rattle.serde_json.specs.Data.{Data, object, Members, no_members, put}
+use Rattle.serde_json.specs.Data.{Data, Members, no_members, put}
 use Rattle.serde_json.specs.Read.{of_members, converted}
 use Rattle.serde_json.specs.View.{view}
 use Rattle.streetmap_geojson.specs.FeatureMembers.{feature_object, geometry_data}
-use Rattle.streetmap_geojson.specs.declared.feature_members.FeatureMembers.{FeatureMembers}
 use Rattle.streetmap_feature_reader.specs.Places.{found}
 use Rattle.streetmap_feature_reader.specs.declared.stated_feature.Found.{Found}
 use Rattle.streetmap_feature_reader.specs.declared.stated_feature.StatedFeature.{StatedFeature}
-use Rattle.streetmap_feature_reader.specs.declared.stated_feature.StatedFeature.TheVariants.{Usual, Other}
+use Rattle.streetmap_feature_reader.specs.declared.stated_feature.StatedFeature.TheVariants as cases
 
 -- the value that was read
 abbrev pub stated_data : StatedFeature → Data
-stated_data (Usual m) = feature_object (geometry_data m.geometry) (view m.id) (view m.properties)
-stated_data (Other v) = view v
+stated_data (cases.Usual m) = feature_object (geometry_data m.geometry) (view m.id)
+    (view m.properties)
+stated_data (cases.Other v) = view v
 
 -- the members that were found, in byte order of their names
 abbrev pub found_of : (geometry id properties kind : Option Data) → Members

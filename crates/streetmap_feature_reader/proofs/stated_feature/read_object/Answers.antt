@@ -1,5 +1,5 @@
-use Rattle.std.proofs.Common.{◌≡◌, ◌-◌, ◌<◌, length, Some, None, Err, sym, ap, ap₂, ◌∙◌, arith, subst}
-use Rattle.json.specs.Json.{read_key, members, value, parse_map}
+use Rattle.std.proofs.Common.{◌≡◌, ◌-◌, Some, None, Err, sym, ap, ap₂, ◌∙◌, arith, subst}
+use Rattle.json.specs.Json.{read_key, value, parse_map}
 use Rattle.json.proofs.Grammar.{read_key-shorter}
 use Rattle.serde_json.specs.Data.{object, put}
 use Rattle.serde_json.specs.View.{view}

@@ -1,9 +1,8 @@
-use Rattle.std.proofs.Common.{◌≡◌, ◌-◌, ◌<◌, length, Some, None, Err, BTreeMap, Global, string_bytes, refl, sym, ap, ◌∙◌, arith, rules, subst}
+use Rattle.std.proofs.Common.{◌≡◌, ◌-◌, Some, Err, BTreeMap, Global, string_bytes, refl, sym, ap, ◌∙◌, arith, rules, subst}
 use Rattle.std.proofs.Common.{String as StdString}
-use Rattle.json.specs.Json.{read_key, members, value}
+use Rattle.json.specs.Json.{read_key, value}
 use Rattle.json.proofs.Grammar.{read_key-shorter}
 use Rattle.serde_json.specs.Data.{put}
-use Rattle.serde_json.specs.Read.{of_members, converted}
 use Rattle.serde_json.specs.View.{view, members_view}
 use Rattle.serde_json.specs.declared.value.Value.{Value}
 use Rattle.serde_json.proofs.Views.{members_view-insert_entry}
