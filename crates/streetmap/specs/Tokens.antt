@@ -27,4 +27,5 @@ first_line text = before_place text (position (λ b. b == 10) text)
 abbrev pub IsGuardOf : GuardWords → GuardValue → Type 0
 IsGuardOf free_guard guard = guard ≡ free
 IsGuardOf fenced_guard guard = guard ≡ fenced
-IsGuardOf (follower_guard path) guard = (its : Text) × (guard ≡ follower its) × (is_token its ≡ true)
+IsGuardOf (follower_guard path) guard =
+    (its : Text) × (guard ≡ follower its) × (is_token its ≡ true)

@@ -125,20 +125,12 @@ impl PackedFeature {
         ensures { IfOk result (λ p. p ≡ feature.now) }
     {
         feature.facts();
-        let text = Bytes::from_string(text_of(alloc, feature)?)?;
-        let id = id_in(text.as_slice(), feature.id().as_bytes());
-        let kept = Packing {
-            text,
-            extent: feature.extent(),
-            time: PackedInterval::new(feature.time()),
-            id,
-        };
-        let kept = Box::new(alloc, kept)?;
-        Ok(PackedFeature { kept })
+        let text = text_of(alloc, feature)?;
+        PackedFeature::from_text(alloc, &text, feature.id(), feature.extent(), feature.time())
     }
 
-    /// The feature of a compact text, of which these were found: its id, the extent of its geometry,
-    /// in millimetres, and its time.
+    /// The feature of a compact text, of which these were found: its id, the extent of its
+    /// geometry, in millimetres, and its time.
     ///
     /// # Errors
     ///

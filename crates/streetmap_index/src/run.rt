@@ -149,8 +149,8 @@ fn take_each<K: Outlined>(
 }
 
 /// Takes the next features, which are those with these outlines, as the keeper has them, and
-/// returns whether they exist: each alone if they are few and their places are known, else by the ids
-/// of the first and the last.
+/// returns whether they exist: each alone if they are few and their places are known, else by the
+/// ids of the first and the last.
 pub(crate) fn take_run<K: Outlined>(
     alloc: Global,
     keeper: &mut K,

@@ -12,9 +12,9 @@
 //! with a serial, and those after one, as the state has them (`specs/Kept`), and changes nothing.
 //! The state can be rebuilt from these batches, in order of their serials.
 //!
-//! In the order of reading: `reply`, `page`, `summary`, `compact_box`, `outline`, `keeper` (the trait and `run`),
-//! `durable`, `outlined`, `laws`; for pages `selection` and `fold`; `kept_batch`, `kept_batches`
-//! (the trait), `serial_laws`. Batches are those of `streetmap_batch`.
+//! In the order of reading: `reply`, `page`, `summary`, `compact_box`, `outline`, `keeper` (the
+//! trait and `run`), `durable`, `outlined`, `laws`; for pages `selection` and `fold`; `kept_batch`,
+//! `kept_batches` (the trait), `serial_laws`. Batches are those of `streetmap_batch`.
 #![tactic(auto)]
 
 mod compact_box;

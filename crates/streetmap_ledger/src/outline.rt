@@ -10,8 +10,8 @@ use std::alloc::{AllocError, Global};
 use streetmap_grid::GridBox;
 use streetmap_moment::Interval;
 
-/// A feature's id, extent and seconds: what a store keeps beside the feature itself, and an index in
-/// memory, where it takes 80 bytes and its id.
+/// A feature's id, extent and seconds: what a store keeps beside the feature itself, and an index
+/// in memory, where it takes 80 bytes and its id.
 #[derive(Drop)]
 pub struct FeatureOutline {
     /// The id of the feature.
@@ -61,7 +61,8 @@ impl FeatureOutline {
         Ok(FeatureOutline::of(id, extent, seconds, None))
     }
 
-    /// The outline with these parts.
+    /// The outline with these parts: an extent in millimetres, the first and the last second of an
+    /// interval, counted from 1970, and the hint of a store.
     pub fn of(
         id: String,
         extent: Option<GridBox>,

@@ -10,8 +10,8 @@
 //! extents overlap the box.
 //!
 //! In the order of reading: `bounds`, `within`, `extent_column`, `chunk`, `in_cells` and `chunks`
-//! (outlines in chunks, of which an edit changes one, and their extents by cells), `selection` (what
-//! these show of a query).
+//! (outlines in chunks, of which an edit changes one, and their extents by cells), `selection`
+//! (what these show of a query).
 #![tactic(auto)]
 
 mod bounds;

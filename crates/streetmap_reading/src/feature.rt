@@ -68,8 +68,8 @@ fn text_row_at<S: Alter>(
     )
 }
 
-/// The row of the feature that an outline is of, read first by the outline's hint, a rowid; none if the
-/// feature does not exist.
+/// The row of the feature that an outline is of, read first by the outline's hint, a rowid; none if
+/// the feature does not exist.
 fn outlined_row<S: Alter>(
     conn: &mut Connection<S>,
     collection: &str,
@@ -168,8 +168,8 @@ pub fn feature_of<S: Alter>(
 }
 
 /// The feature of a collection that an outline is of, by the outline's id; `None` if the collection
-/// or the feature does not exist. It reads the row with the rowid of the outline's hint first, and reads by the
-/// id if that row does not exist or is another feature's.
+/// or the feature does not exist. It reads the row with the rowid of the outline's hint first, and
+/// reads by the id if that row does not exist or is another feature's.
 ///
 /// # Errors
 ///

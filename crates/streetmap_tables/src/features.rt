@@ -114,10 +114,7 @@ fn feature_in(alloc: Global, row: &Row, property: Option<&str>) -> Result<Writte
     let (Ok(ValueRef::Text(id)), Ok(ValueRef::Text(body))) = (row.get_ref(1), row.get_ref(2)) else {
         return Err(ReadFault::Unread);
     };
-    let feature = match parse(alloc, body, property) {
-        Ok(feature) => feature,
-        Err(fault) => return Err(fault),
-    };
+    let feature = parse(alloc, body, property)?;
     if feature.id().as_bytes() != id {
         return Err(ReadFault::Unread);
     }
