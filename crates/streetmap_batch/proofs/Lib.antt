@@ -1,4 +1,5 @@
 pub mod NameFacts
+pub mod Puts
 pub mod MemberFacts
 pub mod EditLists
 pub mod Parts

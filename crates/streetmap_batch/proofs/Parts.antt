@@ -1,14 +1,11 @@
 -- The members of a batch, as they are read.
-use Rattle.std.proofs.Common.{◌≡◌, ℕ, Bool, true, false, ◌&&◌, List, [], ◌∷◌, codes, Option, None, Some, Result, Err, MatchOption, Ordering, Less, Equal, Greater, option_map, option_and_then, refl, sym, ap, subst, ◌∙◌, Vec, Global}
+use Rattle.std.proofs.Common.{◌≡◌, ℕ, Bool, true, false, ◌&&◌, List, [], ◌∷◌, codes, Option, None, Some, Result, Err, MatchOption, option_map, option_and_then, refl, sym, ap, subst, ◌∙◌, Vec, Global}
 use Rattle.std.specs.Prelude.{bytes_eq}
-use Rattle.std.specs.Ordering.{nat_cmp, match_ordering, is_eq}
-use Rattle.std.specs.Cmp.Lexicographic.{slice_cmp}
 use Rattle.std.specs.Str.{is_utf8}
 use Rattle.std.proofs.lemmas.Slice.Eq.{bytes_eq-Decides}
-use Rattle.std.proofs.lemmas.Map.Text.{is_eq-slice_cmp}
 use Rattle.json.specs.Token.{Token}
 use Rattle.json.specs.Json.{value, parse_map}
-use Rattle.serde_json.specs.Data.{Data, null, boolean, number, string, array, object, Members, no_members, member, put}
+use Rattle.serde_json.specs.Data.{Data, null, boolean, number, string, array, object, Members, put}
 use Rattle.serde_json.specs.Find.{as_array, as_object, get_member}
 use Rattle.serde_json.specs.View.{view}
 use Rattle.serde_json.specs.declared.value.Value.{Value}
@@ -20,6 +17,7 @@ use Rattle.streetmap_json.specs.declared.fault.ParseFault.TheVariants.{Memory, N
 use Rattle.streetmap_json.specs.JsonText.{utf8_value}
 use Rattle.streetmap_json.proofs.Fronts.{whole_value, more_than_a_value, no_value, no_object, empty_front}
 use Rattle.streetmap_batch.specs.Text.{Text}
+use Rattle.streetmap_batch.proofs.Puts.{names_put}
 use Rattle.streetmap_batch.specs.BatchFaults.{Gives}
 use Rattle.streetmap_batch.specs.ParsedBatches.{list_of, array_at, may_have, names_pass, has_only, batch}
 use Rattle.streetmap_batch.specs.BatchTokens.{edits_view, few_edits, IsArrayRead, AreRead, IsWholeRead, batch_in}
@@ -28,30 +26,6 @@ use Rattle.streetmap_batch.specs.declared.batch_fault.BatchFault.TheVariants.{Ba
 use Rattle.streetmap_batch.specs.declared.batch_parser.Parts.{Parts}
 use Rattle.streetmap_batch.specs.declared.edit.Edit.{Edit}
 use Rattle.streetmap_batch.specs.declared.format.Format.TheVariants as formats
-
--- ---- names
-
-swapped : (a b c : Bool) → (a && (b && c)) ≡ (b && (a && c))
-swapped true true c = refl
-swapped true false c = refl
-swapped false true c = refl
-swapped false false c = refl
-
-once : (a b : Bool) → (a && b) ≡ (a && (a && b))
-once true b = refl
-once false b = refl
-
-names_put_at : (test : Text → Bool) (o : Ordering) (name other : Text) (d e : Data) (ms : Members) → slice_cmp nat_cmp name other ≡ o → names_pass test (put name d ms) ≡ (test name && names_pass test ms)
-    → names_pass test (match_ordering o (member name d (member other e ms)) (member other d ms) (member other e (put name d ms))) ≡ (test name && (test other && names_pass test ms))
-names_put_at test Less name other d e ms is later = refl
-names_put_at test Equal name other d e ms is later =
-    let same : name ≡ other = (bytes_eq-Decides name other).0 (sym (is_eq-slice_cmp name other) ∙ ap is_eq is) in
-    once (test other) (names_pass test ms) ∙ ap (λ n. test n && (test other && names_pass test ms)) (sym same)
-names_put_at test Greater name other d e ms is later = ap (λ b. test other && b) later ∙ swapped (test other) (test name) (names_pass test ms)
-
-names_put : (test : Text → Bool) (name : Text) (d : Data) (ms : Members) → names_pass test (put name d ms) ≡ (test name && names_pass test ms)
-names_put test name d no_members = refl
-names_put test name d (member other e ms) = names_put_at test _ name other d e ms refl (names_put test name d ms)
 
 -- ---- one more member
 

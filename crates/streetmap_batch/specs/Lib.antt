@@ -6,5 +6,6 @@ pub mod BatchText
 pub mod BatchFaults
 pub mod ParsedBatches
 pub mod BatchTokens
+pub mod EditMembers
 pub mod BatchMeaning
 pub mod BatchFacts

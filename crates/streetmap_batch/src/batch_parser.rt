@@ -1,9 +1,7 @@
 //! Batches from JSON.
-ghost use Rattle.std.specs.Prelude.{◌≡◌, ◌<◌, Ok, IfOk, OnOk, IsTrue, false, List, length};
+ghost use Rattle.std.specs.Prelude.{◌≡◌, ◌<◌, Ok, IfOk, OnOk, List, length};
 ghost use Rattle.std.specs.Prelude.{option_map};
 ghost use Rattle.json.specs.Json.{value};
-ghost use Rattle.json.specs.Reads.{token_of};
-ghost use Rattle.json.specs.Token.{begin_object};
 ghost use Rattle.serde_json.specs.Data.{Data, Members, no_members, object, put};
 ghost use Rattle.serde_json.specs.Read.{read};
 ghost use Rattle.streetmap_json.specs.Values.{value_at, members_at, whole};
@@ -20,7 +18,8 @@ use crate::batch::Batch;
 use crate::batch_fault::BatchFault;
 use crate::edit_tokens::{Edits, read_array};
 use crate::names::is_key;
-use json::{Reader, Scratch, Token};
+use crate::opening::opens_object;
+use json::{Reader, Scratch};
 use serde_json::Value;
 use std::alloc::Global;
 use streetmap_json::{ParseFault, read_value, with_whole_numbers};
@@ -82,13 +81,6 @@ fn read_members(alloc: Global, reader: &mut Reader<'_>) -> Result<Parts, ParseFa
         parts.read_member(alloc, name, reader)?;
     }
     Ok(parts)
-}
-
-fn opens_object(token: &Token<'_>) -> bool
-    ensures yes { IsTrue result → token_of token.now ≡ begin_object }
-    ensures no { result ≡ false → token_of token.now ≡ begin_object → ⊥ }
-{
-    matches!(token, Token::BeginObject)
 }
 
 /// The members of the object that the tokens are.
@@ -180,7 +172,8 @@ fn read_bytes(alloc: Global, bytes: &[u8]) -> Result<Batch, BatchFault>
 ///    the cause if its feature cannot be read. Features are read without a time: it is set when the
 ///    edit acts.
 ///
-/// Only one edit at a time is in memory as a JSON value.
+/// Only one edit at a time is in memory as JSON values, and a feature with the members that a
+/// feature usually has is never one value.
 pub fn read_batch(alloc: Global, bytes: &[u8]) -> Result<Batch, BatchFault>
     // What is read is the batch that the bytes are.
     ensures found { IfOk result (λ b. IsBatchText bytes.now (batch_value b)) }

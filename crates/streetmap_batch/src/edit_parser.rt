@@ -1,28 +1,34 @@
-//! Edits from JSON. Each is judged at its place, counted from 1.
+//! Edits from their members. Each is judged at its place, counted from 1.
 ghost use Rattle.std.specs.Prelude.{◌≡◌, Ok, Some, None, option_map};
+ghost use Rattle.serde_json.specs.Data.{Data, object};
 ghost use Rattle.serde_json.specs.Find.{get};
 ghost use Rattle.serde_json.specs.View.{view};
+ghost use Rattle.streetmap_feature_reader.specs.StatedFeature.{stated_data};
+ghost use Rattle.streetmap_geojson.specs.Fault as geojson;
+ghost use Rattle.streetmap_geojson.specs.FeatureView.{feature_value};
 ghost use Rattle.streetmap_geojson.specs.ParsedFeatures.{feature};
 ghost use Rattle.streetmap_geojson.specs.Id.{id_from};
 ghost use Rattle.streetmap_geojson.specs.IdView.{id_value};
 ghost use Rattle.streetmap_batch.specs.Names.{is_collection_id, is_title, is_time_property};
 ghost use Rattle.streetmap_batch.specs.Names.{passing};
 ghost use Rattle.streetmap_batch.specs.BatchFaults.{Gives};
+ghost use Rattle.streetmap_batch.specs.EditMembers.{stated_members, IsObjectRead};
 ghost use Rattle.streetmap_batch.specs.ParsedBatches.{as_cause, as_shape, shaped, collection_at};
 ghost use Rattle.streetmap_batch.specs.ParsedBatches.{title_of, time_of, open_at, feature_at};
 ghost use Rattle.streetmap_batch.specs.ParsedBatches.{stated_feature, stated_id, insert_at};
-ghost use Rattle.streetmap_batch.specs.ParsedBatches.{replace_at};
+ghost use Rattle.streetmap_batch.specs.ParsedBatches.{replace_at, operation_of, operation_at};
 ghost use Rattle.streetmap_batch.specs.ParsedBatches.{delete_at, edit_at};
 ghost use Rattle.streetmap_batch.specs.BatchView.{edit_value, feature_edit_value};
 
 use crate::batch_fault::BatchFault;
 use crate::edit::{CollectionId, Edit, TimeProperty, Title};
+use crate::edit_members::EditMembers;
 use crate::format::{Format, Operation};
-use crate::member::{has_only, operation_at, text_at};
 use serde_json::Value;
 use std::alloc::Global;
+use streetmap_feature_reader::StatedFeature;
 use streetmap_feature_text::WrittenFeature;
-use streetmap_geojson::{Id, JsonFault, read_feature, read_id};
+use streetmap_geojson::{Feature, Id, JsonFault, read_id, read_members, take_feature};
 
 /// The fault of an edit at that place which does not have the form of an edit.
 fn misshapen(place: u64) -> BatchFault
@@ -42,10 +48,15 @@ fn check_collection(alloc: Global, text: &str, place: u64) -> Result<CollectionI
 }
 
 /// The collection of an edit.
-fn read_collection(alloc: Global, value: &Value, place: u64) -> Result<CollectionId, BatchFault>
-    ensures { Gives (λ id. id) result (collection_at place (view value.now)) }
+fn read_collection(
+    alloc: Global,
+    members: &EditMembers,
+    place: u64,
+) -> Result<CollectionId, BatchFault>
+    ensures { Gives (λ id. id) result
+        (collection_at place (object (stated_members members.now))) }
 {
-    match text_at(value, "collection") {
+    match members.text_at("collection") {
         Some(text) => check_collection(alloc, text, place),
         None => Err(misshapen(place)),
     }
@@ -110,15 +121,15 @@ fn read_time(
 }
 
 #[tactic(auto, unfolding(crate::specs::ParsedBatches::open_at))]
-fn read_open(alloc: Global, value: &Value, place: u64) -> Result<Edit, BatchFault>
-    ensures { Gives edit_value result (open_at place (view value.now)) }
+fn read_open(alloc: Global, members: &EditMembers, place: u64) -> Result<Edit, BatchFault>
+    ensures { Gives edit_value result (open_at place (object (stated_members members.now))) }
 {
-    if !has_only(value, Format::Open) {
+    if !members.has_only(Format::Open) {
         return Err(misshapen(place));
     }
-    let collection = read_collection(alloc, value, place)?;
-    let title = read_title(alloc, &collection, value.get("title"), place)?;
-    let time = read_time(alloc, value.get("time"), place)?;
+    let collection = read_collection(alloc, members, place)?;
+    let title = read_title(alloc, &collection, members.get("title"), place)?;
+    let time = read_time(alloc, members.get("time"), place)?;
     Ok(Edit::Open {
         collection,
         title,
@@ -126,24 +137,37 @@ fn read_open(alloc: Global, value: &Value, place: u64) -> Result<Edit, BatchFaul
     })
 }
 
-/// A feature, whose time is set when its edit acts.
-fn check_feature(alloc: Global, stated: &Value, place: u64) -> Result<WrittenFeature, BatchFault>
-    ensures { Gives (λ f. f) result (as_cause place (feature None (view stated.now))) }
+/// The feature that was stated, without a time.
+fn feature_of(alloc: Global, stated: StatedFeature) -> Result<Feature, JsonFault>
+    ensures { geojson.Gives feature_value result (feature None (stated_data stated)) }
 {
-    match read_feature(alloc, stated, None) {
+    match stated {
+        StatedFeature::Usual(members) => read_members(alloc, members, None),
+        StatedFeature::Other(value) => take_feature(alloc, value, None),
+    }
+}
+
+/// A feature, whose time is set when its edit acts.
+fn check_feature(
+    alloc: Global,
+    stated: StatedFeature,
+    place: u64,
+) -> Result<WrittenFeature, BatchFault>
+    ensures { Gives (λ f. f) result (as_cause place (feature None (stated_data stated))) }
+{
+    match feature_of(alloc, stated) {
         Ok(feature) => Ok(WrittenFeature::new(alloc, feature)?),
         Err(JsonFault::Memory) => Err(BatchFault::Memory),
         Err(JsonFault::Fault(cause)) => Err(BatchFault::BadFeature { place, cause }),
     }
 }
 
-fn read_stated_feature(
+fn read_feature(
     alloc: Global,
-    stated: Option<&Value>,
+    stated: Option<StatedFeature>,
     place: u64,
 ) -> Result<WrittenFeature, BatchFault>
-    ensures { Gives (λ f. f) result
-        (stated_feature place (option_map (λ v. view v.now) stated.entry)) }
+    ensures { Gives (λ f. f) result (stated_feature place (option_map stated_data stated)) }
 {
     match stated {
         Some(stated) => check_feature(alloc, stated, place),
@@ -153,35 +177,36 @@ fn read_stated_feature(
 
 /// The collection and the feature of an edit: its shape is judged before its feature.
 #[tactic(auto, unfolding(crate::specs::ParsedBatches::feature_at))]
-fn read_members(
+fn read_feature_edit(
     alloc: Global,
-    value: &Value,
+    members: EditMembers,
     place: u64,
 ) -> Result<(CollectionId, WrittenFeature), BatchFault>
-    ensures { Gives feature_edit_value result (feature_at place (view value.now)) }
+    ensures { Gives feature_edit_value result
+        (feature_at place (object (stated_members members))) }
 {
-    if !has_only(value, Format::Feature) {
+    if !members.has_only(Format::Feature) {
         return Err(misshapen(place));
     }
-    let collection = read_collection(alloc, value, place)?;
-    let feature = read_stated_feature(alloc, value.get("feature"), place)?;
+    let collection = read_collection(alloc, &members, place)?;
+    let feature = read_feature(alloc, members.into_feature(), place)?;
     Ok((collection, feature))
 }
 
-fn read_insert(alloc: Global, value: &Value, place: u64) -> Result<Edit, BatchFault>
-    ensures { Gives edit_value result (insert_at place (view value.now)) }
+fn read_insert(alloc: Global, members: EditMembers, place: u64) -> Result<Edit, BatchFault>
+    ensures { Gives edit_value result (insert_at place (object (stated_members members))) }
 {
-    let (collection, feature) = read_members(alloc, value, place)?;
+    let (collection, feature) = read_feature_edit(alloc, members, place)?;
     Ok(Edit::Insert {
         collection,
         feature,
     })
 }
 
-fn read_replace(alloc: Global, value: &Value, place: u64) -> Result<Edit, BatchFault>
-    ensures { Gives edit_value result (replace_at place (view value.now)) }
+fn read_replace(alloc: Global, members: EditMembers, place: u64) -> Result<Edit, BatchFault>
+    ensures { Gives edit_value result (replace_at place (object (stated_members members))) }
 {
-    let (collection, feature) = read_members(alloc, value, place)?;
+    let (collection, feature) = read_feature_edit(alloc, members, place)?;
     Ok(Edit::Replace {
         collection,
         feature,
@@ -208,27 +233,62 @@ fn read_stated_id(alloc: Global, stated: Option<&Value>, place: u64) -> Result<I
 }
 
 #[tactic(auto, unfolding(crate::specs::ParsedBatches::delete_at))]
-fn read_delete(alloc: Global, value: &Value, place: u64) -> Result<Edit, BatchFault>
-    ensures { Gives edit_value result (delete_at place (view value.now)) }
+fn read_delete(alloc: Global, members: &EditMembers, place: u64) -> Result<Edit, BatchFault>
+    ensures { Gives edit_value result (delete_at place (object (stated_members members.now))) }
 {
-    if !has_only(value, Format::Delete) {
+    if !members.has_only(Format::Delete) {
         return Err(misshapen(place));
     }
-    let collection = read_collection(alloc, value, place)?;
-    let id = read_stated_id(alloc, value.get("id"), place)?;
+    let collection = read_collection(alloc, members, place)?;
+    let id = read_stated_id(alloc, members.get("id"), place)?;
     Ok(Edit::Delete { collection, id })
 }
 
-/// The edit that a value is.
-#[tactic(auto, unfolding(crate::specs::ParsedBatches::edit_at))]
-pub(crate) fn read_edit(alloc: Global, value: &Value, place: u64) -> Result<Edit, BatchFault>
-    ensures { Gives edit_value result (edit_at place (view value.now)) }
+fn operation_of(name: &str) -> Option<Operation>
+    ensures { result ≡ operation_of name.now }
 {
-    match operation_at(value) {
-        Some(Operation::Open) => read_open(alloc, value, place),
-        Some(Operation::Insert) => read_insert(alloc, value, place),
-        Some(Operation::Replace) => read_replace(alloc, value, place),
-        Some(Operation::Delete) => read_delete(alloc, value, place),
+    match name {
+        "open" => Some(Operation::Open),
+        "insert" => Some(Operation::Insert),
+        "replace" => Some(Operation::Replace),
+        "delete" => Some(Operation::Delete),
+        _ => None,
+    }
+}
+
+/// What an edit does.
+fn read_operation(members: &EditMembers) -> Option<Operation>
+    ensures { result ≡ operation_at (object (stated_members members.now)) }
+{
+    match members.text_at("op") {
+        Some(name) => operation_of(name),
+        None => None,
+    }
+}
+
+#[tactic(auto, unfolding(crate::specs::ParsedBatches::edit_at))]
+fn read_object(alloc: Global, members: EditMembers, place: u64) -> Result<Edit, BatchFault>
+    ensures { Gives edit_value result (edit_at place (object (stated_members members))) }
+{
+    match read_operation(&members) {
+        Some(Operation::Open) => read_open(alloc, &members, place),
+        Some(Operation::Insert) => read_insert(alloc, members, place),
+        Some(Operation::Replace) => read_replace(alloc, members, place),
+        Some(Operation::Delete) => read_delete(alloc, &members, place),
+        None => Err(misshapen(place)),
+    }
+}
+
+/// The edit of these members: those of a value, if it is an object.
+pub(crate) fn read_edit(
+    alloc: Global,
+    members: Option<EditMembers>,
+    place: u64,
+) -> Result<Edit, BatchFault>
+    ensures { (d : Data) → IsObjectRead d members → Gives edit_value result (edit_at place d) }
+{
+    match members {
+        Some(members) => read_object(alloc, members, place),
         None => Err(misshapen(place)),
     }
 }

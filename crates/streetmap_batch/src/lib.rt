@@ -7,7 +7,7 @@
 //! of `specs/BatchText`, by which a repeated batch is recognised.
 //!
 //! Modules, in the order of reading: `names`, `edit`, `batch_fault`, `batch`, `batch_text`,
-//! `format`, `member`, `edit_parser`, `edit_tokens`, `batch_parser`.
+//! `format`, `member`, `opening`, `edit_members`, `edit_parser`, `edit_tokens`, `batch_parser`.
 #![tactic(auto)]
 
 mod batch;
@@ -15,11 +15,13 @@ mod batch_fault;
 mod batch_parser;
 mod batch_text;
 mod edit;
+mod edit_members;
 mod edit_parser;
 mod edit_tokens;
 mod format;
 mod member;
 mod names;
+mod opening;
 
 pub use batch::Batch;
 pub use batch_fault::BatchFault;

@@ -1,4 +1,6 @@
 pub mod Places
+pub mod StatedFeature
+pub mod StatedGeometry
 pub mod UsualGeometry
 pub mod UsualMembers
 pub mod UsualTexts

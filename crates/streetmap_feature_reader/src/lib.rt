@@ -8,12 +8,20 @@
 //! text, a usual one in this way, and every other as a value. Both return what the value of the
 //! text reads as.
 //!
-//! Modules, in the order of reading: `places`, `usual_geometry`, `usual_members`, `reader`.
+//! `read_stated` reads a feature among other values, at a reader's position: a usual one and its
+//! geometry member by member, every other value as a value, and it never has to begin again.
+//!
+//! Modules, in the order of reading: `places`, `usual_geometry`, `usual_members`, `reader`,
+//! `members`, `stated_geometry`, `stated_feature`.
 #![tactic(auto)]
 
+mod members;
 mod places;
 mod reader;
+mod stated_feature;
+mod stated_geometry;
 mod usual_geometry;
 mod usual_members;
 
 pub use reader::{read_feature_text, read_usual};
+pub use stated_feature::{StatedFeature, read_stated};

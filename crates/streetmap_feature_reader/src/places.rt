@@ -27,3 +27,15 @@ pub(crate) fn fill(
     *place = Some(read_value(alloc, reader, depth)?);
     Ok(true)
 }
+
+/// Puts a value at a place, or returns it if the place is taken.
+pub(crate) fn put_at(place: &mut Option<Value>, value: Value) -> Option<Value>
+    ensures { MatchOption result ((place.old ≡ None) × (place.new ≡ Some value))
+        (λ v. (v ≡ value) × (place.new ≡ place.old)) }
+{
+    if place.is_some() {
+        return Some(value);
+    }
+    *place = Some(value);
+    None
+}

@@ -129,6 +129,35 @@ pub(crate) fn read_feature_time(
     }
 }
 
+/// The properties of a feature, taken out of its value.
+fn take_properties(value: &mut Value) -> Result<Value, JsonFault>
+    ensures reads { Gives view result
+        (properties_of (member_of (codes "properties") (view value.old))) }
+    ensures kept { IfOk result (λ v. IsTrue (is_properties (view v))) }
+    ensures whole { IfOk result (λ v. has_float (view v) ≡ false) }
+    ensures exact { IfOk result (λ v. IsTrue (is_exact (view v))) }
+{
+    match value.get_mut("properties") {
+        Some(member) => {
+            check_properties(member)?;
+            Ok(member.take())
+        }
+        None => Ok(Value::Null),
+    }
+}
+
+fn take_flat_properties(value: &mut Value) -> Result<Value, JsonFault>
+    requires { depth (view value.old) ≤ 64 }
+    ensures reads { Gives view result
+        (properties_of (member_of (codes "properties") (view value.old))) }
+    ensures kept { IfOk result (λ v. IsTrue (is_properties (view v))) }
+    ensures whole { IfOk result (λ v. has_float (view v) ≡ false) }
+    ensures exact { IfOk result (λ v. IsTrue (is_exact (view v))) }
+    ensures flat { IfOk result (λ v. depth (view v) ≤ 63) }
+{
+    take_properties(value)
+}
+
 /// A feature that has a place in a collection: the place is its id, if it has none.
 #[tactic(auto, unfolding(crate::specs::ParsedFeatures::feature_at))]
 pub(crate) fn read_at(
@@ -182,4 +211,37 @@ pub fn read_feature(
         (feature (option_map (λ s. s.now) time_property.entry) (view value.now)) }
 {
     read_at(alloc, value, None, time_property)
+}
+
+/// The feature that a value is, as [`read_feature`] reads it (RFC 7946, section 3.2). The
+/// properties are taken out of the value, and not copied: what is left of it is of no use.
+///
+/// # Errors
+///
+/// The fault of [`read_feature`]. `Memory` if memory runs out.
+#[tactic(auto, unfolding(crate::specs::ParsedFeatures::feature_at))]
+pub fn take_feature(
+    alloc: Global,
+    mut value: Value,
+    time_property: Option<&str>,
+) -> Result<Feature, JsonFault>
+    ensures exact { Gives feature_value result
+        (feature (option_map (λ s. s.now) time_property.entry) (view value)) }
+{
+    if !is_feature(&value) {
+        return Err(JsonFault::Fault(Fault::WrongType));
+    }
+    if !nests_within(&value, 64) {
+        return Err(JsonFault::Fault(Fault::TooDeep));
+    }
+    let id = read_id_at(alloc, &value, None)?;
+    let geometry = read_geometry_member(alloc, &value)?;
+    let properties = take_flat_properties(&mut value)?;
+    let time = read_feature_time(&properties, time_property)?;
+    Ok(Feature {
+        id,
+        geometry,
+        properties,
+        time,
+    })
 }

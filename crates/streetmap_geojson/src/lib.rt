@@ -34,7 +34,7 @@ pub use collection::read_collection;
 pub use fault::{CollectionFault, Fault, JsonFault};
 pub use feature::Feature;
 pub use feature_members::{FeatureMembers, read_members};
-pub use feature_parser::read_feature;
+pub use feature_parser::{read_feature, take_feature};
 pub use geometry_member::GeometryMember;
 pub use id::{Id, has_no_controls, is_id, read_id};
 pub use json_text::read_json;

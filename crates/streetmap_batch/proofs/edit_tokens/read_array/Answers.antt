@@ -17,7 +17,7 @@ pub returns-in_err-read_items-clause-takes : goal.returns-in_err-read_items-clau
 returns-in_err-read_items-clause-takes c =
     let ts = c.next.new.self in
     let first : c.args.reader.now ≡ token_of c.in-Some.token ∷ ts = c.in-Some.ensures.value in
-    let opened = ap (value_at c.args.depth) (first ∙ ap (λ t. t ∷ ts) (c.opens_array.ensures.yes c.if-opens_array.true)) ∙ array_opens c.args.depth ts c.requires in
+    let opened = ap (value_at c.args.depth) (first ∙ ap (λ t. t ∷ ts) (c.opens_array.ensures.yes c.if-opens_array.true)) ∙ array_opens c.args.depth ts (omega arith) in
     let fault = c.in_err-read_items.field-0.0 in
     let same : c.from_residual.result ≡ Err fault = grind arith in
     subst (λ r. Takes IsArrayRead r c.read_items.new.reader (value_at c.args.depth c.args.reader.now)) (sym same)
@@ -27,7 +27,7 @@ pub returns-in_ok-read_items-clause-takes : goal.returns-in_ok-read_items-clause
 returns-in_ok-read_items-clause-takes c =
     let ts = c.next.new.self in
     let first : c.args.reader.now ≡ token_of c.in-Some.token ∷ ts = c.in-Some.ensures.value in
-    let opened = ap (value_at c.args.depth) (first ∙ ap (λ t. t ∷ ts) (c.opens_array.ensures.yes c.if-opens_array.true)) ∙ array_opens c.args.depth ts c.requires in
+    let opened = ap (value_at c.args.depth) (first ∙ ap (λ t. t ∷ ts) (c.opens_array.ensures.yes c.if-opens_array.true)) ∙ array_opens c.args.depth ts (omega arith) in
     let taken = c.in_ok-read_items.ensures.takes in
     (array taken.0, opened ∙ ap (parse_map array) taken.1, (taken.0, refl, taken.2))
 

@@ -1,4 +1,4 @@
-use Rattle.std.proofs.Common.{◌≡◌, ◌≤◌, All, List, length, subst, arith}
+use Rattle.std.proofs.Common.{All, List, subst, arith}
 use Rattle.std.proofs.lemmas.List.{length-map}
 use Rattle.std.proofs.lemmas.List.Elements.{All-map}
 use Rattle.streetmap_batch.specs.BatchFacts.{IsSoundEdit}
