@@ -34,10 +34,23 @@ pub record OnlyShows (sql : List ℕ) (params : Row) (db : Database) (Good : Lis
   pub never : (e : Error) → RefusesQuery None db program params e → ⊥
 
 pub only_of : (sql : List ℕ) (params : Row) (db : Database) (rows : List Row) → ShowsOf sql params db rows → OnlyShows sql params db (λ given. given ≡ rows)
-only_of sql params db rows h = record { plain = h.plain; unlisted = h.unlisted; program = h.program; names = h.names; is = h.is; whole = h.whole; starts = h.starts; answers = h.answers; never = h.never }
+only_of sql params db rows h = record {
+  plain = h.plain;
+  unlisted = h.unlisted;
+  program = h.program;
+  names = h.names;
+  is = h.is;
+  whole = h.whole;
+  starts =
+      h.starts;
+  answers = h.answers;
+  never = h.never;
+}
 
-pub only_by : (sql : List ℕ) (params : Row) (db : Database) (q : Query) (names : List (List ℕ)) (Good : List Row → Type 0) → Means db.schema sql (length params) (Select (program q) names)
-    → ((e : Error) → RefusesQuery None db (program q) params e → ⊥) → ((given : List Row) → IsAnswerAs Null q (overlay db.trees []) params given → Good given) → OnlyShows sql params db Good
+pub only_by : (sql : List ℕ) (params : Row) (db : Database) (q : Query) (names : List (List ℕ)) (Good : List Row → Type 0) →
+    Means db.schema sql (length params) (Select (program q) names)
+    → ((e : Error) → RefusesQuery None db (program q) params e → ⊥) → ((given : List Row) → IsAnswerAs Null q (overlay db.trees []) params given → Good given) →
+    OnlyShows sql params db Good
 only_by sql params db q names Good it never only = record {
   plain = is_plain db.schema sql (length params) _ it;
   unlisted = unlisted db.schema sql (length params) _ it;
@@ -66,13 +79,15 @@ module _ (sql : List ℕ) (params : Row) (old : Seen) (Good : List Row → Type 
       let db : it.0 ≡ old.now = subst (λ b. IsSourceOf b old.now it.0) shows.unlisted it.1 in
       let same : h.0.command ≡ Select shows.program shows.names = sym (ap command_of at) ∙ shows.is in
       let full : timed params h.0.formats h.1.now ≡ params = rw (bare.1, append-nil params) in
-      let one : RefusesQuery old.step_limit it.0 shows.program (timed params h.0.formats h.1.now) e = subst (λ k. RefusesToRead old.step_limit k it.0 (timed params h.0.formats h.1.now) e) same it.2 in
+      let one : RefusesQuery old.step_limit it.0 shows.program (timed params h.0.formats h.1.now) e =
+      subst (λ k. RefusesToRead old.step_limit k it.0 (timed params h.0.formats h.1.now) e) same it.2 in
       let two = subst (λ d. RefusesQuery old.step_limit d shows.program (timed params h.0.formats h.1.now) e) db one in
       let three = subst (λ q. RefusesQuery old.step_limit old.now shows.program q e) full two in
       absurd (shows.never e (subst (λ l. RefusesQuery l old.now shows.program params e) limit three))
 
   pub sees_good : (rows : List Row) → QueryShows sql params old rows → Good rows
-  sees_good rows h = shows.answers rows (reads_as sql params old old old.now.schema refl (Select shows.program shows.names) shows.is shows.plain shows.unlisted rows h)
+  sees_good rows h = shows.answers rows (reads_as sql params old old old.now.schema refl (Select shows.program shows.names) shows.is shows.plain shows.unlisted
+      rows h)
 
   -- so it shows good rows
   pub not_none : IsNotShown sql params Good old → ⊥
@@ -84,7 +99,8 @@ module _ (sql : List ℕ) (params : Row) (old : Seen) (Good : List Row → Type 
   not_none (not_good rows shown bad) = bad (sees_good rows shown)
 
 -- what is so of better rows
-pub only_so : (sql : List ℕ) (params : Row) (db : Database) (Good Fair : List Row → Type 0) → ((rows : List Row) → Good rows → Fair rows) → OnlyShows sql params db Good → OnlyShows sql params db Fair
+pub only_so : (sql : List ℕ) (params : Row) (db : Database) (Good Fair : List Row → Type 0) → ((rows : List Row) → Good rows → Fair rows) →
+    OnlyShows sql params db Good → OnlyShows sql params db Fair
 only_so sql params db Good Fair so h = record {
   plain = h.plain;
   unlisted = h.unlisted;

@@ -8,7 +8,8 @@ use Rattle.streetmap_rows.specs.declared.fault.ReadFault.{ReadFault}
 use Rattle.streetmap_rows.specs.declared.fault.ReadFault.TheVariants.{Memory, Store, Unread}
 use Rattle.streetmap_reading.specs.ShownQueries.{QueryShows}
 use Rattle.streetmap_reading.specs.FoldEffects.{Refuses, StopsQuery}
-use Rattle.streetmap_checking.specs.QueryResults.{IsNotShown, is_refused, begins_badly, not_good, ShowsWhy, ShowsOrWhyNot, Known, SeesFeatures, SeesAllFeatures, SeesCollections, SeesOwners, SeesBatches, NoFeatures, NoFeaturesOfAll}
+use Rattle.streetmap_checking.specs.QueryResults.{IsNotShown, is_refused, begins_badly, not_good, ShowsWhy, ShowsOrWhyNot, Known, SeesFeatures, SeesAllFeatures}
+use Rattle.streetmap_checking.specs.QueryResults.{SeesCollections, SeesOwners, SeesBatches, NoFeatures, NoFeaturesOfAll}
 use Rattle.streetmap_checking.specs.Good.{AreFeatureRows}
 use Rattle.streetmap_checking.specs.Statements.{select_features, select_owners, select_batches}
 use Rattle.streetmap_rows.specs.Statements.{select_collections}
@@ -21,14 +22,16 @@ use Rattle.streetmap_reading.proofs.Stopping.{sees_on, unseen_on}
 use Rattle.streetmap_checking.proofs.Undone.{undone_was, was_then}
 
 -- why a fold stopped
-pub stopped : {F : Type 0} (Holds : F → F → List Row → Type 0) (IsGood : F → List Row → Type 0) (sql : List ℕ) (params : Row) (start : F) (Good : List Row → Type 0) → ((rows : List Row) → Good rows → IsGood start rows)
+pub stopped : {F : Type 0} (Holds : F → F → List Row → Type 0) (IsGood : F → List Row → Type 0) (sql : List ℕ) (params : Row) (start : F)
+    (Good : List Row → Type 0) → ((rows : List Row) → Good rows → IsGood start rows)
     → (old new : Seen) (fault : ReadFault) → StopsQuery Holds IsGood sql params start old new fault → ShowsWhy (IsNotShown sql params Good old) old new fault
 stopped Holds IsGood sql params start Good good old new Memory h = h
 stopped Holds IsGood sql params start Good good old new Unread h = (begins_badly h.0.0 h.0.1 (λ later g. h.0.2 later (good (h.0.0 ++ later) g)), h.1)
 stopped Holds IsGood sql params start Good good old new (Store e) h =
     ((λ other. is_refused (h.0 other)), undone_was old new h.1, h.2)
 
-module _ (sql : List ℕ) (params : Row) (simple : IsSimpleQuery sql) (Good : List Row → Type 0) (a b : Seen) (same : IsUnchanged a b) (limit : b.step_limit ≡ a.step_limit) where
+module _ (sql : List ℕ) (params : Row) (simple : IsSimpleQuery sql) (Good : List Row → Type 0) (a b : Seen) (same : IsUnchanged a b)
+    (limit : b.step_limit ≡ a.step_limit) where
   -- of a connection that was left as it was
   pub none_on : IsNotShown sql params Good b → IsNotShown sql params Good a
   none_on (is_refused h) = is_refused (unseen_on sql params a b (simple a.now.schema) same limit h)
@@ -57,13 +60,16 @@ why_for why first a b Unread turn h = (turn h.0, h.1)
 why_for why first a b (Store e) turn h = ((λ other. turn (h.0 other)), h.1, h.2)
 
 -- a fault that is passed on
-pub handed : {A : Type 0} (Is : A → Type 0) (why : Type 0) (a c : Seen) (r : Result A ReadFault) (fault : ReadFault) → r ≡ Err fault → ShowsWhy why a c fault → ShowsOrWhyNot Is why a c r
+pub handed : {A : Type 0} (Is : A → Type 0) (why : Type 0) (a c : Seen) (r : Result A ReadFault) (fault : ReadFault) → r ≡ Err fault → ShowsWhy why a c fault →
+    ShowsOrWhyNot Is why a c r
 handed Is why a c r fault is h = subst (ShowsOrWhyNot Is why a c) (sym is) h
 
 -- a fold that is the whole read
-pub was_read : {F : Type 0} (Holds : F → F → List Row → Type 0) (IsGood : F → List Row → Type 0) (sql : List ℕ) (params : Row) (start after : F) (Good : List Row → Type 0) (Is : Type 0) (old new : Seen) (r : Result (Unit {0}) ReadFault)
+pub was_read : {F : Type 0} (Holds : F → F → List Row → Type 0) (IsGood : F → List Row → Type 0) (sql : List ℕ) (params : Row) (start after : F)
+    (Good : List Row → Type 0) (Is : Type 0) (old new : Seen) (r : Result (Unit {0}) ReadFault)
     → ((rows : List Row) → Good rows → IsGood start rows) → ((rows : List Row) → QueryShows sql params old rows → Holds start after rows → Is)
-    → MatchResult r (λ _. ((rows : List Row) × QueryShows sql params old rows × Holds start after rows) × IsUnchanged old new) (StopsQuery Holds IsGood sql params start old new) → ShowsOrWhyNot (λ _. Is) (IsNotShown sql params Good old) old new r
+    → MatchResult r (λ _. ((rows : List Row) × QueryShows sql params old rows × Holds start after rows) × IsUnchanged old new)
+    (StopsQuery Holds IsGood sql params start old new) → ShowsOrWhyNot (λ _. Is) (IsNotShown sql params Good old) old new r
 was_read Holds IsGood sql params start after Good Is old new (Ok u) good is h = (is h.0.0 h.0.1 h.0.2, h.1)
 was_read Holds IsGood sql params start after Good Is old new (Err fault) good is h = stopped Holds IsGood sql params start Good good old new fault h
 

@@ -25,7 +25,8 @@ refuses_for P Q (Store e) turn h = absurd h
 
 -- ---- texts
 
-pub property_is : (b : Bool) (o : Option Text) (t : Text) → o ≡ Some t → IsUtf8 t → b ≡ is_time_property t → (IsTrue b → IsTimePropertyIf o) × (IsTimePropertyIf o → IsTrue b)
+pub property_is : (b : Bool) (o : Option Text) (t : Text) → o ≡ Some t → IsUtf8 t → b ≡ is_time_property t → (IsTrue b → IsTimePropertyIf o)
+    × (IsTimePropertyIf o → IsTrue b)
 property_is b o t is text same = (
   (λ h. subst IsTimePropertyIf (sym is) (subst IsTrue same h, is_utf8-from_IsUtf8 t text)),
   (λ h. subst IsTrue (sym same) (subst IsTimePropertyIf is h).0),
@@ -61,5 +62,6 @@ was_ok : (r : Result (Option IntervalValue) TimeFault) (time : Option IntervalVa
 was_ok (Ok t) time e = let same : t ≡ time = cc in ap Ok same
 was_ok (Err f) time e = absurd (cc)
 
-pub time_is : (property : Option Text) (properties : Data) (time : Option IntervalValue) → IsTimeOf property properties time → time_of property properties ≡ Ok time
+pub time_is : (property : Option Text) (properties : Data) (time : Option IntervalValue) → IsTimeOf property properties time → time_of property properties
+    ≡ Ok time
 time_is property properties time h = was_ok _ time (time_again property properties time h)

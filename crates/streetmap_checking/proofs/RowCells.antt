@@ -49,7 +49,8 @@ abbrev pub HasCells : Text → FeatureValue → Row → Type 0
 HasCells body f row = HasTextCells f.id body row × HasExtentCells (extent_in f) row × HasSeconds (seconds_in f) row
 
 pub feature_row : (body : Text) (f : FeatureValue) (row : Row) → body ≡ feature_text f → length row ≡ 8 → HasCells body f row → row ≡ feature_view f.id f
-feature_row body f row text eight h = eight_cells row eight ∙ (λ i. h.0.0 i ∷ (h.0.1 ∙ ap Words text) i ∷ h.1.0 i ∷ h.1.1 i ∷ h.1.2 i ∷ h.1.3 i ∷ h.2.0 i ∷ h.2.1 i ∷ [])
+feature_row body f row text eight h = eight_cells row eight ∙ (λ i. h.0.0 i ∷ (h.0.1 ∙ ap Words text) i ∷ h.1.0 i ∷ h.1.1 i ∷ h.1.2 i ∷ h.1.3 i ∷ h.2.0 i
+    ∷ h.2.1 i ∷ [])
 
 pub row_cells : (body : Text) (f : FeatureValue) (row : Row) → body ≡ feature_text f → row ≡ feature_view f.id f → HasCells body f row
 row_cells body f row text is =
@@ -76,7 +77,8 @@ or_null_is (Some s) (Some t) e = let same : Words s ≡ Words t = e in cc
 pub time_of_cells : (p q : Text) (g h : CollectionHead) → head_cells p g ≡ head_cells q h → g.time ≡ h.time
 time_of_cells p q g h is = or_null_is g.time h.time (ap (λ (r : Row). column r 2) is)
 
-pub head_row : (name title : Text) (time : Option Text) (row : Row) → length row ≡ 3 → column row 0 ≡ Words name → column row 1 ≡ Words title → column row 2 ≡ or_null Words time → row ≡ head_cells name (record { title = title; time = time })
+pub head_row : (name title : Text) (time : Option Text) (row : Row) → length row ≡ 3 → column row 0 ≡ Words name → column row 1 ≡ Words title → column row 2
+    ≡ or_null Words time → row ≡ head_cells name (record { title = title; time = time })
 head_row name title time row three p q r = three_cells row three ∙ (λ i. p i ∷ q i ∷ r i ∷ [])
 
 -- ---- the row of a batch

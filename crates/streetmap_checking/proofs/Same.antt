@@ -88,7 +88,8 @@ module _ (seen : Seen) (s t : State) (well : IsState s) (shows : ShowsState s se
       → x.0 ≡ y.0 → x.1.time ≡ y.1.time → x.1.features ≡ y.1.features
   same_features x y p q name time =
       let at = entry_at t.collections y q in
-      let rows = sees_good select_features (Words y.0 ∷ []) seen _ (only_of select_features (Words y.0 ∷ []) seen.now _ (features_at seen.now t rests.kept y.0 y.1 at)) rests.unlimited _
+      let rows = sees_good select_features (Words y.0 ∷ []) seen _ (only_of select_features (Words y.0 ∷ []) seen.now _
+      (features_at seen.now t rests.kept y.0 y.1 at)) rests.unlimited _
       (subst (λ n. QueryShows select_features (Words n ∷ []) seen (map (λ f. feature_view f.0 f.1) (entries x.1.features))) name (shows.features x p)) in
       same_entries x.1.features y.1.features
       (same_list (λ e. feature_view e.0 e.1) (entries x.1.features) (entries y.1.features)
@@ -109,7 +110,8 @@ module _ (seen : Seen) (s t : State) (well : IsState s) (shows : ShowsState s se
   same_collections : entries s.collections ≡ entries t.collections
   same_collections =
       same_list (λ e. collection_cells e.0 e.1) (entries s.collections) (entries t.collections) same_collection
-      (sees_good select_collections [] seen _ (only_of select_collections [] seen.now _ (collections_at seen.now t rests.kept)) rests.unlimited _ shows.collections)
+      (sees_good select_collections [] seen _ (only_of select_collections [] seen.now _ (collections_at seen.now t rests.kept)) rests.unlimited _
+      shows.collections)
 
   pub shown_is_kept : s ≡ t
   shown_is_kept =

@@ -25,7 +25,10 @@ by_all P (x ∷ xs) (suc j) h all = by_all P xs j (omega (arith, h)) all.1
 
 ascending_by : (xs : List ℕ) → ((j k : ℕ) → j < k → k < length xs → get_or xs j 0 ≢ get_or xs k 0) → IsAscending (λ m n. m ≢ n) xs
 ascending_by [] each = tt
-ascending_by (x ∷ xs) each = (all_by (λ n. x ≢ n) xs (λ k h. each 0 (suc k) (omega arith) (omega (arith, h))), ascending_by xs (λ j k low h. each (suc j) (suc k) (omega (arith, low)) (omega (arith, h))))
+ascending_by (x ∷ xs) each = (
+  all_by (λ n. x ≢ n) xs (λ k h. each 0 (suc k) (omega arith) (omega (arith, h))),
+  ascending_by xs (λ j k low h. each (suc j) (suc k) (omega (arith, low)) (omega (arith, h))),
+)
 
 by_ascending : (xs : List ℕ) (j k : ℕ) → j < k → k < length xs → IsAscending (λ m n. m ≢ n) xs → get_or xs j 0 ≢ get_or xs k 0
 by_ascending [] j k low h up = absurd (omega (arith, h))
@@ -44,7 +47,8 @@ all_seen serials seen i end few it = record {
 }
 
 -- one was seen before
-pub seen_again : (serials : List ℕ) (seen : List Bool) (i : ℕ) → i < length serials → 1 ≤ get_or serials i 0 → get_or serials i 0 ≤ length serials → AreSeen serials seen i → get_or seen (get_or serials i 0 - 1) false ≡ true → AreSerials serials → ⊥
+pub seen_again : (serials : List ℕ) (seen : List Bool) (i : ℕ) → i < length serials → 1 ≤ get_or serials i 0 → get_or serials i 0 ≤ length serials →
+    AreSeen serials seen i → get_or seen (get_or serials i 0 - 1) false ≡ true → AreSerials serials → ⊥
 seen_again serials seen i low from to it on are =
     let j = it.only (get_or serials i 0 - 1) (omega (arith, from, to)) on in
     by_ascending serials j.0 i j.1 low are.one_each (omega (arith, j.2, from))

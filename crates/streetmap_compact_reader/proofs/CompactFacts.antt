@@ -41,17 +41,23 @@ timed_again property f h said =
     }
 
 -- the feature of a compact text is what its value reads as
-pub reads_as : (property : Option (List ℕ)) (text id : List ℕ) (extent : Option BoxValue) (time : Option IntervalValue) (h : IsCompactOf property text id extent time) → (d : Data) × (json_of text ≡ Ok d) × ReadsAs property d h.feature
+pub reads_as : (property : Option (List ℕ)) (text id : List ℕ) (extent : Option BoxValue) (time : Option IntervalValue)
+    (h : IsCompactOf property text id extent time) → (d : Data) × (json_of text ≡ Ok d) × ReadsAs property d h.feature
 reads_as property text id extent time h =
     (feature_data h.feature, ap json_of h.written ∙ text_is_json h.feature h.is, timed_again property h.feature h.is h.reported)
 
-read_again : (property : Option (List ℕ)) (text : List ℕ) (f : FeatureValue) → IsFeature f → text ≡ compact_text (feature_data f) → time_of property f.properties ≡ Ok f.time → feature_of_text property text ≡ Ok f
+read_again : (property : Option (List ℕ)) (text : List ℕ) (f : FeatureValue) → IsFeature f → text ≡ compact_text (feature_data f) →
+    time_of property f.properties ≡ Ok f.time → feature_of_text property text ≡ Ok f
 read_again property text f h written said =
-    ap (λ r. r >>= feature property) (ap json_of written ∙ text_is_json f h) ∙ wholes.feature_again None property (feature_data f) f (timed_again property f h said)
+    ap (λ r. r >>= feature property) (ap json_of written ∙ text_is_json f h) ∙ wholes.feature_again None property (feature_data f) f
+    (timed_again property f h said)
 
-pub compact_feature : (property : Option (List ℕ)) (text opened placed identified named described typed id : List ℕ) (extent : Option BoxValue) (found : Option Flat) (time : Option IntervalValue)
-    → text ≡ codes "{\"geometry\":" ++ opened → IsGeometryFront opened placed extent → placed ≡ codes ",\"id\":" ++ identified → identified ≡ compact_text (string id) ++ named → is_utf8 id ≡ true → is_id id ≡ true
-    → named ≡ codes ",\"properties\":" ++ described → (p : AreProperties described typed property found) → typed ≡ codes ",\"type\":\"Feature\"}" → time_of property p.properties ≡ Ok time → IsCompactOf property text id extent time
+pub compact_feature : (property : Option (List ℕ)) (text opened placed identified named described typed id : List ℕ) (extent : Option BoxValue)
+    (found : Option Flat) (time : Option IntervalValue)
+    → text ≡ codes "{\"geometry\":" ++ opened → IsGeometryFront opened placed extent → placed ≡ codes ",\"id\":" ++ identified → identified
+    ≡ compact_text (string id) ++ named → is_utf8 id ≡ true → is_id id ≡ true
+    → named ≡ codes ",\"properties\":" ++ described → (p : AreProperties described typed property found) → typed ≡ codes ",\"type\":\"Feature\"}" →
+    time_of property p.properties ≡ Ok time → IsCompactOf property text id extent time
 compact_feature property text opened placed identified named described typed id extent found time a g b i utf8 is c p d said =
     let f : FeatureValue = record { id = id; geometry = g.geometry; properties = p.properties; time = time } in
     let h : IsFeature f = record {
@@ -70,7 +76,9 @@ compact_feature property text opened placed identified named described typed id 
     let id_text = compact_text (string id) in
     let said_text = compact_text p.properties in
     let written : text ≡ compact_text (feature_data f) =
-    a ∙ ap (λ (t : List ℕ). codes "{\"geometry\":" ++ t) (g.text ∙ ap (λ (t : List ℕ). placed_text ++ t) (b ∙ ap (λ (t : List ℕ). codes ",\"id\":" ++ t) (i ∙ ap (λ (t : List ℕ). id_text ++ t) (c ∙ ap (λ (t : List ℕ). codes ",\"properties\":" ++ t) (p.text ∙ ap (λ (t : List ℕ). said_text ++ t) d)))))
+    a ∙ ap (λ (t : List ℕ). codes "{\"geometry\":" ++ t) (g.text ∙ ap (λ (t : List ℕ). placed_text ++ t)
+    (b ∙ ap (λ (t : List ℕ). codes ",\"id\":" ++ t) (i ∙ ap (λ (t : List ℕ). id_text ++ t)
+    (c ∙ ap (λ (t : List ℕ). codes ",\"properties\":" ++ t) (p.text ∙ ap (λ (t : List ℕ). said_text ++ t) d)))))
     ∙ feature_text_is f in
     record {
       feature = f;

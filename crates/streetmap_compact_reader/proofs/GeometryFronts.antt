@@ -12,7 +12,8 @@ use Rattle.streetmap_compact_reader.specs.Fronts.{ArePositions, IsPolygonFront, 
 use Rattle.streetmap_compact_reader.specs.declared.positions.Positions.{Positions}
 use Rattle.streetmap_compact_reader.proofs.RingFronts.{line_count_is}
 
-pub point_front : (p : PositionValue) (before typed after : List ℕ) (extent : BoxValue) → IsInGrid p → before ≡ compact_text (position_data p) ++ typed → typed ≡ codes ",\"type\":\"Point\"}" ++ after → extent ≡ positions_extent (p ∷ []) → AreCoordinates before after extent
+pub point_front : (p : PositionValue) (before typed after : List ℕ) (extent : BoxValue) → IsInGrid p → before ≡ compact_text (position_data p) ++ typed → typed
+    ≡ codes ",\"type\":\"Point\"}" ++ after → extent ≡ positions_extent (p ∷ []) → AreCoordinates before after extent
 unfolding position_data
 point_front p before typed after extent inside text type reaches = record {
   simple = values.point p;
@@ -23,7 +24,8 @@ point_front p before typed after extent inside text type reaches = record {
   reaches = reaches;
 }
 
-pub line_front : (before typed after : List ℕ) (kept : Positions) → ArePositions before typed kept → 2 ≤ kept.count → typed ≡ codes ",\"type\":\"LineString\"}" ++ after → AreCoordinates before after (box_value kept.extent)
+pub line_front : (before typed after : List ℕ) (kept : Positions) → ArePositions before typed kept → 2 ≤ kept.count → typed ≡ codes ",\"type\":\"LineString\"}"
+    ++ after → AreCoordinates before after (box_value kept.extent)
 line_front before typed after kept h long type =
     let ps = h.first ∷ h.others in
     record {
@@ -35,7 +37,8 @@ line_front before typed after kept h long type =
       reaches = h.are.reaches;
     }
 
-pub points_front : (before typed after : List ℕ) (kept : Positions) → ArePositions before typed kept → typed ≡ codes ",\"type\":\"MultiPoint\"}" ++ after → AreCoordinates before after (box_value kept.extent)
+pub points_front : (before typed after : List ℕ) (kept : Positions) → ArePositions before typed kept → typed ≡ codes ",\"type\":\"MultiPoint\"}" ++ after →
+    AreCoordinates before after (box_value kept.extent)
 points_front before typed after kept h type =
     let ps = h.first ∷ h.others in
     record {
@@ -47,7 +50,8 @@ points_front before typed after kept h type =
       reaches = h.are.reaches;
     }
 
-pub polygon_front : (before typed after : List ℕ) (extent : BoxValue) → IsPolygonFront before typed extent → typed ≡ codes ",\"type\":\"Polygon\"}" ++ after → AreCoordinates before after extent
+pub polygon_front : (before typed after : List ℕ) (extent : BoxValue) → IsPolygonFront before typed extent → typed ≡ codes ",\"type\":\"Polygon\"}" ++ after →
+    AreCoordinates before after extent
 polygon_front before typed after extent h type = record {
   simple = values.polygon h.rings;
   text = h.text ∙ ap (λ (t : List ℕ). compact_text (coordinates_data (values.polygon h.rings)) ++ t) type;
@@ -60,7 +64,8 @@ polygon_front before typed after extent h type = record {
 regrouped : (a b c d e after : List ℕ) → a ++ (b ++ (c ++ (d ++ (e ++ after)))) ≡ (a ++ (b ++ (c ++ (d ++ e)))) ++ after
 regrouped a b c d e after = simp append_assoc
 
-pub geometry_front : (before placed after : List ℕ) (extent : BoxValue) → before ≡ codes "{\"coordinates\":" ++ placed → AreCoordinates placed after extent → IsGeometryFront before after (Some extent)
+pub geometry_front : (before placed after : List ℕ) (extent : BoxValue) → before ≡ codes "{\"coordinates\":" ++ placed → AreCoordinates placed after extent →
+    IsGeometryFront before after (Some extent)
 unfolding extent_of
 geometry_front before placed after extent opened h =
     let s = h.simple in

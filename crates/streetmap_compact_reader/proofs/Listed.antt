@@ -17,13 +17,16 @@ module _ {A : Type 0} (f : A → Data) where
 
   pub listed_first : (start opened rest : List ℕ) (x : A) → start ≡ 91 ∷ opened → opened ≡ compact_text (f x) ++ rest → Listed start rest (x ∷ [])
   listed_first start opened rest x a b = record {
-    goes_on = λ more after e. a ∙ ap (λ (t : List ℕ). 91 ∷ t) (b ∙ ap (λ (t : List ℕ). compact_text (f x) ++ t) e ∙ sym (append_assoc (compact_text (f x)) (rest_of more) after));
+    goes_on = λ more after e. a ∙ ap (λ (t : List ℕ). 91 ∷ t) (b ∙ ap (λ (t : List ℕ). compact_text (f x) ++ t) e
+        ∙ sym (append_assoc (compact_text (f x)) (rest_of more) after));
   }
 
-  pub listed_more : (start rest apart next : List ℕ) (xs : List A) (x : A) → Listed start rest xs → rest ≡ 44 ∷ apart → apart ≡ compact_text (f x) ++ next → Listed start next (xs ++ x ∷ [])
+  pub listed_more : (start rest apart next : List ℕ) (xs : List A) (x : A) → Listed start rest xs → rest ≡ 44 ∷ apart → apart ≡ compact_text (f x) ++ next →
+      Listed start next (xs ++ x ∷ [])
   listed_more start rest apart next xs x h a b = record {
     goes_on = λ more after e.
-        h.goes_on (x ∷ more) after (a ∙ ap (λ (t : List ℕ). 44 ∷ t) (b ∙ ap (λ (t : List ℕ). compact_text (f x) ++ t) e ∙ sym (append_assoc (compact_text (f x)) (rest_of more) after)))
+        h.goes_on (x ∷ more) after (a ∙ ap (λ (t : List ℕ). 44 ∷ t) (b ∙ ap (λ (t : List ℕ). compact_text (f x) ++ t) e
+        ∙ sym (append_assoc (compact_text (f x)) (rest_of more) after)))
         ∙ ap (λ (ys : List A). compact_text (array_of f ys) ++ after) (sym (append_assoc xs (x ∷ []) more));
   }
 

@@ -1,5 +1,6 @@
 -- Members of an object, read one after another.
-use Rattle.std.proofs.Common.{◌≡◌, ℕ, ◌≤◌, true, false, IfSome, List, ◌∷◌, ◌++◌, Option, None, Some, option_map, Less, Equal, Greater, ℤ, pos, negsuc, refl, ap, subst, sym, ◌∙◌, arith, append_assoc, codes}
+use Rattle.std.proofs.Common.{◌≡◌, ℕ, ◌≤◌, true, false, IfSome, List, ◌∷◌, ◌++◌, Option, None, Some, option_map, Less, Equal, Greater, ℤ, pos, negsuc, refl, ap}
+use Rattle.std.proofs.Common.{subst, sym, ◌∙◌, arith, append_assoc, codes}
 use Rattle.std.specs.Ordering.{nat_cmp, is_lt, is_eq, match_ordering}
 use Rattle.std.specs.declared.cmp.Ordering.{Ordering}
 use Rattle.std.specs.Borrow.{Bor}
@@ -69,23 +70,31 @@ get_past name other d ms h = apart (slice_cmp nat_cmp name other) (get_member na
 pub get_here : (name other : List ℕ) (d : Data) (ms : Members) → bytes_eq name other ≡ true → get_member name (member other d ms) ≡ Some d
 get_here name other d ms h = same (slice_cmp nat_cmp name other) (get_member name ms) (Some d) (is_eq-slice_cmp name other ∙ h)
 
-here : (property : Option (List ℕ)) (p name : List ℕ) (v : Flat) (found : Option Flat) → property ≡ Some p → found ≡ None → bytes_eq p name ≡ true → IfSome property (λ q. (more : Members) → found_or found (get_member q (member name (flat_data v) more)) ≡ Some (flat_data v))
+here : (property : Option (List ℕ)) (p name : List ℕ) (v : Flat) (found : Option Flat) → property ≡ Some p → found ≡ None → bytes_eq p name ≡ true →
+    IfSome property (λ q. (more : Members) → found_or found (get_member q (member name (flat_data v) more)) ≡ Some (flat_data v))
 here property p name v found is none same =
-    subst (λ (o : Option (List ℕ)). IfSome o (λ q. (more : Members) → found_or found (get_member q (member name (flat_data v) more)) ≡ Some (flat_data v))) (sym is)
+    subst (λ (o : Option (List ℕ)). IfSome o (λ q. (more : Members) → found_or found (get_member q (member name (flat_data v) more)) ≡ Some (flat_data v)))
+    (sym is)
     (λ more. ap (λ o. found_or o (get_member p (member name (flat_data v) more))) none ∙ get_here p name (flat_data v) more same)
 
-past : (property : Option (List ℕ)) (p name : List ℕ) (v : Flat) (found : Option Flat) → property ≡ Some p → found ≡ None → bytes_eq p name ≡ false → IfSome property (λ q. (more : Members) → found_or found (get_member q (member name (flat_data v) more)) ≡ get_member q more)
+past : (property : Option (List ℕ)) (p name : List ℕ) (v : Flat) (found : Option Flat) → property ≡ Some p → found ≡ None → bytes_eq p name ≡ false →
+    IfSome property (λ q. (more : Members) → found_or found (get_member q (member name (flat_data v) more)) ≡ get_member q more)
 past property p name v found is none apart =
-    subst (λ (o : Option (List ℕ)). IfSome o (λ q. (more : Members) → found_or found (get_member q (member name (flat_data v) more)) ≡ get_member q more)) (sym is)
+    subst (λ (o : Option (List ℕ)). IfSome o (λ q. (more : Members) → found_or found (get_member q (member name (flat_data v) more)) ≡ get_member q more))
+    (sym is)
     (λ more. ap (λ o. found_or o (get_member p (member name (flat_data v) more))) none ∙ get_past p name (flat_data v) more apart)
 
 abbrev texts : Option (Bor (List ℕ)) → Option (List ℕ)
 texts o = option_map (λ s. s.now) o
 
-pub found_here : (property : Option (Bor (List ℕ))) (p : Bor (List ℕ)) (name : List ℕ) (v : Flat) (found : Option Flat) → property ≡ Some p → found ≡ None → bytes_eq p.now name ≡ true → IfSome (texts property) (λ q. (more : Members) → found_or found (get_member q (member name (flat_data v) more)) ≡ Some (flat_data v))
+pub found_here : (property : Option (Bor (List ℕ))) (p : Bor (List ℕ)) (name : List ℕ) (v : Flat) (found : Option Flat) → property ≡ Some p → found ≡ None →
+    bytes_eq p.now name ≡ true → IfSome (texts property) (λ q. (more : Members) → found_or found (get_member q (member name (flat_data v) more))
+    ≡ Some (flat_data v))
 found_here property p name v found is none same = here (texts property) p.now name v found (ap texts is) none same
 
-pub found_past : (property : Option (Bor (List ℕ))) (p : Bor (List ℕ)) (name : List ℕ) (v : Flat) (found : Option Flat) → property ≡ Some p → found ≡ None → bytes_eq p.now name ≡ false → IfSome (texts property) (λ q. (more : Members) → found_or found (get_member q (member name (flat_data v) more)) ≡ get_member q more)
+pub found_past : (property : Option (Bor (List ℕ))) (p : Bor (List ℕ)) (name : List ℕ) (v : Flat) (found : Option Flat) → property ≡ Some p → found ≡ None →
+    bytes_eq p.now name ≡ false → IfSome (texts property) (λ q. (more : Members) → found_or found (get_member q (member name (flat_data v) more))
+    ≡ get_member q more)
 found_past property p name v found is none apart = past (texts property) p.now name v found (ap texts is) none apart
 
 -- ---- the members so far
@@ -99,7 +108,8 @@ pub record MembersRead (start rest last : List ℕ) (name : Option (List ℕ)) (
   pub exact : (more : Members) → is_before last more ≡ true → are_exact_members more ≡ true → are_exact_members (with more) ≡ true
   pub said : IfSome name (λ n. (more : Members) → get_member n (with more) ≡ found_or found (get_member n more))
 
-member_text : (before after next : List ℕ) (name : List ℕ) (d : Data) (more : Members) → before ≡ compact_text (string name) ++ 58 ∷ (compact_text d ++ next) → next ≡ members_text true more ++ after
+member_text : (before after next : List ℕ) (name : List ℕ) (d : Data) (more : Members) → before ≡ compact_text (string name) ++ 58 ∷ (compact_text d ++ next) →
+    next ≡ members_text true more ++ after
     → before ≡ (compact_text (string name) ++ 58 ∷ (compact_text d ++ members_text true more)) ++ after
 member_text before after next name d more a b =
     a ∙ ap (λ (t : List ℕ). compact_text (string name) ++ 58 ∷ (compact_text d ++ t)) b
@@ -112,11 +122,14 @@ no_depth v name more h = let none = flat_depth v in omega (arith, h, none)
 no_float : (v : Flat) (name : List ℕ) (more : Members) → members_have_float more ≡ false → members_have_float (member name (flat_data v) more) ≡ false
 no_float v name more h = rw (flat_whole v, h) refl
 
-all_exact : (v : Flat) (name : List ℕ) (more : Members) → is_utf8 name ≡ true → is_exact (flat_data v) ≡ true → is_before name more ≡ true → are_exact_members more ≡ true → are_exact_members (member name (flat_data v) more) ≡ true
+all_exact : (v : Flat) (name : List ℕ) (more : Members) → is_utf8 name ≡ true → is_exact (flat_data v) ≡ true → is_before name more ≡ true →
+    are_exact_members more ≡ true → are_exact_members (member name (flat_data v) more) ≡ true
 all_exact v name more utf8 exact order h = rw (utf8, order, exact, h) refl
 
-pub first_member : (start rest name : List ℕ) (v : Flat) (property : Option (List ℕ)) (found : Option Flat) → start ≡ compact_text (string name) ++ 58 ∷ (compact_text (flat_data v) ++ rest) → is_utf8 name ≡ true → is_exact (flat_data v) ≡ true
-    → IfSome property (λ p. (more : Members) → get_member p (member name (flat_data v) more) ≡ found_or found (get_member p more)) → MembersRead start rest name property found
+pub first_member : (start rest name : List ℕ) (v : Flat) (property : Option (List ℕ)) (found : Option Flat) → start ≡ compact_text (string name) ++ 58
+    ∷ (compact_text (flat_data v) ++ rest) → is_utf8 name ≡ true → is_exact (flat_data v) ≡ true
+    → IfSome property (λ p. (more : Members) → get_member p (member name (flat_data v) more) ≡ found_or found (get_member p more)) →
+    MembersRead start rest name property found
 first_member start rest name v property found text utf8 exact said = record {
   with = λ more. member name (flat_data v) more;
   text = λ more after e. member_text start after rest name (flat_data v) more text e;
@@ -126,17 +139,22 @@ first_member start rest name v property found text utf8 exact said = record {
   said = said;
 }
 
-next_said : (property : Option (List ℕ)) (with : Members → Members) (name : List ℕ) (v : Flat) (found now : Option Flat) → IfSome property (λ p. (more : Members) → get_member p (with more) ≡ found_or found (get_member p more))
-    → IfSome property (λ p. (more : Members) → found_or found (get_member p (member name (flat_data v) more)) ≡ found_or now (get_member p more)) → IfSome property (λ p. (more : Members) → get_member p (with (member name (flat_data v) more)) ≡ found_or now (get_member p more))
+next_said : (property : Option (List ℕ)) (with : Members → Members) (name : List ℕ) (v : Flat) (found now : Option Flat) →
+    IfSome property (λ p. (more : Members) → get_member p (with more) ≡ found_or found (get_member p more))
+    → IfSome property (λ p. (more : Members) → found_or found (get_member p (member name (flat_data v) more)) ≡ found_or now (get_member p more)) →
+    IfSome property (λ p. (more : Members) → get_member p (with (member name (flat_data v) more)) ≡ found_or now (get_member p more))
 next_said None with name v found now h k = tt
 next_said (Some p) with name v found now h k = λ more. h (member name (flat_data v) more) ∙ k more
 
-pub next_member : (start rest apart next last name : List ℕ) (v : Flat) (property : Option (List ℕ)) (found now : Option Flat) → MembersRead start rest last property found → rest ≡ 44 ∷ apart → apart ≡ compact_text (string name) ++ 58 ∷ (compact_text (flat_data v) ++ next)
+pub next_member : (start rest apart next last name : List ℕ) (v : Flat) (property : Option (List ℕ)) (found now : Option Flat) →
+    MembersRead start rest last property found → rest ≡ 44 ∷ apart → apart ≡ compact_text (string name) ++ 58 ∷ (compact_text (flat_data v) ++ next)
     → is_utf8 name ≡ true → is_exact (flat_data v) ≡ true → is_lt (slice_cmp nat_cmp last name) ≡ true
-    → IfSome property (λ p. (more : Members) → found_or found (get_member p (member name (flat_data v) more)) ≡ found_or now (get_member p more)) → MembersRead start next name property now
+    → IfSome property (λ p. (more : Members) → found_or found (get_member p (member name (flat_data v) more)) ≡ found_or now (get_member p more)) →
+    MembersRead start next name property now
 next_member start rest apart next last name v property found now h comma text utf8 exact less said = record {
   with = λ more. h.with (member name (flat_data v) more);
-  text = λ more after e. h.text (member name (flat_data v) more) after (comma ∙ ap (λ (t : List ℕ). 44 ∷ t) (member_text apart after next name (flat_data v) more text e));
+  text = λ more after e. h.text (member name (flat_data v) more) after (comma ∙ ap (λ (t : List ℕ). 44 ∷ t)
+      (member_text apart after next name (flat_data v) more text e));
   flat = λ more k. h.flat (member name (flat_data v) more) (no_depth v name more k);
   whole = λ more k. h.whole (member name (flat_data v) more) (no_float v name more k);
   exact = λ more order k.
@@ -148,11 +166,14 @@ found_alone : (o : Option Flat) → found_or o None ≡ option_map flat_data o
 found_alone None = refl
 found_alone (Some v) = refl
 
-all_said : (property : Option (List ℕ)) (with : Members → Members) (found : Option Flat) → IfSome property (λ p. (more : Members) → get_member p (with more) ≡ found_or found (get_member p more)) → IfSome property (λ p. get_member p (with no_members) ≡ option_map flat_data found)
+all_said : (property : Option (List ℕ)) (with : Members → Members) (found : Option Flat) →
+    IfSome property (λ p. (more : Members) → get_member p (with more) ≡ found_or found (get_member p more)) →
+    IfSome property (λ p. get_member p (with no_members) ≡ option_map flat_data found)
 all_said None with found h = tt
 all_said (Some p) with found h = h no_members ∙ found_alone found
 
-pub all_members : (start rest after last : List ℕ) (property : Option (List ℕ)) (found : Option Flat) → MembersRead start rest last property found → rest ≡ 125 ∷ after → AreMembers start after property found
+pub all_members : (start rest after last : List ℕ) (property : Option (List ℕ)) (found : Option Flat) → MembersRead start rest last property found → rest ≡ 125
+    ∷ after → AreMembers start after property found
 all_members start rest after last property found h e = record {
   members = h.with no_members;
   text = h.text no_members after e;
@@ -164,7 +185,8 @@ all_members start rest after last property found h e = record {
 
 -- ---- properties
 
-pub object_front : (before opened after : List ℕ) (property : Option (List ℕ)) (found : Option Flat) → before ≡ 123 ∷ opened → AreMembers opened after property found → AreProperties before after property found
+pub object_front : (before opened after : List ℕ) (property : Option (List ℕ)) (found : Option Flat) → before ≡ 123 ∷ opened →
+    AreMembers opened after property found → AreProperties before after property found
 object_front before opened after property found brace h = record {
   properties = object h.members;
   text = brace ∙ ap (λ (t : List ℕ). 123 ∷ t) h.text;
@@ -179,7 +201,8 @@ none_said : (property : Option (List ℕ)) → IfSome property (λ p. (let none 
 none_said None = tt
 none_said (Some p) = refl
 
-pub empty_front : (before opened after : List ℕ) (property : Option (List ℕ)) → before ≡ 123 ∷ opened → opened ≡ 125 ∷ after → AreProperties before after property None
+pub empty_front : (before opened after : List ℕ) (property : Option (List ℕ)) → before ≡ 123 ∷ opened → opened ≡ 125 ∷ after →
+    AreProperties before after property None
 empty_front before opened after property brace closed = record {
   properties = object no_members;
   text = brace ∙ ap (λ (t : List ℕ). 123 ∷ t) closed;

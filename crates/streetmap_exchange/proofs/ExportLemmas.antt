@@ -1,5 +1,6 @@
 -- An export goes on page by page.
-use Rattle.std.proofs.Common.{◌≡◌, ℕ, List, [], ◌∷◌, ◌++◌, map, Bool, true, false, ◌||◌, not, Option, None, Some, Result, Ok, Err, length, codes, refl, sym, ap, subst, ◌∙◌, arith, append_assoc, append-nil, length-append, ◌<◌, inl, inr}
+use Rattle.std.proofs.Common.{◌≡◌, ℕ, List, [], ◌∷◌, ◌++◌, map, Bool, true, false, ◌||◌, not, Option, None, Some, Result, Ok, Err, length, codes, refl, sym, ap}
+use Rattle.std.proofs.Common.{subst, ◌∙◌, arith, append_assoc, append-nil, length-append, ◌<◌, inl, inr}
 use Rattle.std.specs.Prelude.{IfErr, OnOk, OnErr, ◌==◌}
 use Rattle.streetmap_geojson.specs.FeatureView.{feature_value}
 use Rattle.std.specs.Option.{option_map}
@@ -56,14 +57,16 @@ items_as_parts later (f ∷ fs) g =
     let first = comma_if later in
     let this = compact_text (feature_data f) in
     append_assoc first (this ++ items_text true (items_of (map feature_data fs))) g
-    ∙ ap (λ l. first ++ l) (append_assoc this (items_text true (items_of (map feature_data fs))) g ∙ ap (λ l. this ++ l) (items_as_parts true fs g) ∙ sym (append_assoc this (part_text true fs) (93 ∷ g)))
+    ∙ ap (λ l. first ++ l) (append_assoc this (items_text true (items_of (map feature_data fs))) g ∙ ap (λ l. this ++ l) (items_as_parts true fs g)
+    ∙ sym (append_assoc this (part_text true fs) (93 ∷ g)))
     ∙ sym (append_assoc first (this ++ part_text true fs) (93 ∷ g))
 
 text_in_parts : (fs : List FeatureValue) → export_text fs ≡ opening ++ (part_text false fs ++ closing)
 text_in_parts fs =
     let items = items_text false (items_of (map feature_data fs)) in
     let kind = codes ",\"type\":\"FeatureCollection\"}" in
-    ap (λ l. l ++ 10 ∷ []) (sym (collection_text_is fs)) ∙ ap (λ l. opening ++ l) (append_assoc items kind (10 ∷ []) ∙ items_as_parts false fs (kind ++ 10 ∷ []))
+    ap (λ l. l ++ 10 ∷ []) (sym (collection_text_is fs)) ∙ ap (λ l. opening ++ l) (append_assoc items kind (10 ∷ [])
+    ∙ items_as_parts false fs (kind ++ 10 ∷ []))
 
 or_false : (b : Bool) → (b || false) ≡ b
 or_false true = refl
@@ -107,14 +110,17 @@ pub record Underway (s : State) (name : Text) (old new : Option (List ℕ)) (lat
   pub written : Appends old new (opening ++ part_text false front)
 
 -- the collection of a page
-collection_of : (s : State) (name : Text) (after : Option Text) (page : PageValue) → page_in s name (part_query after) ≡ Some page → (c : Collection) × (get s.collections name ≡ Some c) × (page ≡ page_after all (values c.features) after)
+collection_of : (s : State) (name : Text) (after : Option Text) (page : PageValue) → page_in s name (part_query after) ≡ Some page → (c : Collection)
+    × (get s.collections name ≡ Some c) × (page ≡ page_after all (values c.features) after)
 collection_of s name after page h = by (get s.collections name) refl h where
-  by : (o : Option Collection) → get s.collections name ≡ o → option_map (λ (c : Collection). page_over (part_query after) (values c.features)) o ≡ Some page → (c : Collection) × (get s.collections name ≡ Some c) × (page ≡ page_after all (values c.features) after)
+  by : (o : Option Collection) → get s.collections name ≡ o → option_map (λ (c : Collection). page_over (part_query after) (values c.features)) o ≡ Some page →
+      (c : Collection) × (get s.collections name ≡ Some c) × (page ≡ page_after all (values c.features) after)
   by None is e = absurd cc
   by (Some c) is e = let same : page ≡ page_over (part_query after) (values c.features) = cc in (c, is, same)
 
 -- an export begins
-pub begins : (s : State) (name : Text) (old new : Option (List ℕ)) (page : PageValue) → IsState s → page_in s name (part_query None) ≡ Some page → Appends old new opening → Underway s name old new false page
+pub begins : (s : State) (name : Text) (old new : Option (List ℕ)) (page : PageValue) → IsState s → page_in s name (part_query None) ≡ Some page →
+    Appends old new opening → Underway s name old new false page
 begins s name old new page sound h w =
     let c = collection_of s name None page h in
     let law = walks_show_all s name c.0 all sound c.1 (omega arith) in
@@ -138,25 +144,29 @@ record Turned (fs : List FeatureValue) (after : Option Text) (pages : List PageV
   walk : IsWalk all fs (Some id) more
   shows : shown pages ≡ (page_after all fs after).features ++ shown more
 
-turned : (fs : List FeatureValue) (after : Option Text) (pages : List PageValue) (id : Text) → IsWalk all fs after pages → (page_after all fs after).next ≡ Some id → Turned fs after pages id
+turned : (fs : List FeatureValue) (after : Option Text) (pages : List PageValue) (id : Text) → IsWalk all fs after pages → (page_after all fs after).next
+    ≡ Some id → Turned fs after pages id
 turned fs _ _ id (ends after none) h = absurd cc
 turned fs _ _ id (goes_on after reported pages next walk) h =
     let same : reported ≡ id = cc in
     record { more = pages; walk = subst (λ i. IsWalk all fs (Some i) pages) same walk; shows = refl }
 
 -- the page shows the first of what the walk shows
-front_of : (fs : List FeatureValue) (after : Option Text) (pages : List PageValue) → IsWalk all fs after pages → (more : List FeatureValue) × (shown pages ≡ (page_after all fs after).features ++ more)
+front_of : (fs : List FeatureValue) (after : Option Text) (pages : List PageValue) → IsWalk all fs after pages → (more : List FeatureValue)
+    × (shown pages ≡ (page_after all fs after).features ++ more)
 front_of fs _ _ (ends after none) = ([], refl)
 front_of fs _ _ (goes_on after reported pages next walk) = (shown pages, refl)
 
 -- the text, split into the features in front, a part, and the rest
-text_split : (front part rest fs : List FeatureValue) → front ++ (part ++ rest) ≡ fs → export_text fs ≡ (opening ++ part_text false front) ++ (part_text (is_any front) part ++ (part_text (is_any front || is_any part) rest ++ closing))
+text_split : (front part rest fs : List FeatureValue) → front ++ (part ++ rest) ≡ fs → export_text fs ≡ (opening ++ part_text false front)
+    ++ (part_text (is_any front) part ++ (part_text (is_any front || is_any part) rest ++ closing))
 text_split front part rest fs whole =
     let b = is_any front in
     let one = part_text false front in
     let two = part_text b part in
     let three = part_text (b || is_any part) rest in
-    let parts : part_text false fs ≡ one ++ (two ++ three) = ap (part_text false) (sym whole) ∙ part_text-append false front (part ++ rest) ∙ ap (λ l. one ++ l) (part_text-append b part rest) in
+    let parts : part_text false fs ≡ one ++ (two ++ three) = ap (part_text false) (sym whole) ∙ part_text-append false front (part ++ rest)
+    ∙ ap (λ l. one ++ l) (part_text-append b part rest) in
     text_in_parts fs ∙ ap (λ l. opening ++ (l ++ closing)) parts
     ∙ ap (λ l. opening ++ l) (append_assoc one (two ++ three) closing ∙ ap (λ l. one ++ l) (append_assoc two three closing))
     ∙ sym (append_assoc opening one (two ++ (three ++ closing)))
@@ -166,8 +176,10 @@ text_split front part rest fs whole =
 same_collection : (o : Option Collection) (c d : Collection) → o ≡ Some c → o ≡ Some d → d ≡ c
 same_collection o c d h k = cc
 
-pub goes_further : (s : State) (name : Text) (old a b : Option (List ℕ)) (later : Bool) (page next : PageValue) (id : Text) → Underway s name old a later page → page.next ≡ Some id
-    → page_in s name (part_query (Some id)) ≡ Some next → Appends a b (part_text later page.features) → Underway s name old b (later || is_any page.features) next
+pub goes_further : (s : State) (name : Text) (old a b : Option (List ℕ)) (later : Bool) (page next : PageValue) (id : Text) → Underway s name old a later page →
+    page.next ≡ Some id
+    → page_in s name (part_query (Some id)) ≡ Some next → Appends a b (part_text later page.features) →
+    Underway s name old b (later || is_any page.features) next
 goes_further s name old a b later page next id u more h w =
     let fs = values u.collection.features in
     let reported : (page_after all fs u.after).next ≡ Some id = ap (λ (p : PageValue). p.next) (sym u.here) ∙ more in
@@ -178,7 +190,8 @@ goes_further s name old a b later page next id u more h w =
     let front = u.front ++ page.features in
     let texts : (opening ++ part_text false u.front) ++ part_text later page.features ≡ opening ++ part_text false front =
     append_assoc opening (part_text false u.front) (part_text later page.features)
-    ∙ ap (λ l. opening ++ l) (ap (λ x. part_text false u.front ++ part_text x page.features) u.following ∙ sym (part_text-append false u.front page.features)) in
+    ∙ ap (λ l. opening ++ l) (ap (λ x. part_text false u.front ++ part_text x page.features) u.following ∙ sym (part_text-append false u.front page.features))
+    in
     record {
       collection = u.collection;
       there = u.there;
@@ -199,7 +212,8 @@ record Left (s : State) (name : Text) (later : Bool) (page : PageValue) (before 
   text : export_text features ≡ before ++ (part_text later page.features ++ rest)
   some : 0 < length rest
 
-left_of : (s : State) (name : Text) (old a : Option (List ℕ)) (later : Bool) (page : PageValue) → (u : Underway s name old a later page) → (rest : List ℕ) × Left s name later page (opening ++ part_text false u.front) rest
+left_of : (s : State) (name : Text) (old a : Option (List ℕ)) (later : Bool) (page : PageValue) → (u : Underway s name old a later page) → (rest : List ℕ)
+    × Left s name later page (opening ++ part_text false u.front) rest
 left_of s name old a later page u =
     let fs = values u.collection.features in
     let m = front_of fs u.after u.pages u.walk in
@@ -216,11 +230,13 @@ left_of s name old a later page u =
     )
 
 -- the same at the last page
-left_last : (s : State) (name : Text) (old a : Option (List ℕ)) (later : Bool) (page : PageValue) → (u : Underway s name old a later page) → page.next ≡ None → Left s name later page (opening ++ part_text false u.front) closing
+left_last : (s : State) (name : Text) (old a : Option (List ℕ)) (later : Bool) (page : PageValue) → (u : Underway s name old a later page) → page.next ≡ None →
+    Left s name later page (opening ++ part_text false u.front) closing
 left_last s name old a later page u none =
     let fs = values u.collection.features in
     let reported : (page_after all fs u.after).next ≡ None = ap (λ (p : PageValue). p.next) (sym u.here) ∙ none in
-    let shows : shown u.pages ≡ page.features ++ [] = last fs u.after u.pages u.walk reported ∙ ap (λ (p : PageValue). p.features) (sym u.here) ∙ sym (append-nil page.features) in
+    let shows : shown u.pages ≡ page.features ++ [] = last fs u.after u.pages u.walk reported ∙ ap (λ (p : PageValue). p.features) (sym u.here)
+    ∙ sym (append-nil page.features) in
     record {
       features = fs;
       reported = ap (option_map (λ (c : Collection). values c.features)) u.there;
@@ -229,7 +245,8 @@ left_last s name old a later page u none =
       some = omega arith;
     }
 
-all_of : (o : Option (List FeatureValue)) (fs : List FeatureValue) (old new : Option (List ℕ)) → o ≡ Some fs → Appends old new (export_text fs) → WritesAll o old new
+all_of : (o : Option (List FeatureValue)) (fs : List FeatureValue) (old new : Option (List ℕ)) → o ≡ Some fs → Appends old new (export_text fs) →
+    WritesAll o old new
 all_of o fs old new is w = subst (λ (p : Option (List FeatureValue)). WritesAll p old new) (sym is) w
 
 some_of : (o : Option (List FeatureValue)) (fs : List FeatureValue) (old new : Option (List ℕ)) →
@@ -246,7 +263,8 @@ pub finished : (s : State) (name : Text) (old a b c : Option (List ℕ)) (later 
 finished s name old a b c later page u none w v =
     let l = left_last s name old a later page u none in
     let both = Appends-trans a b c (part_text later page.features) closing w v in
-    all_of (features_in s name) l.features old c l.reported (subst (Appends old c) (sym l.text) (Appends-trans old a c (opening ++ part_text false u.front) (part_text later page.features ++ closing) u.written both))
+    all_of (features_in s name) l.features old c l.reported (subst (Appends old c) (sym l.text)
+    (Appends-trans old a c (opening ++ part_text false u.front) (part_text later page.features ++ closing) u.written both))
 
 -- the last page and a prefix of the end are written
 pub ends_early : (s : State) (name : Text) (old a b c : Option (List ℕ)) (later : Bool) (page : PageValue) → Underway s name old a later page → page.next ≡ None
@@ -283,7 +301,8 @@ breaks_off_less s name old a b later page u w =
     (less_longer a b part l.0 w)))
 
 -- the page is not written yet, so not all of the text is
-pub less_written : (s : State) (name : Text) (old a : Option (List ℕ)) (later : Bool) (page : PageValue) → Underway s name old a later page → WritesLess (features_in s name) old a
+pub less_written : (s : State) (name : Text) (old a : Option (List ℕ)) (later : Bool) (page : PageValue) → Underway s name old a later page →
+    WritesLess (features_in s name) old a
 less_written s name old a later page u =
     let l = left_of s name old a later page u in
     let part = part_text later page.features in
@@ -349,37 +368,47 @@ write_ends-by T s name (Stopped fault) old new f w less = some_if (features_in s
 
 -- or by a flush after it
 end_ends-by : (T : Type 0) (s : State) (name : Text) (e : ExportFault) (old new : Option (List ℕ)) → IsEndFault e → WritesSome (features_in s name) old new
-    → (e ≡ WriteFailed → WritesLess (features_in s name) old new) → (e ≡ FlushFailed → WritesAll (features_in s name) old new) → Exports {T = T} s name (Err e) old new
+    → (e ≡ WriteFailed → WritesLess (features_in s name) old new) → (e ≡ FlushFailed → WritesAll (features_in s name) old new) →
+    Exports {T = T} s name (Err e) old new
 end_ends-by T s name FlushFailed old new f w less whole = whole refl
 end_ends-by T s name NoCollection old new (inl f) w less whole = absurd f
 end_ends-by T s name NoCollection old new (inr f) w less whole = absurd f
 end_ends-by T s name WriteFailed old new f w less whole = less refl
 end_ends-by T s name (Stopped fault) old new f w less whole = some_if (features_in s name) old new w
 
-is_there : (o : Option Collection) (after : Option Text) (old new : Option (List ℕ)) → option_map (λ (c : Collection). page_over (part_query after) (values c.features)) o ≡ None → WritesSome (option_map (λ (c : Collection). values c.features) o) old new → ⊥
+is_there : (o : Option Collection) (after : Option Text) (old new : Option (List ℕ)) → option_map
+    (λ (c : Collection). page_over (part_query after) (values c.features)) o ≡ None → WritesSome (option_map (λ (c : Collection). values c.features) o) old new
+    → ⊥
 is_there None after old new h w = w
 is_there (Some c) after old new h w = cc
 
-pub write_ends : {T : Type 0} (s : State) (name : Text) (r : Result T ExportFault) (e : ExportFault) (old new : Option (List ℕ)) → r ≡ Err e → IsWriteFault e → WritesSome (features_in s name) old new
+pub write_ends : {T : Type 0} (s : State) (name : Text) (r : Result T ExportFault) (e : ExportFault) (old new : Option (List ℕ)) → r ≡ Err e → IsWriteFault e →
+    WritesSome (features_in s name) old new
     → (e ≡ WriteFailed → WritesLess (features_in s name) old new) → Exports s name r old new
-write_ends {T} s name r e old new is f w less = subst (λ (x : Result T ExportFault). Exports s name x old new) (sym is) (write_ends-by T s name e old new f w less)
+write_ends {T} s name r e old new is f w less = subst (λ (x : Result T ExportFault). Exports s name x old new) (sym is)
+    (write_ends-by T s name e old new f w less)
 
 -- by a page that was not shown, after others
-page_ends-by : (T : Type 0) (s : State) (name : Text) (after : Option Text) (e : ExportFault) (old new : Option (List ℕ)) → ShowsPart s name after (Err e) → WritesSome (features_in s name) old new → Exports {T = T} s name (Err e) old new
+page_ends-by : (T : Type 0) (s : State) (name : Text) (after : Option Text) (e : ExportFault) (old new : Option (List ℕ)) → ShowsPart s name after (Err e) →
+    WritesSome (features_in s name) old new → Exports {T = T} s name (Err e) old new
 page_ends-by T s name after NoCollection old new h w = absurd (is_there (get s.collections name) after old new h w)
 page_ends-by T s name after WriteFailed old new h w = absurd h
 page_ends-by T s name after FlushFailed old new h w = absurd h
 page_ends-by T s name after (Stopped fault) old new h w = some_if (features_in s name) old new w
 
-pub page_ends : {T : Type 0} (s : State) (name : Text) (after : Option Text) (r : Result T ExportFault) (e : ExportFault) (old new : Option (List ℕ)) → r ≡ Err e → ShowsPart s name after (Err e) → WritesSome (features_in s name) old new → Exports s name r old new
-page_ends {T} s name after r e old new is h w = subst (λ (x : Result T ExportFault). Exports s name x old new) (sym is) (page_ends-by T s name after e old new h w)
+pub page_ends : {T : Type 0} (s : State) (name : Text) (after : Option Text) (r : Result T ExportFault) (e : ExportFault) (old new : Option (List ℕ)) → r
+    ≡ Err e → ShowsPart s name after (Err e) → WritesSome (features_in s name) old new → Exports s name r old new
+page_ends {T} s name after r e old new is h w = subst (λ (x : Result T ExportFault). Exports s name x old new) (sym is)
+    (page_ends-by T s name after e old new h w)
 
-not_there : (o : Option Collection) (after : Option Text) → option_map (λ (c : Collection). page_over (part_query after) (values c.features)) o ≡ None → option_map (λ (c : Collection). values c.features) o ≡ None
+not_there : (o : Option Collection) (after : Option Text) → option_map (λ (c : Collection). page_over (part_query after) (values c.features)) o ≡ None →
+    option_map (λ (c : Collection). values c.features) o ≡ None
 not_there None after h = refl
 not_there (Some c) after h = cc
 
 -- by what comes after the features
-pub end_exports : {T : Type 0} (s : State) (name : Text) (old a b c : Option (List ℕ)) (later : Bool) (page : PageValue) (r : Result T ExportFault) → Underway s name old a later page → page.next ≡ None
+pub end_exports : {T : Type 0} (s : State) (name : Text) (old a b c : Option (List ℕ)) (later : Bool) (page : PageValue) (r : Result T ExportFault) →
+    Underway s name old a later page → page.next ≡ None
     → Appends a b (part_text later page.features) → OnOk r (Appends b c closing)
     → OnErr r (AppendsBeginning b c closing) → (r ≡ Err WriteFailed → AppendsLess b c closing)
     → (r ≡ Err FlushFailed → Appends b c closing) → IfErr r IsEndFault
@@ -394,7 +423,8 @@ end_exports {T} s name old a b c later page (Err e) u none w ok err less whole f
 
 module _ {K T : Type 0} {model : Model K} {a b : K} where
   -- a write failed
-  pub write_reads : (r : Result T ExportFault) (e : ExportFault) → r ≡ Err e → IsWriteFault e → AreReads model a b (Some (Ok tt)) → AreReads model a b (export_answer r)
+  pub write_reads : (r : Result T ExportFault) (e : ExportFault) → r ≡ Err e → IsWriteFault e → AreReads model a b (Some (Ok tt)) →
+      AreReads model a b (export_answer r)
   write_reads r e is f reads = subst (λ (x : Result T ExportFault). AreReads model a b (export_answer x)) (sym is) (by_fault e f) where
     by_fault : (e : ExportFault) → IsWriteFault e → AreReads model a b (export_answer {T = T} (Err e))
     by_fault NoCollection f = reads
@@ -431,4 +461,5 @@ some_before false b' x h k = absurd cc
 pub some_here : (b b' empty : Bool) (fs : List FeatureValue) (n : ℕ) → b ≡ false → length fs ≡ n → empty ≡ (n == 0) → b' ≡ not empty → (b || is_any fs) ≡ b'
 some_here true b' empty fs n h len e k = absurd cc
 some_here false b' empty [] n h len e k = sym (k ∙ ap not (e ∙ ap (λ m. m == 0) (sym len)))
-some_here false b' empty (f ∷ fs) n h len e k = let some : (length (f ∷ fs) == 0) ≡ false = grind (arith, nat_tests) in sym (k ∙ ap not (e ∙ ap (λ m. m == 0) (sym len) ∙ some))
+some_here false b' empty (f ∷ fs) n h len e k = let some : (length (f ∷ fs) == 0) ≡ false = grind (arith, nat_tests) in
+    sym (k ∙ ap not (e ∙ ap (λ m. m == 0) (sym len) ∙ some))

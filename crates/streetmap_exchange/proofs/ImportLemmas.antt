@@ -1,5 +1,6 @@
 -- What is read from a text is what the text is imported by.
-use Rattle.std.proofs.Common.{◌≡◌, ℕ, ◌+◌, ◌≤◌, List, [], ◌∷◌, length, Option, None, Some, Result, Ok, Err, option_map, option_and_then, IsTrue, Bool, true, false, cond, codes, refl, sym, ap, subst, ◌∙◌, nat_le, arith}
+use Rattle.std.proofs.Common.{◌≡◌, ℕ, ◌+◌, ◌≤◌, List, [], ◌∷◌, length, Option, None, Some, Result, Ok, Err, option_map, option_and_then, IsTrue, Bool, true}
+use Rattle.std.proofs.Common.{false, cond, codes, refl, sym, ap, subst, ◌∙◌, nat_le, arith}
 use Rattle.std.specs.Prelude.{IfOk}
 use Rattle.std.proofs.lemmas.Bool.Decides.{nat_tests}
 use Rattle.serde_json.specs.Data.{Data}
@@ -29,7 +30,8 @@ placed_memory : (n : ℕ) (r : Result FeatureValue Fault) → at_place n r ≡ E
 placed_memory n (Ok f) h = cc
 placed_memory n (Err f) h = cc
 
-more_memory : (r : Result FeatureValue CollectionFault) (more : Result (List FeatureValue) CollectionFault) → (r ≡ Err faults.Memory → ⊥) → (more ≡ Err faults.Memory → ⊥) → and_more r more ≡ Err faults.Memory → ⊥
+more_memory : (r : Result FeatureValue CollectionFault) (more : Result (List FeatureValue) CollectionFault) → (r ≡ Err faults.Memory → ⊥) →
+    (more ≡ Err faults.Memory → ⊥) → and_more r more ≡ Err faults.Memory → ⊥
 more_memory (Ok f) (Ok fs) h k e = cc
 more_memory (Ok f) (Err fault) h k e = let same : fault ≡ faults.Memory = cc in k (ap (λ (w : CollectionFault). Err w) same)
 more_memory (Err fault) more h k e = let same : fault ≡ faults.Memory = cc in h (ap (λ (w : CollectionFault). Err w) same)
@@ -61,7 +63,8 @@ itself d (Err faults.Memory) h = tt
 itself d (Err (faults.Fault f)) h = h
 itself d (Err (faults.At n f)) h = h
 
-reported : (d : Data) (fs : List FeatureValue) (r : Result (List FeatureValue) CollectionFault) → features None d ≡ r → GivesAt (λ (x : List FeatureValue). x) r (Ok fs) → features None d ≡ Ok fs
+reported : (d : Data) (fs : List FeatureValue) (r : Result (List FeatureValue) CollectionFault) → features None d ≡ r →
+    GivesAt (λ (x : List FeatureValue). x) r (Ok fs) → features None d ≡ Ok fs
 reported d fs (Ok gs) h g = h ∙ sym g
 reported d fs (Err faults.Memory) h g = absurd (no_memory d h)
 reported d fs (Err (faults.Fault f)) h g = absurd cc
@@ -102,7 +105,8 @@ passes n m h = grind (arith, nat_tests)
 
 -- ---- a text is imported by what is read from it
 
-text_found : (replace : Bool) (key collection : Text) (text : List ℕ) (b : BatchValue) → IsTrue (is_key key) → IsTrue (is_collection_id collection) → length text ≤ most_bytes
+text_found : (replace : Bool) (key collection : Text) (text : List ℕ) (b : BatchValue) → IsTrue (is_key key) → IsTrue (is_collection_id collection) →
+    length text ≤ most_bytes
     → import_text replace key collection text ≡ Ok b → IsImport replace key collection text b
 text_found replace key collection text b keyed placed short h =
     let fs = went_on (features_of text) _ b h in
@@ -120,7 +124,8 @@ text_found replace key collection text b keyed placed short h =
       made = same_batch (batch_of_features replace key collection fs.0) b few.1;
     }
 
-pub import_found : (replace : Bool) (key collection : Text) (text : List ℕ) (b : BatchValue) → import_of replace key collection text ≡ Ok b → IsImport replace key collection text b
+pub import_found : (replace : Bool) (key collection : Text) (text : List ℕ) (b : BatchValue) → import_of replace key collection text ≡ Ok b →
+    IsImport replace key collection text b
 unfolding import_of
 import_found replace key collection text b h =
     let keyed = passed (is_key key) _ _ b h in
@@ -128,7 +133,8 @@ import_found replace key collection text b h =
     let short = passed (nat_le (length text) most_bytes) _ (λ _. import_text replace key collection text) b placed.1 in
     text_found replace key collection text b keyed.0 placed.0 (within (length text) most_bytes short.0) short.1
 
-import_again : (replace : Bool) (key collection : Text) (text : List ℕ) (b : BatchValue) → IsImport replace key collection text b → import_of replace key collection text ≡ Ok b
+import_again : (replace : Bool) (key collection : Text) (text : List ℕ) (b : BatchValue) → IsImport replace key collection text b →
+    import_of replace key collection text ≡ Ok b
 unfolding import_of
 import_again replace key collection text b h =
     let short = passes (length text) most_bytes h.short in
@@ -138,9 +144,12 @@ import_again replace key collection text b h =
 
 -- ---- what is answered
 
-pub is_import : {X : Type 0} (view : X → BatchValue) (r : Result X ImportFault) (replace : Bool) (key collection : Text) (text : List ℕ) → IsReadBy view r (import_of replace key collection text) → IfOk r (λ x. IsImport replace key collection text (view x))
+pub is_import : {X : Type 0} (view : X → BatchValue) (r : Result X ImportFault) (replace : Bool) (key collection : Text) (text : List ℕ) →
+    IsReadBy view r (import_of replace key collection text) → IfOk r (λ x. IsImport replace key collection text (view x))
 is_import view (Ok x) replace key collection text h = import_found replace key collection text (view x) h
 is_import view (Err e) replace key collection text h = tt
 
-pub is_made : {X : Type 0} (view : X → BatchValue) (r : Result X ImportFault) (replace : Bool) (key collection : Text) (text : List ℕ) → IsReadBy view r (import_of replace key collection text) → (b : BatchValue) → IsImport replace key collection text b → IsReadBy view r (Ok b)
-is_made view r replace key collection text h b imported = subst (λ (w : Result BatchValue ImportFault). IsReadBy view r w) (import_again replace key collection text b imported) h
+pub is_made : {X : Type 0} (view : X → BatchValue) (r : Result X ImportFault) (replace : Bool) (key collection : Text) (text : List ℕ) →
+    IsReadBy view r (import_of replace key collection text) → (b : BatchValue) → IsImport replace key collection text b → IsReadBy view r (Ok b)
+is_made view r replace key collection text h b imported = subst (λ (w : Result BatchValue ImportFault). IsReadBy view r w)
+    (import_again replace key collection text b imported) h

@@ -10,7 +10,8 @@ use Rattle.streetmap_ledger.specs.declared.reply.Fault.{Fault}
 use Rattle.streetmap_ledger.specs.declared.reply.Reply.{Reply}
 use Rattle.streetmap_ledger.specs.declared.reply.Reply.TheVariants as replies
 use Rattle.streetmap_exchange.specs.declared.fault.ImportFault.{ImportFault}
-use Rattle.streetmap_exchange.specs.declared.fault.ImportFault.TheVariants.{BadKey, BadBatch, TextTooLarge, NotJson, WrongType, BadFeature, TooManyEdits, Memory, Refused, Stopped}
+use Rattle.streetmap_exchange.specs.declared.fault.ImportFault.TheVariants.{BadKey, BadBatch, TextTooLarge, NotJson, WrongType, BadFeature, TooManyEdits}
+use Rattle.streetmap_exchange.specs.declared.fault.ImportFault.TheVariants.{Memory, Refused, Stopped}
 use Rattle.streetmap_exchange.specs.ImportFaults.{FailsToRead}
 use Rattle.streetmap_exchange.specs.KeeperImports.{IsReported, ImportsBatch, Imports, import_answer, IsOfReply}
 use Rattle.streetmap_replay.specs.Calls.{AreCalls}
@@ -44,7 +45,8 @@ never_stopped key (replies.Repeated counts serial) fault h = h
 never_stopped key (replies.Refused why place) fault h = cc
 
 module _ {K : Type 0} (model : Model K) (a b : K) where
-  pub reported_batch : (s : State) (batch : BatchValue) (reply : Reply) (r : Result (String Global) ImportFault) → IsReported batch.key reply r → Writes model a b s batch (Ok reply) → ImportsBatch model a b s batch r
+  pub reported_batch : (s : State) (batch : BatchValue) (reply : Reply) (r : Result (String Global) ImportFault) → IsReported batch.key reply r →
+      Writes model a b s batch (Ok reply) → ImportsBatch model a b s batch r
   reported_batch s batch reply (Ok body) reported h = (subst (λ (x : Reply). IsReported batch.key x (Ok body)) h.0 reported, h.1)
   reported_batch s batch reply (Err BadKey) reported h = absurd (never_unread batch.key reply BadKey refl reported)
   reported_batch s batch reply (Err BadBatch) reported h = absurd (never_unread batch.key reply BadBatch refl reported)
@@ -54,10 +56,14 @@ module _ {K : Type 0} (model : Model K) (a b : K) where
   reported_batch s batch reply (Err (BadFeature place cause)) reported h = absurd (never_unread batch.key reply (BadFeature place cause) refl reported)
   reported_batch s batch reply (Err TooManyEdits) reported h = absurd (never_unread batch.key reply TooManyEdits refl reported)
   reported_batch s batch reply (Err Memory) reported h = absurd (never_unread batch.key reply Memory refl reported)
-  reported_batch s batch reply (Err (Refused why place)) reported h = (subst (λ (x : Reply). IsReported batch.key x (Err (Refused why place))) h.0 reported, h.1)
+  reported_batch s batch reply (Err (Refused why place)) reported h = (
+    subst (λ (x : Reply). IsReported batch.key x (Err (Refused why place))) h.0 reported,
+    h.1,
+  )
   reported_batch s batch reply (Err (Stopped fault)) reported h = absurd (never_stopped batch.key reply fault reported)
 
-  pub reported_calls : (key : Text) (reply : Reply) (r : Result (String Global) ImportFault) → IsReported key reply r → IsCall model a b (Ok reply) → AreCalls model a b (import_answer r)
+  pub reported_calls : (key : Text) (reply : Reply) (r : Result (String Global) ImportFault) → IsReported key reply r → IsCall model a b (Ok reply) →
+      AreCalls model a b (import_answer r)
   reported_calls key reply (Ok body) reported call = answered call
   reported_calls key reply (Err BadKey) reported call = absurd (never_unread key reply BadKey refl reported)
   reported_calls key reply (Err BadBatch) reported call = absurd (never_unread key reply BadBatch refl reported)
@@ -72,7 +78,8 @@ module _ {K : Type 0} (model : Model K) (a b : K) where
 
   -- ---- what a text's batch does is what the import does
 
-  pub batch_imports : (s : State) (read : Result BatchValue ImportFault) (batch : BatchValue) (r : Result (String Global) ImportFault) → read ≡ Ok batch → ImportsBatch model a b s batch r
+  pub batch_imports : (s : State) (read : Result BatchValue ImportFault) (batch : BatchValue) (r : Result (String Global) ImportFault) → read ≡ Ok batch →
+      ImportsBatch model a b s batch r
       → Imports model a b s read r
   batch_imports s read batch (Ok body) e h = (batch, e, h)
   batch_imports s read batch (Err BadKey) e h = absurd h
@@ -88,7 +95,8 @@ module _ {K : Type 0} (model : Model K) (a b : K) where
 
   -- ---- a text that reads as a batch is imported as that batch
 
-  pub read_imports : (s : State) (read : Result BatchValue ImportFault) (batch : BatchValue) (r : Result (String Global) ImportFault) → read ≡ Ok batch → Imports model a b s (Ok batch) r
+  pub read_imports : (s : State) (read : Result BatchValue ImportFault) (batch : BatchValue) (r : Result (String Global) ImportFault) → read ≡ Ok batch →
+      Imports model a b s (Ok batch) r
       → Imports model a b s read r
   read_imports s read batch r e h = subst (λ (x : Result BatchValue ImportFault). Imports model a b s x r) (sym e) h
 
@@ -106,7 +114,8 @@ unread_answer Memory read h = refl
 unread_answer (Refused why place) read h = absurd h
 unread_answer (Stopped fault) read h = absurd h
 
-pub unread_imports : {K : Type 0} (model : Model K) (a : K) (s : State) (fault : ImportFault) (read : Result BatchValue ImportFault) → FailsToRead fault read → model.represents a s → Imports model a a s read (Err fault)
+pub unread_imports : {K : Type 0} (model : Model K) (a : K) (s : State) (fault : ImportFault) (read : Result BatchValue ImportFault) → FailsToRead fault read →
+    model.represents a s → Imports model a a s read (Err fault)
 unread_imports model a s BadKey read h e = (h, e)
 unread_imports model a s BadBatch read h e = (h, e)
 unread_imports model a s TextTooLarge read h e = (h, e)
@@ -118,7 +127,8 @@ unread_imports model a s Memory read h e = (h, e)
 unread_imports model a s (Refused why place) read h e = absurd h
 unread_imports model a s (Stopped fault) read h e = absurd h
 
-pub unread_reply : {Y : Type 0} (key : Text) (came : Result Reply Fault → Type 0) (same : Type 0) (fault : ImportFault) (read : Result Y ImportFault) → FailsToRead fault read → same → IsOfReply key came same (Err fault)
+pub unread_reply : {Y : Type 0} (key : Text) (came : Result Reply Fault → Type 0) (same : Type 0) (fault : ImportFault) (read : Result Y ImportFault) →
+    FailsToRead fault read → same → IsOfReply key came same (Err fault)
 unread_reply key came same BadKey read h e = e
 unread_reply key came same BadBatch read h e = e
 unread_reply key came same TextTooLarge read h e = e

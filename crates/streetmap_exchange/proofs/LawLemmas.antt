@@ -1,10 +1,12 @@
 -- What is exported of a collection, imported again.
-use Rattle.std.proofs.Common.{◌≡◌, ℕ, ◌+◌, List, [], ◌∷◌, ◌++◌, map, Bool, true, false, cond, T, All, Option, None, Some, Result, Ok, Err, ok_or, IsTrue, refl, sym, ap, subst, ◌∙◌, nat_lt, nat_eq, append_assoc, append-nil}
+use Rattle.std.proofs.Common.{◌≡◌, ℕ, ◌+◌, List, [], ◌∷◌, ◌++◌, map, Bool, true, false, cond, T, All, Option, None, Some, Result, Ok, Err, ok_or, IsTrue, refl}
+use Rattle.std.proofs.Common.{sym, ap, subst, ◌∙◌, nat_lt, nat_eq, append_assoc, append-nil}
 use Rattle.std.specs.Ordering.{is_eq}
 use Rattle.std.specs.declared.cmp.Ordering.{Ordering}
 use Rattle.std.specs.declared.cmp.Ordering.TheVariants.{Less, Equal, Greater}
 use Rattle.std.specs.Cmp.Lexicographic.{pointwise, nat_list_cmp_total}
-use Rattle.std.specs.FinMap.{get, insert, len, entries, values, entries_sorted, find, is_sorted, get-entries, get-insert, from_entries, get-from_entries, from_entries_push, same_map}
+use Rattle.std.specs.FinMap.{get, insert, len, entries, values, entries_sorted, find, is_sorted, get-entries, get-insert, from_entries, get-from_entries}
+use Rattle.std.specs.FinMap.{from_entries_push, same_map}
 use Rattle.std.specs.FinMap.Entries.{below_all}
 use Rattle.std.proofs.lemmas.Cmp.{tied_itself}
 use Rattle.std.proofs.lemmas.List.Elements.{All-nil, All-cons}
@@ -47,13 +49,15 @@ not_among : (k : Text) (es : List (Text × FeatureValue)) → T (below_all text_
 not_among k [] h = refl
 not_among k (e ∷ es) h = ap (λ b. cond b (Some e.1) (find text_cmp k es)) (less_than _ (first _ _ h)) ∙ not_among k es (second _ _ h)
 
-each_entry : (P : Text → FeatureValue → Type 0) (es : List (Text × FeatureValue)) → T (is_sorted text_cmp es) → ((id : Text) (f : FeatureValue) → find text_cmp id es ≡ Some f → P id f) → Each P es
+each_entry : (P : Text → FeatureValue → Type 0) (es : List (Text × FeatureValue)) → T (is_sorted text_cmp es) →
+    ((id : Text) (f : FeatureValue) → find text_cmp id es ≡ Some f → P id f) → Each P es
 each_entry P [] up has = tt
 each_entry P (e ∷ es) up has = (
   has e.0 e.1 (ap (λ r. cond (is_eq r) (Some e.1) (find text_cmp e.0 es)) (tied_itself nat_list_cmp_total e.0)),
   each_entry P es (second _ _ up) (λ id f there. has id f (following id f there (text_cmp id e.0) refl)),
 ) where
-  following : (id : Text) (f : FeatureValue) → find text_cmp id es ≡ Some f → (r : Ordering) → text_cmp id e.0 ≡ r → cond (is_eq (text_cmp id e.0)) (Some e.1) (find text_cmp id es) ≡ Some f
+  following : (id : Text) (f : FeatureValue) → find text_cmp id es ≡ Some f → (r : Ordering) → text_cmp id e.0 ≡ r →
+      cond (is_eq (text_cmp id e.0)) (Some e.1) (find text_cmp id es) ≡ Some f
   following id f there Less is = ap (λ r. cond (is_eq r) (Some e.1) (find text_cmp id es)) is ∙ there
   following id f there Greater is = ap (λ r. cond (is_eq r) (Some e.1) (find text_cmp id es)) is ∙ there
   following id f there Equal is =
@@ -66,9 +70,11 @@ each_as P Q so (e ∷ es) h = (so e.0 e.1 h.0, each_as P Q so es h.1)
 
 -- a map is made of its entries
 of_entries : (m : Features) → from_entries (entries m) ≡ m
-of_entries m = same_map nat_list_cmp_total one_text (from_entries (entries m)) m (λ q. get-from_entries nat_list_cmp_total (entries m) q ∙ sym (get-entries m q))
+of_entries m = same_map nat_list_cmp_total one_text (from_entries (entries m)) m (λ q. get-from_entries nat_list_cmp_total (entries m) q
+    ∙ sym (get-entries m q))
 
-all_features : (P : Text → FeatureValue → Type 0) (Q : FeatureValue → Type 0) → ((id : Text) (f : FeatureValue) → P id f → Q f) → (es : List (Text × FeatureValue)) → Each P es → All Q (map (λ e. e.1) es)
+all_features : (P : Text → FeatureValue → Type 0) (Q : FeatureValue → Type 0) → ((id : Text) (f : FeatureValue) → P id f → Q f) →
+    (es : List (Text × FeatureValue)) → Each P es → All Q (map (λ e. e.1) es)
 all_features P Q so [] h = All-nil Q
 all_features P Q so (e ∷ es) h = All-cons Q e.1 (map (λ x. x.1) es) (so e.0 e.1 h.0) (all_features P Q so es h.1)
 
@@ -95,10 +101,12 @@ insert_done : (t u : State) (to : Text) (d : Collection) (f : FeatureValue) → 
 insert_done t u to d f there reported h =
     let found : inserted t to (untimed f) d ≡ Ok u = ap (λ o. ok_or o NoCollection >>= inserted t to (untimed f)) (sym there) ∙ h in
     let parts = absent_none (get d.features f.id) FeatureExists (timed d.time (untimed f) >>= λ g. Ok (with_feature t to d g)) u found in
-    let done : ◌≡◌ {A = Result State Refusal} (Ok (with_feature t to d f)) (Ok u) = ap (λ r. r >>= λ g. Ok (with_feature t to d g)) (sym (timed_again d.time f reported)) ∙ parts.1 in
+    let done : ◌≡◌ {A = Result State Refusal} (Ok (with_feature t to d f)) (Ok u) = ap (λ r. r >>= λ g. Ok (with_feature t to d g))
+    (sym (timed_again d.time f reported)) ∙ parts.1 in
     record { new = parts.0; is = same_state (with_feature t to d f) u done }
 
-went_on : (place : ℕ) (r : Result State Refusal) (es : List EditValue) (u : State) → (placed place r >>= λ t. edited (place + 1) t es) ≡ Ok u → (t : State) × (r ≡ Ok t) × (edited (place + 1) t es ≡ Ok u)
+went_on : (place : ℕ) (r : Result State Refusal) (es : List EditValue) (u : State) → (placed place r >>= λ t. edited (place + 1) t es) ≡ Ok u → (t : State)
+    × (r ≡ Ok t) × (edited (place + 1) t es ≡ Ok u)
 went_on place (Ok t) es u h = (t, refl, h)
 went_on place (Err why) es u h = absurd cc
 
@@ -106,7 +114,8 @@ went_on place (Err why) es u h = absurd cc
 abbrev holding : Collection → Features → Collection
 holding d features = record d { features = features }
 
-put_there : (t : State) (to : Text) (d : Collection) (f : FeatureValue) → get (with_feature t to d f).collections to ≡ Some (holding d (insert d.features f.id f))
+put_there : (t : State) (to : Text) (d : Collection) (f : FeatureValue) → get (with_feature t to d f).collections to
+    ≡ Some (holding d (insert d.features f.id f))
 put_there t to d f = get-insert nat_list_cmp_total t.collections to (holding d (insert d.features f.id f)) to
     ∙ ap (λ r. cond (is_eq r) (Some (holding d (insert d.features f.id f))) (get t.collections to)) (tied_itself nat_list_cmp_total to)
 
@@ -114,7 +123,8 @@ put_there t to d f = get-insert nat_list_cmp_total t.collections to (holding d (
 abbrev IsTimedAs : Option Text → Text → FeatureValue → Type 0
 IsTimedAs property id f = (f.id ≡ id) × (time_of property f.properties ≡ Ok f.time)
 
-all_inserted : (front es : List (Text × FeatureValue)) (place : ℕ) (t u : State) (to : Text) (d : Collection) → get t.collections to ≡ Some (holding d (from_entries front)) → Each (IsTimedAs d.time) es
+all_inserted : (front es : List (Text × FeatureValue)) (place : ℕ) (t u : State) (to : Text) (d : Collection) → get t.collections to
+    ≡ Some (holding d (from_entries front)) → Each (IsTimedAs d.time) es
     → edited place t (map (edit_of false to) (map untimed (map (λ e. e.1) es))) ≡ Ok u → get u.collections to ≡ Some (holding d (from_entries (front ++ es)))
 all_inserted front [] place t u to d there all_timed h =
     let same : u ≡ t = let e : ◌≡◌ {A = Result State (ℕ × Refusal)} (Ok t) (Ok u) = h in cc in
@@ -126,10 +136,12 @@ all_inserted front (e ∷ es) place t u to d there all_timed h =
     let one = insert_done t on.0 to (holding d (from_entries front)) f there all_timed.0.1 on.1 in
     let id : f.id ≡ e.0 = all_timed.0.0 in
     let none : find text_cmp e.0 front ≡ None = sym (get-from_entries nat_list_cmp_total front e.0) ∙ ap (get (from_entries front)) (sym id) ∙ one.new in
-    let put : insert (from_entries front) f.id f ≡ from_entries (front ++ e ∷ []) = ap (λ k. insert (from_entries front) k f) id ∙ sym (from_entries_push nat_list_cmp_total one_text front e.0 f none) in
+    let put : insert (from_entries front) f.id f ≡ from_entries (front ++ e ∷ []) = ap (λ k. insert (from_entries front) k f) id
+    ∙ sym (from_entries_push nat_list_cmp_total one_text front e.0 f none) in
     let now : get (on.0).collections to ≡ Some (holding d (from_entries (front ++ e ∷ []))) =
     ap (λ (x : State). get x.collections to) one.is ∙ put_there t to (holding d (from_entries front)) f ∙ ap (λ m. Some (holding d m)) put in
-    all_inserted (front ++ e ∷ []) es (place + 1) on.0 u to d now all_timed.1 on.2 ∙ ap (λ l. Some (holding d (from_entries l))) (append_assoc front (e ∷ []) es)
+    all_inserted (front ++ e ∷ []) es (place + 1) on.0 u to d now all_timed.1 on.2 ∙ ap (λ l. Some (holding d (from_entries l)))
+    (append_assoc front (e ∷ []) es)
 
 -- ---- the batch is accepted
 
@@ -138,7 +150,8 @@ record Accepts (t : State) (b : BatchValue) : Type 0 where
   done : edited 1 t b.edits ≡ Ok after
   kept : (act t b).state.collections ≡ after.collections
 
-fresh_accepts : (t : State) (b : BatchValue) (serial : ℕ) (r : Result State (ℕ × Refusal)) → IsTrue (is_accepted (fresh t b serial r).reply) → (u : State) × (r ≡ Ok u) × ((fresh t b serial r).state.collections ≡ u.collections)
+fresh_accepts : (t : State) (b : BatchValue) (serial : ℕ) (r : Result State (ℕ × Refusal)) → IsTrue (is_accepted (fresh t b serial r).reply) → (u : State)
+    × (r ≡ Ok u) × ((fresh t b serial r).state.collections ≡ u.collections)
 fresh_accepts t b serial (Ok u) h = (u, refl, refl)
 fresh_accepts t b serial (Err e) h = absurd cc
 
@@ -147,11 +160,14 @@ neither : (c : Bool) (x y : Outcome) → is_accepted x.reply ≡ false → is_ac
 neither true x y e k h = cc
 neither false x y e k h = cc
 
-accepts_by : (t : State) (b : BatchValue) (o : Option AcceptedBatch) → IsTrue (is_accepted (by_key t b o).reply) → (u : State) × (edited 1 t b.edits ≡ Ok u) × ((by_key t b o).state.collections ≡ u.collections)
-accepts_by t b (Some kept) h = absurd (neither (pointwise nat_eq kept.text (batch_text b)) (record { reply = Repeated kept.counts kept.serial; state = t }) (record { reply = Refused KeyUsed None; state = t }) refl refl h)
+accepts_by : (t : State) (b : BatchValue) (o : Option AcceptedBatch) → IsTrue (is_accepted (by_key t b o).reply) → (u : State) × (edited 1 t b.edits ≡ Ok u)
+    × ((by_key t b o).state.collections ≡ u.collections)
+accepts_by t b (Some kept) h = absurd (neither (pointwise nat_eq kept.text (batch_text b)) (record { reply = Repeated kept.counts kept.serial; state = t })
+    (record { reply = Refused KeyUsed None; state = t }) refl refl h)
 accepts_by t b None h = by (nat_lt (len t.keys) most_batches) h where
   by : (c : Bool) → IsTrue (is_accepted (cond c (fresh t b (len t.keys + 1) (edited 1 t b.edits)) (record { reply = Refused Full None; state = t })).reply)
-      → (u : State) × (edited 1 t b.edits ≡ Ok u) × ((cond c (fresh t b (len t.keys + 1) (edited 1 t b.edits)) (record { reply = Refused Full None; state = t })).state.collections ≡ u.collections)
+      → (u : State) × (edited 1 t b.edits ≡ Ok u) × ((cond c (fresh t b (len t.keys + 1) (edited 1 t b.edits))
+      (record { reply = Refused Full None; state = t })).state.collections ≡ u.collections)
   by true h = fresh_accepts t b (len t.keys + 1) (edited 1 t b.edits) h
   by false h = absurd cc
 
@@ -171,7 +187,8 @@ same_data : (d e : Data) (text : List ℕ) → json_of text ≡ Ok d → json_of
 same_data d e text h k = let both = sym k ∙ h in cc
 
 -- the batch inserts the exported features, their times left out
-exported_batch : (fs : List FeatureValue) (key to : Text) (b : BatchValue) → All IsFeature fs → import_of false key to (export_text fs) ≡ Ok b → b ≡ batch_of_features false key to (map untimed fs)
+exported_batch : (fs : List FeatureValue) (key to : Text) (b : BatchValue) → All IsFeature fs → import_of false key to (export_text fs) ≡ Ok b → b
+    ≡ batch_of_features false key to (map untimed fs)
 exported_batch fs key to b sound h =
     let i = import_found false key to (export_text fs) b h in
     let value = same_data (collection_data fs) i.value (export_text fs) (written_reads fs sound) i.reported in
@@ -181,11 +198,13 @@ exported_batch fs key to b sound h =
 pub import_of_export : ImportOfExport
 import_of_export s t from to key c d b sound exported there none time h accepted =
     let es = entries c.features in
-    let placed_so = each_entry (IsPlaced c.time) es (entries_sorted c.features) (λ id f found. (sound.made from c exported).holds id f (get-entries c.features id ∙ found)) in
+    let placed_so = each_entry (IsPlaced c.time) es (entries_sorted c.features) (λ id f found.
+    (sound.made from c exported).holds id f (get-entries c.features id ∙ found)) in
     let fs = values c.features in
     let batch = exported_batch fs key to b (all_features (IsPlaced c.time) IsFeature (λ id f p. p.is) es placed_so) h in
     let a = accepts t b accepted in
     let edits : edited 1 t (map (edit_of false to) (map untimed fs)) ≡ Ok a.after = ap (λ (x : BatchValue). edited 1 t x.edits) (sym batch) ∙ a.done in
     let begun : get t.collections to ≡ Some (holding d (from_entries [])) = there ∙ ap (λ m. Some (holding d m)) none in
-    let all_timed : Each (IsTimedAs d.time) es = each_as (IsPlaced c.time) (IsTimedAs d.time) (λ id f p. (p.named, ap (λ x. time_of x f.properties) time ∙ p.timed)) es placed_so in
+    let all_timed : Each (IsTimedAs d.time) es = each_as (IsPlaced c.time) (IsTimedAs d.time)
+    (λ id f p. (p.named, ap (λ x. time_of x f.properties) time ∙ p.timed)) es placed_so in
     ap (λ m. get m to) a.kept ∙ all_inserted [] es 1 t a.after to d begun all_timed edits ∙ ap (λ m. Some (holding d m)) (of_entries c.features)

@@ -1,5 +1,6 @@
 -- A line feed after the text of a value does not change what the text reads as.
-use Rattle.std.proofs.Common.{◌≡◌, ℕ, ◌+◌, ◌^◌, ◌≤◌, List, [], ◌∷◌, ◌++◌, length, Bool, true, false, cond, ◌&&◌, ◌==◌, pos, negsuc, ok_or, refl, sym, ap, subst, ◌∙◌, arith, append_assoc, append-nil, length-append, bytes_eq, nat_le, option_and_then}
+use Rattle.std.proofs.Common.{◌≡◌, ℕ, ◌+◌, ◌^◌, ◌≤◌, List, [], ◌∷◌, ◌++◌, length, Bool, true, false, cond, ◌&&◌, ◌==◌, pos, negsuc, ok_or, refl, sym, ap, subst}
+use Rattle.std.proofs.Common.{◌∙◌, arith, append_assoc, append-nil, length-append, bytes_eq, nat_le, option_and_then}
 use Rattle.std.proofs.lemmas.Bool.{and_parts, ltb-true}
 use Rattle.std.proofs.lemmas.Bool.Decides.{nat_tests}
 use Rattle.std.proofs.lemmas.Slice.Eq.{bytes_eq-Decides}
@@ -24,7 +25,8 @@ use Rattle.serde_json.specs.Written.{number_text, outline, items_outline, member
 use Rattle.serde_json.proofs.Texts.{print-outline}
 use Rattle.streetmap_json.specs.ExactData.{is_whole, is_before, is_exact, are_exact, are_exact_members}
 use Rattle.streetmap_json.specs.JsonText.{json_value}
-use Rattle.streetmap_json.specs.NumberText.{are_zeros, is_in_number, whole_text, Side, outside, within, escaped, side_after, is_joined, put_before, tokens_from, with_whole_numbers}
+use Rattle.streetmap_json.specs.NumberText.{are_zeros, is_in_number, whole_text, Side, outside, within, escaped, side_after, is_joined, put_before, tokens_from}
+use Rattle.streetmap_json.specs.NumberText.{with_whole_numbers}
 use Rattle.streetmap_json.proofs.NumberTextForm.{whole_text-other}
 use Rattle.streetmap_json.proofs.NumberTextKept.{text_kept}
 use Rattle.streetmap_json.proofs.NumberTextWhole.{whole_text_same}
@@ -95,7 +97,8 @@ with_feed true (t ∷ []) = (t ++ feed) ∷ []
 with_feed true (t ∷ u ∷ us) = t ∷ with_feed true (u ∷ us)
 with_feed false (t ∷ ts) = t ∷ with_feed false ts
 
-before_fed : (joined unended : Bool) (b : ℕ) (t : List ℕ) (ts : List (List ℕ)) → put_before joined b (with_feed unended (t ∷ ts)) ≡ with_feed unended (put_before joined b (t ∷ ts))
+before_fed : (joined unended : Bool) (b : ℕ) (t : List ℕ) (ts : List (List ℕ)) → put_before joined b (with_feed unended (t ∷ ts))
+    ≡ with_feed unended (put_before joined b (t ∷ ts))
 before_fed true true b t [] = refl
 before_fed true true b t (u ∷ us) = refl
 before_fed true false b t ts = refl
@@ -157,12 +160,14 @@ put_joined false b ts = refl
 all_tokens : (side : Side) (xs : List ℕ) → flat_map (λ t. t) (tokens_from side xs) ≡ xs
 unfolding tokens_from
 all_tokens side [] = refl
-all_tokens side (b ∷ bs) = put_joined (is_joined (side_after side b) b bs) b (tokens_from (side_after side b) bs) ∙ ap (λ l. b ∷ l) (all_tokens (side_after side b) bs)
+all_tokens side (b ∷ bs) = put_joined (is_joined (side_after side b) b bs) b (tokens_from (side_after side b) bs)
+    ∙ ap (λ l. b ∷ l) (all_tokens (side_after side b) bs)
 
 -- ---- if each token stays, the tokens with the line feed stay
 
 not_longer_at : (t : List ℕ) (b : Bool) → nat_le (length t) (length (whole_text t)) ≡ b → length (whole_text t) ≤ length t
-not_longer_at t true h = let low : length t ≤ length (whole_text t) = grind (arith, nat_tests) in let same = ap length (whole_text_same t low) in omega (arith, same)
+not_longer_at t true h = let low : length t ≤ length (whole_text t) = grind (arith, nat_tests) in let same = ap length (whole_text_same t low) in
+    omega (arith, same)
 not_longer_at t false h = grind (arith, nat_tests)
 
 not_longer : (ts : List (List ℕ)) → length (flat_map whole_text ts) ≤ length (flat_map (λ t. t) ts)
@@ -182,12 +187,14 @@ parted t xs ys h short =
     let same = whole_text_same t (omega (arith, long, short)) in
     (same, cancelled t xs ys (ap (λ l. l ++ xs) (sym same) ∙ h))
 
-fed_kept : (unended : Bool) (ts : List (List ℕ)) → flat_map whole_text ts ≡ flat_map (λ t. t) ts → flat_map whole_text (with_feed unended ts) ≡ flat_map (λ t. t) ts ++ feed
+fed_kept : (unended : Bool) (ts : List (List ℕ)) → flat_map whole_text ts ≡ flat_map (λ t. t) ts → flat_map whole_text (with_feed unended ts)
+    ≡ flat_map (λ t. t) ts ++ feed
 fed_kept unended [] h = ap (λ l. l ++ []) (fed_stays [])
 fed_kept true (t ∷ []) h = append-nil (whole_text (t ++ feed)) ∙ fed_stays t ∙ ap (λ l. l ++ feed) (sym (append-nil t))
 fed_kept true (t ∷ u ∷ us) h =
     let p = parted t (flat_map whole_text (u ∷ us)) (flat_map (λ x. x) (u ∷ us)) h (not_longer (u ∷ us)) in
-    ap (λ l. l ++ flat_map whole_text (with_feed true (u ∷ us))) p.0 ∙ ap (λ l. t ++ l) (fed_kept true (u ∷ us) p.1) ∙ sym (append_assoc t (flat_map (λ x. x) (u ∷ us)) feed)
+    ap (λ l. l ++ flat_map whole_text (with_feed true (u ∷ us))) p.0 ∙ ap (λ l. t ++ l) (fed_kept true (u ∷ us) p.1)
+    ∙ sym (append_assoc t (flat_map (λ x. x) (u ∷ us)) feed)
 fed_kept false (t ∷ ts) h =
     let p = parted t (flat_map whole_text ts) (flat_map (λ x. x) ts) h (not_longer ts) in
     ap (λ l. l ++ flat_map whole_text (with_feed false ts)) p.0 ∙ ap (λ l. t ++ l) (fed_kept false ts p.1) ∙ sym (append_assoc t (flat_map (λ x. x) ts) feed)
@@ -195,7 +202,8 @@ fed_kept false (t ∷ ts) h =
 text_fed : (xs : List ℕ) → with_whole_numbers xs ≡ xs → with_whole_numbers (xs ++ feed) ≡ xs ++ feed
 text_fed xs h =
     let ts = tokens_from outside xs in
-    ap (flat_map whole_text) (tokens_fed outside xs) ∙ fed_kept (is_string (end_of outside xs)) ts (h ∙ sym (all_tokens outside xs)) ∙ ap (λ l. l ++ feed) (all_tokens outside xs)
+    ap (flat_map whole_text) (tokens_fed outside xs) ∙ fed_kept (is_string (end_of outside xs)) ts (h ∙ sym (all_tokens outside xs))
+    ∙ ap (λ l. l ++ feed) (all_tokens outside xs)
 
 -- ---- the lexemes of what is printed
 
@@ -220,7 +228,8 @@ null_lexed : (r : List ℕ) → ends_word r ≡ true → lex between (token_text
 unfolding lex word
 null_lexed r e = ap (λ b. token (cond b null bad) ∷ lex in_word r) e ∙ ap (λ l. token null ∷ l) (in_word-ended r e)
 
-alike_after : (t : Token) (r q : List ℕ) → IsPrintable t → (ends t ≡ true → ends_word r ≡ true) → (ends t ≡ true → ends_word q ≡ true) → Alike r q → Alike (token_text t ++ r) (token_text t ++ q)
+alike_after : (t : Token) (r q : List ℕ) → IsPrintable t → (ends t ≡ true → ends_word r ≡ true) → (ends t ≡ true → ends_word q ≡ true) → Alike r q →
+    Alike (token_text t ++ r) (token_text t ++ q)
 unfolding lex
 alike_after begin_object r q h a b e = ap (λ l. token begin_object ∷ l) e
 alike_after end_object r q h a b e = ap (λ l. token end_object ∷ l) e

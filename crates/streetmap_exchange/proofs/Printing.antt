@@ -134,7 +134,8 @@ module _ (s : State) (sound : IsState s) (after last : ℕ) (old now : Option (L
 -- ---- the keeper
 
 -- a write that failed
-pub write_reads : {K : Type 0} {model : Model K} {a b : K} (fault : ExportFault) → IsWriteFault fault → AreReads model a b (Some (Ok tt)) → AreReads model a b (lines_answer {T = ℕ} (Err fault))
+pub write_reads : {K : Type 0} {model : Model K} {a b : K} (fault : ExportFault) → IsWriteFault fault → AreReads model a b (Some (Ok tt)) →
+    AreReads model a b (lines_answer {T = ℕ} (Err fault))
 write_reads (Stopped Memory) is reads = then_lost reads
 write_reads (Stopped Device) is reads = absurd is
 write_reads (Stopped Damaged) is reads = absurd is

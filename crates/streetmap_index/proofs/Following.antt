@@ -30,17 +30,21 @@ module _ (s t : State) (e : EditValue) (name : Text) (is : name ≡ collection_o
   still_known es known none = known_after es es s t name (keeps_all es name) known other_than (λ o there. nothing_known o (sym none ∙ there))
 
   -- the collection of an edit is known, and was followed
-  pub followed : (es fs : Known) (o : OutlinedCollection) → KeepsOthers (eq_by_cmp string_cmp) (at_text name) es fs → known_under name fs ≡ Some o → AreKnown es s → IsOutlinedIf o (get t.collections (collection_of e)) → AreKnown fs t
+  pub followed : (es fs : Known) (o : OutlinedCollection) → KeepsOthers (eq_by_cmp string_cmp) (at_text name) es fs → known_under name fs ≡ Some o →
+      AreKnown es s → IsOutlinedIf o (get t.collections (collection_of e)) → AreKnown fs t
   followed es fs o keeps there known now =
       known_after es fs s t name keeps known other_than
-      (λ p found. subst (λ (x : OutlinedCollection). IsOutlinedIf x (get t.collections name)) (same_Some o p (sym there ∙ found)) (subst (λ (k : Text). IsOutlinedIf o (get t.collections k)) (sym is) now))
+      (λ p found. subst (λ (x : OutlinedCollection). IsOutlinedIf x (get t.collections name)) (same_Some o p (sym there ∙ found))
+      (subst (λ (k : Text). IsOutlinedIf o (get t.collections k)) (sym is) now))
 
-  pub all_followed : (es fs : Known) (o : OutlinedCollection) → KeepsOthers (eq_by_cmp string_cmp) (at_text name) es fs → known_under name fs ≡ Some o → KnowsAll es s → KnowsAll fs t
+  pub all_followed : (es fs : Known) (o : OutlinedCollection) → KeepsOthers (eq_by_cmp string_cmp) (at_text name) es fs → known_under name fs ≡ Some o →
+      KnowsAll es s → KnowsAll fs t
   all_followed es fs o keeps there = all_known_after es fs s t name keeps other_than (subst IsSome (sym there) refl)
 
 -- the collection that was changed
 left : (s t : State) (name : Text) (c : Collection) → t.collections ≡ insert s.collections name c → get t.collections name ≡ Some c
-left s t name c is = ap (λ m. get m name) is ∙ (get-insert nat_list_cmp_total s.collections name c name ∙ ap (λ r. cond (is_eq r) (Some c) (get s.collections name)) (tied_itself nat_list_cmp_total name))
+left s t name c is = ap (λ m. get m name) is ∙ (get-insert nat_list_cmp_total s.collections name c name
+    ∙ ap (λ r. cond (is_eq r) (Some c) (get s.collections name)) (tied_itself nat_list_cmp_total name))
 
 follows_put : {E : Type 0} (o p : OutlinedCollection) (s t : State) (name : Text) (f : FeatureValue) (r : Result (Unit {0}) E) → Puts s t name f
     → ((c : Collection) (g : FeatureValue) → IsOutlined o c → timed c.time f ≡ Ok g → OnOk r (IsOutlined p (record c { features = insert c.features g.id g })))
@@ -58,17 +62,21 @@ follows_cut o p s t name id d says known =
 
 module _ (o p : OutlinedCollection) (s t : State) (name : Text) (e : EditValue) where
   pub follows_insert : {E : Type 0} (f : FeatureValue) (r : Result (Unit {0}) E) → e ≡ edit.insert name f
-      → ((c : Collection) (g : FeatureValue) → IsOutlined o c → timed c.time f ≡ Ok g → OnOk r (IsOutlined p (record c { features = insert c.features g.id g })))
+      → ((c : Collection) (g : FeatureValue) → IsOutlined o c → timed c.time f ≡ Ok g → OnOk r
+      (IsOutlined p (record c { features = insert c.features g.id g })))
       → step s e ≡ Ok t → IsOutlinedIf o (get s.collections (collection_of e)) → OnOk r (IsOutlinedIf p (get t.collections (collection_of e)))
   follows_insert f r is says =
-      subst (λ x. step s x ≡ Ok t → IsOutlinedIf o (get s.collections (collection_of x)) → OnOk r (IsOutlinedIf p (get t.collections (collection_of x)))) (sym is)
+      subst (λ x. step s x ≡ Ok t → IsOutlinedIf o (get s.collections (collection_of x)) → OnOk r (IsOutlinedIf p (get t.collections (collection_of x))))
+      (sym is)
       (λ done known. follows_put o p s t name f r (did s t (edit.insert name f) done) says known)
 
   pub follows_replace : {E : Type 0} (f : FeatureValue) (r : Result (Unit {0}) E) → e ≡ edit.replace name f
-      → ((c : Collection) (g : FeatureValue) → IsOutlined o c → timed c.time f ≡ Ok g → OnOk r (IsOutlined p (record c { features = insert c.features g.id g })))
+      → ((c : Collection) (g : FeatureValue) → IsOutlined o c → timed c.time f ≡ Ok g → OnOk r
+      (IsOutlined p (record c { features = insert c.features g.id g })))
       → step s e ≡ Ok t → IsOutlinedIf o (get s.collections (collection_of e)) → OnOk r (IsOutlinedIf p (get t.collections (collection_of e)))
   follows_replace f r is says =
-      subst (λ x. step s x ≡ Ok t → IsOutlinedIf o (get s.collections (collection_of x)) → OnOk r (IsOutlinedIf p (get t.collections (collection_of x)))) (sym is)
+      subst (λ x. step s x ≡ Ok t → IsOutlinedIf o (get s.collections (collection_of x)) → OnOk r (IsOutlinedIf p (get t.collections (collection_of x))))
+      (sym is)
       (λ done known. follows_put o p s t name f r (did s t (edit.replace name f) done) says known)
 
   pub follows_delete : (id : Text) → e ≡ edit.delete name id
@@ -79,5 +87,6 @@ module _ (o p : OutlinedCollection) (s t : State) (name : Text) (e : EditValue) 
       (λ done known. follows_cut o p s t name id (did s t (edit.delete name id) done) says known)
 
 -- the feature with the time that its collection's property gives
-pub reported_time : (property : Option Text) (f g : FeatureValue) (t : Option IntervalValue) → time_of property f.properties ≡ Ok t → timed property f ≡ Ok g → retimed f t ≡ g
+pub reported_time : (property : Option Text) (f g : FeatureValue) (t : Option IntervalValue) → time_of property f.properties ≡ Ok t → timed property f ≡ Ok g →
+    retimed f t ≡ g
 reported_time property f g t reported h = let e = rw reported at h in cc

@@ -39,7 +39,8 @@ pub known_after : (es fs : Known) (s t : State) (name : Text) → KeepsOthers (e
 unfolding KeepsOthers
 known_after es fs s t name keeps known same here other o there = by (text_cmp other name) refl where
   elsewhere : (r : Ordering) → text_cmp other name ≡ r → is_eq r ≡ false → IsOutlinedIf o (get t.collections other)
-  elsewhere r e off = subst (IsOutlinedIf o) (sym (same other (ap is_eq e ∙ off))) (known other o (sym (keeps (at_text other) (key_test other) (apart other name r e off)) ∙ there))
+  elsewhere r e off = subst (IsOutlinedIf o) (sym (same other (ap is_eq e ∙ off))) (known other o
+      (sym (keeps (at_text other) (key_test other) (apart other name r e off)) ∙ there))
 
   by : (r : Ordering) → text_cmp other name ≡ r → IsOutlinedIf o (get t.collections other)
   by Less e = elsewhere Less e refl
@@ -55,7 +56,8 @@ pub all_known_after : (es fs : Known) (s t : State) (name : Text) → KeepsOther
 unfolding KeepsOthers
 all_known_after es fs s t name keeps same here all other c there = by (text_cmp other name) refl where
   elsewhere : (r : Ordering) → text_cmp other name ≡ r → is_eq r ≡ false → IsSome (known_under other fs)
-  elsewhere r e off = subst IsSome (sym (keeps (at_text other) (key_test other) (apart other name r e off))) (all other c (sym (same other (ap is_eq e ∙ off)) ∙ there))
+  elsewhere r e off = subst IsSome (sym (keeps (at_text other) (key_test other) (apart other name r e off)))
+      (all other c (sym (same other (ap is_eq e ∙ off)) ∙ there))
 
   by : (r : Ordering) → text_cmp other name ≡ r → IsSome (known_under other fs)
   by Less e = elsewhere Less e refl

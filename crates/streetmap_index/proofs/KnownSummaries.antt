@@ -8,7 +8,8 @@ use Rattle.streetmap_ledger.specs.Summaries.{SummaryValue, summary_of, summary_i
 use Rattle.streetmap_index.specs.Index.{IsOutlined, IsOutlinedIf}
 use Rattle.streetmap_index.specs.declared.outlined.OutlinedCollection.{OutlinedCollection}
 
-pub reported_in : (s : State) (id : Text) (o : OutlinedCollection) (v : SummaryValue) → ((d : Collection) → get s.collections id ≡ Some d → IsOutlined o d → v ≡ summary_of id d) → IsOutlinedIf o (get s.collections id) → Some v ≡ summary_in s id
+pub reported_in : (s : State) (id : Text) (o : OutlinedCollection) (v : SummaryValue) → ((d : Collection) → get s.collections id ≡ Some d → IsOutlined o d → v
+    ≡ summary_of id d) → IsOutlinedIf o (get s.collections id) → Some v ≡ summary_in s id
 reported_in s id o v reports known = by (get s.collections id) refl known where
   by : (c : Option Collection) → get s.collections id ≡ c → IsOutlinedIf o c → Some v ≡ option_map (summary_of id) c
   by None at known = absurd known

@@ -1,5 +1,6 @@
 -- The summaries of all collections, from what is known of them.
-use Rattle.std.proofs.Common.{◌≡◌, List, [], ◌∷◌, ◌++◌, Bool, true, false, cond, T, Option, None, Some, IsSome, String, string_bytes, map, refl, sym, ap, subst, ◌∙◌, append-nil}
+use Rattle.std.proofs.Common.{◌≡◌, List, [], ◌∷◌, ◌++◌, Bool, true, false, cond, T, Option, None, Some, IsSome, String, string_bytes, map, refl, sym, ap, subst}
+use Rattle.std.proofs.Common.{◌∙◌, append-nil}
 use Rattle.std.specs.Option.{option_map}
 use Rattle.std.specs.String.{string_cmp}
 use Rattle.std.specs.Ordering.{is_lt, is_eq}
@@ -57,14 +58,16 @@ module _ {X : Type 0} where
   names_of_marks (e ∷ es) = ap (λ ks. e.0 ∷ ks) (names_of_marks es)
 
 -- entries in order of two maps that have the same keys have them in the same order
-same_names : {X Y : Type 0} (es : List (Text × X)) (fs : List (Text × Y)) → T (is_sorted text_cmp es) → T (is_sorted text_cmp fs) → ((q : Text) → has (find text_cmp q es) ≡ has (find text_cmp q fs)) → names es ≡ names fs
+same_names : {X Y : Type 0} (es : List (Text × X)) (fs : List (Text × Y)) → T (is_sorted text_cmp es) → T (is_sorted text_cmp fs) →
+    ((q : Text) → has (find text_cmp q es) ≡ has (find text_cmp q fs)) → names es ≡ names fs
 same_names es fs up more same =
     let one = sorted_marks es up in
     let other = sorted_marks fs more in
     let all : from_sorted (marks es) ≡ from_sorted (marks fs) = same_map nat_list_cmp_total one_text (from_sorted (marks es)) (from_sorted (marks fs)) (λ q.
     get-from_sorted text_cmp (marks es) q one ∙ (find_marks q es ∙ (same q ∙ (sym (find_marks q fs) ∙ sym (get-from_sorted text_cmp (marks fs) q other))))) in
     sym (names_of_marks es)
-    ∙ (ap names (sym (entries-from_sorted text_cmp (marks es) one)) ∙ (ap (λ m. names (entries m)) all ∙ (ap names (entries-from_sorted text_cmp (marks fs) other) ∙ names_of_marks fs)))
+    ∙ (ap names (sym (entries-from_sorted text_cmp (marks es) one)) ∙ (ap (λ m. names (entries m)) all
+    ∙ (ap names (entries-from_sorted text_cmp (marks fs) other) ∙ names_of_marks fs)))
 
 -- ---- what is known, by text
 abbrev pub by_text : Known → List (Text × OutlinedCollection)
@@ -88,7 +91,8 @@ there : (o : OutlinedCollection) (c : Option Collection) → IsOutlinedIf o c �
 there o None h = absurd h
 there o (Some c) h = refl
 
-has_both : (known : Option OutlinedCollection) (c : Option Collection) → ((o : OutlinedCollection) → known ≡ Some o → IsOutlinedIf o c) → ((d : Collection) → c ≡ Some d → IsSome known) → has known ≡ has c
+has_both : (known : Option OutlinedCollection) (c : Option Collection) → ((o : OutlinedCollection) → known ≡ Some o → IsOutlinedIf o c) →
+    ((d : Collection) → c ≡ Some d → IsSome known) → has known ≡ has c
 has_both None None is all = refl
 has_both None (Some c) is all = let none : IsSome {T = OutlinedCollection} None = all c refl in absurd cc
 has_both (Some o) c is all = there o c (is o refl)
@@ -101,26 +105,32 @@ option_list (Some x) = x ∷ []
 abbrev pub reported_under : State → List Text → List SummaryValue
 reported_under s ks = flat_map (λ k. option_list (summary_in s k)) ks
 
-reported_entries : (s : State) (es : List (Text × Collection)) → AllByRecursion (λ e. get s.collections e.0 ≡ Some e.1) es → reported_under s (names es) ≡ map (λ e. summary_of e.0 e.1) es
+reported_entries : (s : State) (es : List (Text × Collection)) → AllByRecursion (λ e. get s.collections e.0 ≡ Some e.1) es → reported_under s (names es)
+    ≡ map (λ e. summary_of e.0 e.1) es
 reported_entries s [] h = refl
 reported_entries s (e ∷ es) h =
     ap (λ o. option_list (option_map (summary_of e.0) o) ++ reported_under s (names es)) h.0 ∙ ap (λ ss. summary_of e.0 e.1 ∷ ss) (reported_entries s es h.1)
 
 -- if all is known, the summaries under the names known are those of all
-pub reported_of_all : (s : State) (es : Known) → IsStrictlySortedBy string_cmp (keys_of es) → AreKnown es s → KnowsAll es s → reported_under s (names (by_text es)) ≡ summaries_in s
+pub reported_of_all : (s : State) (es : Known) → IsStrictlySortedBy string_cmp (keys_of es) → AreKnown es s → KnowsAll es s →
+    reported_under s (names (by_text es)) ≡ summaries_in s
 reported_of_all s es up known all =
     let cs = entries s.collections in
     let same = same_names (by_text es) cs (ascending es up) (entries_sorted s.collections) (λ q.
-    ap has (found_by_text q es) ∙ (has_both (known_under q es) (get s.collections q) (λ o is. known q o is) (λ c is. all q c is) ∙ ap has (get-entries s.collections q))) in
+    ap has (found_by_text q es) ∙ (has_both (known_under q es) (get s.collections q) (λ o is. known q o is) (λ c is. all q c is)
+    ∙ ap has (get-entries s.collections q))) in
     ap (reported_under s) same
     ∙ reported_entries s cs (each_found (λ k c. get s.collections k ≡ Some c) cs (entries_sorted s.collections) (λ k c is. get-entries s.collections k ∙ is))
 
 -- each part of what is known is true
-pub each_known : (s : State) (es : Known) → IsStrictlySortedBy string_cmp (keys_of es) → AreKnown es s → AllByRecursion (λ e. IsOutlinedIf e.1 (get s.collections e.0)) (by_text es)
-each_known s es up known = each_found (λ k o. IsOutlinedIf o (get s.collections k)) (by_text es) (ascending es up) (λ k o is. known k o (sym (found_by_text k es) ∙ is))
+pub each_known : (s : State) (es : Known) → IsStrictlySortedBy string_cmp (keys_of es) → AreKnown es s →
+    AllByRecursion (λ e. IsOutlinedIf e.1 (get s.collections e.0)) (by_text es)
+each_known s es up known = each_found (λ k o. IsOutlinedIf o (get s.collections k)) (by_text es) (ascending es up)
+    (λ k o is. known k o (sym (found_by_text k es) ∙ is))
 
 -- ---- one more collection is listed
-more_reported : (reported : List Summary) (one : Summary) (rest : List SummaryValue) → summary_values (reported ++ one ∷ []) ++ rest ≡ summary_values reported ++ summary_value one ∷ rest
+more_reported : (reported : List Summary) (one : Summary) (rest : List SummaryValue) → summary_values (reported ++ one ∷ []) ++ rest ≡ summary_values reported
+    ++ summary_value one ∷ rest
 more_reported [] one rest = refl
 more_reported (t ∷ reported) one rest = ap (λ ss. summary_value t ∷ ss) (more_reported reported one rest)
 
@@ -129,8 +139,10 @@ pub record IsReporting (s : State) (reported : List Summary) (left : Known) : Ty
   pub whole : summary_values reported ++ reported_under s (names (by_text left)) ≡ summaries_in s
   pub known : AllByRecursion (λ e. IsOutlinedIf e.1 (get s.collections e.0)) (by_text left)
 
-pub reports_on : (s : State) (reported next : List Summary) (key : String Global) (o : OutlinedCollection) (left : Known) (one : Summary) → IsReporting s reported ((key, o) ∷ left) → next ≡ reported ++ one ∷ []
-    → ((c : Collection) → get s.collections (string_bytes key) ≡ Some c → IsOutlinedIf o (Some c) → summary_value one ≡ summary_of (string_bytes key) c) → IsReporting s next left
+pub reports_on : (s : State) (reported next : List Summary) (key : String Global) (o : OutlinedCollection) (left : Known) (one : Summary) →
+    IsReporting s reported ((key, o) ∷ left) → next ≡ reported ++ one ∷ []
+    → ((c : Collection) → get s.collections (string_bytes key) ≡ Some c → IsOutlinedIf o (Some c) → summary_value one ≡ summary_of (string_bytes key) c) →
+    IsReporting s next left
 reports_on s reported next key o left one telling is reports = by (get s.collections (string_bytes key)) refl telling.known.0 where
   by : (c : Option Collection) → get s.collections (string_bytes key) ≡ c → IsOutlinedIf o c → IsReporting s next left
   by None at known = absurd known
@@ -138,7 +150,8 @@ reports_on s reported next key o left one telling is reports = by (get s.collect
     whole = ap (λ ts. summary_values ts ++ reported_under s (names (by_text left))) is
         ∙ (more_reported reported one (reported_under s (names (by_text left)))
         ∙ (ap (λ v. summary_values reported ++ v ∷ reported_under s (names (by_text left))) (reports c at known)
-        ∙ (ap (λ x. summary_values reported ++ (option_list (option_map (summary_of (string_bytes key)) x) ++ reported_under s (names (by_text left)))) (sym at) ∙ telling.whole)));
+        ∙ (ap (λ x. summary_values reported ++ (option_list (option_map (summary_of (string_bytes key)) x) ++ reported_under s (names (by_text left)))) (sym at)
+        ∙ telling.whole)));
     known = telling.known.1;
   }
 
@@ -146,20 +159,24 @@ reports_on s reported next key o left one telling is reports = by (get s.collect
 abbrev pub IsNamed : Known → Summary → Type 0
 IsNamed es summary = IsSome (known_under (string_bytes summary.id) es)
 
-pub all_named : (es : Known) (s : State) (reported : List Summary) → summary_values reported ≡ summaries_in s → AllByRecursion (IsNamed es) reported → KnowsAll es s
+pub all_named : (es : Known) (s : State) (reported : List Summary) → summary_values reported ≡ summaries_in s → AllByRecursion (IsNamed es) reported →
+    KnowsAll es s
 all_named es s reported is named name c at = by (entries s.collections) reported is named (sym (get-entries s.collections name) ∙ at) where
-  at_name : (k : Text) (xs : List (Text × Collection)) (d : Collection) (r : Ordering) → text_cmp name k ≡ r → IsSome (known_under k es) → (find text_cmp name xs ≡ Some c → IsSome (known_under name es)) → cond (is_eq r) (Some d) (find text_cmp name xs) ≡ Some c → IsSome (known_under name es)
+  at_name : (k : Text) (xs : List (Text × Collection)) (d : Collection) (r : Ordering) → text_cmp name k ≡ r → IsSome (known_under k es) →
+      (find text_cmp name xs ≡ Some c → IsSome (known_under name es)) → cond (is_eq r) (Some d) (find text_cmp name xs) ≡ Some c → IsSome (known_under name es)
   at_name k xs d Less e here later at = later at
   at_name k xs d Greater e here later at = later at
   at_name k xs d Equal e here later at = subst (λ n. IsSome (known_under n es)) (sym (one_text name k e)) here
 
-  by : (xs : List (Text × Collection)) (ts : List Summary) → summary_values ts ≡ map (λ x. summary_of x.0 x.1) xs → AllByRecursion (IsNamed es) ts → find text_cmp name xs ≡ Some c → IsSome (known_under name es)
+  by : (xs : List (Text × Collection)) (ts : List Summary) → summary_values ts ≡ map (λ x. summary_of x.0 x.1) xs → AllByRecursion (IsNamed es) ts →
+      find text_cmp name xs ≡ Some c → IsSome (known_under name es)
   by [] ts is named at = absurd cc
   by (x ∷ xs) [] is named at = absurd cc
   by (x ∷ xs) (t ∷ ts) is named at =
       let head : summary_value t ≡ summary_of x.0 x.1 = cc in
       let tail : summary_values ts ≡ map (λ x. summary_of x.0 x.1) xs = cc in
-      at_name x.0 xs x.1 (text_cmp name x.0) refl (subst (λ n. IsSome (known_under n es)) (ap (λ (v : SummaryValue). v.id) head) named.0) (by xs ts tail named.1) at
+      at_name x.0 xs x.1 (text_cmp name x.0) refl (subst (λ n. IsSome (known_under n es)) (ap (λ (v : SummaryValue). v.id) head) named.0)
+      (by xs ts tail named.1) at
 
 -- none is left to list
 pub none_left : (s : State) (reported : List Summary) → IsReporting s reported [] → summary_values reported ≡ summaries_in s

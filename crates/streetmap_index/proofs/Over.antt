@@ -15,7 +15,8 @@ use Rattle.streetmap_index.specs.declared.keeper.IndexedKeeper.{IndexedKeeper}
 -- the model and the keepers are passed to these, as no part of them can be found in a table
 module _ {K : Type 0} (model : Model K) where
   -- the index is still of the state
-  reads_over : (T : Type 0) (a b : IndexedKeeper K) (s : State) (Is : T → Type 0) (r : Result T Fault) → Reads model a.keeper b.keeper s Is r → IsIndexOf b.index s → Reads (indexed model) a b s Is r
+  reads_over : (T : Type 0) (a b : IndexedKeeper K) (s : State) (Is : T → Type 0) (r : Result T Fault) → Reads model a.keeper b.keeper s Is r →
+      IsIndexOf b.index s → Reads (indexed model) a b s Is r
   reads_over T a b s Is (Ok x) h index = (h.0, (h.1, index))
   reads_over T a b s Is (Err Memory) h index = (h, index)
   reads_over T a b s Is (Err Device) h index = h
@@ -41,8 +42,10 @@ module _ {K : Type 0} {model : Model K} where
   }
 
   -- the index stays
-  pub read_beside : {T : Type 0} {a b : IndexedKeeper K} {r : Result T Fault} {Is : State → T → Type 0} → IsRead model a.keeper b.keeper r Is → b.index ≡ a.index → IsRead (indexed model) a b r Is
-  read_beside {T} {a} {b} {r} {Is} read same = read_over {As = Is} read (λ s e known found. reads_over model T a b s (Is s) r found (subst (λ (m : Index). IsIndexOf m s) (sym same) known))
+  pub read_beside : {T : Type 0} {a b : IndexedKeeper K} {r : Result T Fault} {Is : State → T → Type 0} → IsRead model a.keeper b.keeper r Is → b.index
+      ≡ a.index → IsRead (indexed model) a b r Is
+  read_beside {T} {a} {b} {r} {Is} read same = read_over {As = Is} read (λ s e known found.
+      reads_over model T a b s (Is s) r found (subst (λ (m : Index). IsIndexOf m s) (sym same) known))
 
   -- a batch on the keeper below, and the index follows it
   pub write_over : {a b : IndexedKeeper K} {k : K} {batch : BatchValue} {r : Result Reply Fault} → IsWrite model a.keeper k batch r → b.keeper ≡ k
@@ -58,13 +61,18 @@ module _ {K : Type 0} {model : Model K} where
 
 module _ {K : Type 0} (model : Model K) where
   -- the index takes note of the fault
-  reads_noted : (T : Type 0) (a b c : IndexedKeeper K) (s : State) (Is : T → Type 0) (fault : Fault) → c.keeper ≡ b.keeper → IsNoted fault b.index c.index → Reads (indexed model) a b s Is (Err fault) → Reads (indexed model) a c s Is (Err fault)
+  reads_noted : (T : Type 0) (a b c : IndexedKeeper K) (s : State) (Is : T → Type 0) (fault : Fault) → c.keeper ≡ b.keeper → IsNoted fault b.index c.index →
+      Reads (indexed model) a b s Is (Err fault) → Reads (indexed model) a c s Is (Err fault)
   reads_noted T a b c s Is Memory same noted h = (subst (λ k. model.represents k s) (sym same) h.0, subst (λ (m : Index). IsIndexOf m s) (sym noted) h.1)
-  reads_noted T a b c s Is Device same noted h = (subst (λ k. model.fails a.keeper k) (sym same) h.0, subst (λ k. (o : Option State) → model.may_leave k o → o ≡ Some s) (sym same) h.1)
+  reads_noted T a b c s Is Device same noted h = (
+    subst (λ k. model.fails a.keeper k) (sym same) h.0,
+    subst (λ k. (o : Option State) → model.may_leave k o → o ≡ Some s) (sym same) h.1,
+  )
   reads_noted T a b c s Is Damaged same noted h = h
   reads_noted T a b c s Is Reopen same noted h = h
 
-  pub read_noted : {T : Type 0} {a b c : IndexedKeeper K} {fault : Fault} {Is : State → T → Type 0} → IsRead (indexed model) a b (Err fault) Is → c.keeper ≡ b.keeper → IsNoted fault b.index c.index → IsRead (indexed model) a c (Err fault) Is
+  pub read_noted : {T : Type 0} {a b c : IndexedKeeper K} {fault : Fault} {Is : State → T → Type 0} → IsRead (indexed model) a b (Err fault) Is → c.keeper
+      ≡ b.keeper → IsNoted fault b.index c.index → IsRead (indexed model) a c (Err fault) Is
   read_noted {T} {a} {b} {c} {fault} {Is} read same noted =
       let clean = λ (h : model.is_clean c.keeper). subst model.is_clean same h in
       let below : IsCall {T = T} model a.keeper b.keeper (Err fault) = record {
@@ -79,16 +87,19 @@ module _ {K : Type 0} (model : Model K) where
       }
 
   -- the index alone changed before a read, and is still of the state
-  reads_from : (T : Type 0) (a b c : IndexedKeeper K) (s : State) (Is : T → Type 0) (r : Result T Fault) → b.keeper ≡ a.keeper → Reads (indexed model) b c s Is r → Reads (indexed model) a c s Is r
+  reads_from : (T : Type 0) (a b c : IndexedKeeper K) (s : State) (Is : T → Type 0) (r : Result T Fault) → b.keeper ≡ a.keeper →
+      Reads (indexed model) b c s Is r → Reads (indexed model) a c s Is r
   reads_from T a b c s Is (Ok x) same h = h
   reads_from T a b c s Is (Err Memory) same h = h
   reads_from T a b c s Is (Err Device) same h = (subst (λ k. model.fails k c.keeper) same h.0, h.1)
   reads_from T a b c s Is (Err Damaged) same h = h
   reads_from T a b c s Is (Err Reopen) same h = h
 
-  pub read_after_change : {T : Type 0} {a b c : IndexedKeeper K} {r : Result T Fault} {Is : State → T → Type 0} → IsRead (indexed model) b c r Is → b.keeper ≡ a.keeper → ((s : State) → IsIndexOf a.index s → IsIndexOf b.index s) → IsRead (indexed model) a c r Is
+  pub read_after_change : {T : Type 0} {a b c : IndexedKeeper K} {r : Result T Fault} {Is : State → T → Type 0} → IsRead (indexed model) b c r Is → b.keeper
+      ≡ a.keeper → ((s : State) → IsIndexOf a.index s → IsIndexOf b.index s) → IsRead (indexed model) a c r Is
   read_after_change {T} {a} {b} {c} {r} {Is} read same so =
-      let from : (s : State) → model.represents a.keeper s × IsIndexOf a.index s → model.represents b.keeper s × IsIndexOf b.index s = λ s e. (subst (λ k. model.represents k s) (sym same) e.0, so s e.1) in
+      let from : (s : State) → model.represents a.keeper s × IsIndexOf a.index s → model.represents b.keeper s × IsIndexOf b.index s = λ s e.
+      (subst (λ k. model.represents k s) (sym same) e.0, so s e.1) in
       let below : IsCall {T = T} model b.keeper c.keeper r = record {
         preserved = read.call.preserved;
         began_clean = read.call.began_clean;

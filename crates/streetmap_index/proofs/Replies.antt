@@ -62,13 +62,15 @@ same_collections index s t same known = (
 )
 
 -- an index that followed the edits is one of the state after the batch
-pub followed_batch : (s : State) (b : BatchValue) (counts : Counts) (serial : ℕ) (index : Index) → (act s b).reply ≡ Accepted counts serial → ((t : State) → edited 1 s b.edits ≡ Ok t → IsIndexOf index t) → IsIndexOf index (act s b).state
+pub followed_batch : (s : State) (b : BatchValue) (counts : Counts) (serial : ℕ) (index : Index) → (act s b).reply ≡ Accepted counts serial →
+    ((t : State) → edited 1 s b.edits ≡ Ok t → IsIndexOf index t) → IsIndexOf index (act s b).state
 followed_batch s b counts serial index is followed =
     let done = (act_reports s b).accepted counts serial is in
     same_collections index done.done (act s b).state done.collections (followed done.done done.is)
 
 -- a fault of a batch, on a keeper whose index takes note of it
-pub noted_writes : {K : Type 0} (model : Model K) (old new : IndexedKeeper K) (s : State) (b : BatchValue) (fault : Fault) → IsNoted fault old.index new.index → IsIndexOf old.index s
+pub noted_writes : {K : Type 0} (model : Model K) (old new : IndexedKeeper K) (s : State) (b : BatchValue) (fault : Fault) → IsNoted fault old.index new.index →
+    IsIndexOf old.index s
     → Writes model old.keeper new.keeper s b (Err fault) → Writes (indexed model) old new s b (Err fault)
 noted_writes model old new s b Memory noted index h = (h, subst (λ (m : Index). IsIndexOf m s) (sym noted) index)
 noted_writes model old new s b Device noted index h = h
@@ -76,11 +78,13 @@ noted_writes model old new s b Damaged noted index h = h
 noted_writes model old new s b Reopen noted index h = h
 
 -- ---- edits one by one
-first_by : (at : ℕ) (s t : State) (e : EditValue) (es : List EditValue) (r : Result State Refusal) → step s e ≡ r → (placed at r >>= λ u. edited (at + 1) u es) ≡ Ok t → (u : State) × (step s e ≡ Ok u) × (edited (at + 1) u es ≡ Ok t)
+first_by : (at : ℕ) (s t : State) (e : EditValue) (es : List EditValue) (r : Result State Refusal) → step s e ≡ r → (placed at r >>= λ u. edited (at + 1) u es)
+    ≡ Ok t → (u : State) × (step s e ≡ Ok u) × (edited (at + 1) u es ≡ Ok t)
 first_by at s t e es (Ok u) is done = (u, is, done)
 first_by at s t e es (Err why) is done = absurd cc
 
-pub first_done : (at : ℕ) (s t : State) (e : EditValue) (es : List EditValue) → edited at s (e ∷ es) ≡ Ok t → (u : State) × (step s e ≡ Ok u) × (edited (at + 1) u es ≡ Ok t)
+pub first_done : (at : ℕ) (s t : State) (e : EditValue) (es : List EditValue) → edited at s (e ∷ es) ≡ Ok t → (u : State) × (step s e ≡ Ok u)
+    × (edited (at + 1) u es ≡ Ok t)
 first_done at s t e es done = first_by at s t e es (step s e) refl done
 
 pub none_done : (at : ℕ) (s t : State) → edited at s [] ≡ Ok t → s ≡ t

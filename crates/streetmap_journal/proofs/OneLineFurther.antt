@@ -210,7 +210,8 @@ grown_reached s t x grown p bytes h =
 
 -- ---- the line of a batch that is kept
 
-pub kept_line_is : (s : State) (serial : ℕ) (batch : KeyedBatch) (text line : List ℕ) → Some batch ≡ batch_in s serial → text ≡ kept_text batch → line ≡ line_bytes (numbered serial text) ++ 10 ∷ []
+pub kept_line_is : (s : State) (serial : ℕ) (batch : KeyedBatch) (text line : List ℕ) → Some batch ≡ batch_in s serial → text ≡ kept_text batch → line
+    ≡ line_bytes (numbered serial text) ++ 10 ∷ []
     → IsKeptLine s serial (Some line)
 kept_line_is s serial batch text line there same made =
     (kept_text batch, ap (option_map kept_text) (sym there), made ∙ ap (λ (t : Text). line_bytes (numbered serial t) ++ 10 ∷ []) same)

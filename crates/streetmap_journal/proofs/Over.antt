@@ -27,7 +27,8 @@ state_by s b (Err fault) = s
 
 module _ {K : Type 0} (model : Model K) where
   -- reads were made before
-  pub writes_from : (a b c : K) (s : State) (batch : BatchValue) (r : Result Reply Fault) → (model.fails b c → model.fails a c) → Writes model b c s batch r → Writes model a c s batch r
+  pub writes_from : (a b c : K) (s : State) (batch : BatchValue) (r : Result Reply Fault) → (model.fails b c → model.fails a c) → Writes model b c s batch r →
+      Writes model a c s batch r
   writes_from a b c s batch (Ok reply) before h = h
   writes_from a b c s batch (Err Memory) before h = h
   writes_from a b c s batch (Err Device) before h = (before h.0, h.1)
@@ -48,14 +49,16 @@ module _ {W : Type 0} (contents : W → Option (List ℕ)) (reported : W → Opt
   none_for (Some journal) s none = absurd cc
 
   -- a journal whose lines a batch changes only if it was answered
-  pub for_after : (s : State) (batch : BatchValue) (r : Result Reply Fault) (old new : Journal W) → (IsErr r → new ≡ old) → IfOk r (λ _. IsFor contents reported kept new (act s batch).state)
+  pub for_after : (s : State) (batch : BatchValue) (r : Result Reply Fault) (old new : Journal W) → (IsErr r → new ≡ old) →
+      IfOk r (λ _. IsFor contents reported kept new (act s batch).state)
       → IsFor contents reported kept old s → IsFor contents reported kept new (state_by s batch r)
   for_after s batch (Ok reply) old new same after before = after
   for_after s batch (Err fault) old new same after before = subst (λ (j : Journal W). IsFor contents reported kept j s) (sym (same refl)) before
 
 -- the parts of the model cannot be inferred from `journaled`, so they are passed
 module _ {K W : Type 0} (model : Model K) (contents : W → Option (List ℕ)) (reported : W → Option ℕ) (kept : W → Type 0) (fails : W → W → Type 0) where
-  pub call_over : {T : Type 0} {a b : JournaledKeeper K W} {r : Result T Fault} → IsCall model a.keeper b.keeper r → IsCall (journaled model contents reported kept fails) a b r
+  pub call_over : {T : Type 0} {a b : JournaledKeeper K W} {r : Result T Fault} → IsCall model a.keeper b.keeper r →
+      IsCall (journaled model contents reported kept fails) a b r
   call_over call = record {
     preserved = call.preserved;
     began_clean = call.began_clean;
@@ -64,7 +67,8 @@ module _ {K W : Type 0} (model : Model K) (contents : W → Option (List ℕ)) (
   }
 
   -- the journal is for the state still
-  reads_over : (T : Type 0) (a b : JournaledKeeper K W) (s : State) (Is : T → Type 0) (r : Result T Fault) → Reads model a.keeper b.keeper s Is r → IsForIf contents reported kept b.journal s
+  reads_over : (T : Type 0) (a b : JournaledKeeper K W) (s : State) (Is : T → Type 0) (r : Result T Fault) → Reads model a.keeper b.keeper s Is r →
+      IsForIf contents reported kept b.journal s
       → Reads (journaled model contents reported kept fails) a b s Is r
   reads_over T a b s Is (Ok x) h for = (h.0, (h.1, for))
   reads_over T a b s Is (Err Memory) h for = (h, for)
@@ -73,7 +77,8 @@ module _ {K W : Type 0} (model : Model K) (contents : W → Option (List ℕ)) (
   reads_over T a b s Is (Err Reopen) h for = h
 
   -- the journal stays
-  pub read_beside : {T : Type 0} {a b : JournaledKeeper K W} {r : Result T Fault} {Is : State → T → Type 0} → IsRead model a.keeper b.keeper r Is → b.journal ≡ a.journal
+  pub read_beside : {T : Type 0} {a b : JournaledKeeper K W} {r : Result T Fault} {Is : State → T → Type 0} → IsRead model a.keeper b.keeper r Is → b.journal
+      ≡ a.journal
       → IsRead (journaled model contents reported kept fails) a b r Is
   read_beside {T} {a} {b} {r} {Is} read same = record {
     call = call_over read.call;

@@ -137,7 +137,8 @@ module _ (s : State) (sound : IsState s) (after : ℕ) (found : Matched) (bytes 
 
 -- ---- how its lines ended
 
-pub found_by : (s : State) (requested after : ℕ) (a b : Option (List ℕ)) (found : Matched) → IfSome a (λ bytes. BeginsAfter bytes requested after) → Keeps a b → Matches s after b found
+pub found_by : (s : State) (requested after : ℕ) (a b : Option (List ℕ)) (found : Matched) → IfSome a (λ bytes. BeginsAfter bytes requested after) → Keeps a b →
+    Matches s after b found
     → Finds s requested after a found
 found_by s requested after a b found first kept h = record {
   begins = first;
@@ -163,7 +164,8 @@ module _ {K : Type 0} {model : Model K} {a b : K} where
   whole_reads end (inr is) h = subst (λ (e : MatchEnd). AreReads model a b (end_answer e)) is h
 
   -- the end is a reason not to begin, after a call that was answered
-  pub ended_reads : {c : K} (W : Type 0) (after : ℕ) (found : Matched) (fault : StartFault) → ChecksEnd after found (Err fault) → AreReads model a b (Some (Ok tt)) → AreReads model b c (end_answer found.end)
+  pub ended_reads : {c : K} (W : Type 0) (after : ℕ) (found : Matched) (fault : StartFault) → ChecksEnd after found (Err fault) →
+      AreReads model a b (Some (Ok tt)) → AreReads model b c (end_answer found.end)
       → AreReads model a c (start_answer {W = W} (Err fault))
   ended_reads {c} W after found (Other serial) is one h = answered_then one (subst (λ (e : MatchEnd). AreReads model b c (end_answer e)) is.0 h)
   ended_reads {c} W after found Ahead is one h = answered_then one (subst (λ (e : MatchEnd). AreReads model b c (end_answer e)) is h)

@@ -26,7 +26,8 @@ by_key_stays s b None = either (Stays s) (nat_lt (len s.keys) most_batches) _ _ 
 act_stays : (s : State) (b : BatchValue) → Stays s (act s b)
 act_stays s b = by_key_stays s b (get s.keys b.key)
 
-enough_by : (s : State) (b : BatchValue) (bs rest : List BatchValue) → after_all (act s b).state bs ≡ after_all (act s b).state rest → (t : Bool) → is_accepted (act s b).reply ≡ t → after_all (act s b).state bs ≡ after_all s (cond t (b ∷ rest) rest)
+enough_by : (s : State) (b : BatchValue) (bs rest : List BatchValue) → after_all (act s b).state bs ≡ after_all (act s b).state rest → (t : Bool) →
+    is_accepted (act s b).reply ≡ t → after_all (act s b).state bs ≡ after_all s (cond t (b ∷ rest) rest)
 enough_by s b bs rest later true e = later
 enough_by s b bs rest later false e = later ∙ ap (λ u. after_all u rest) (act_stays s b e)
 
@@ -34,7 +35,8 @@ enough : (s : State) (bs : List BatchValue) → after_all s bs ≡ after_all s (
 enough s [] = refl
 enough s (b ∷ bs) = enough_by s b bs (accepted_of (act s b).state bs) (enough (act s b).state bs) (is_accepted (act s b).reply) refl
 
-again_by : (s : State) (b : BatchValue) (rest : List BatchValue) → accepted_of (act s b).state rest ≡ rest → (t : Bool) → is_accepted (act s b).reply ≡ t → accepted_of s (cond t (b ∷ rest) rest) ≡ cond t (b ∷ rest) rest
+again_by : (s : State) (b : BatchValue) (rest : List BatchValue) → accepted_of (act s b).state rest ≡ rest → (t : Bool) → is_accepted (act s b).reply ≡ t →
+    accepted_of s (cond t (b ∷ rest) rest) ≡ cond t (b ∷ rest) rest
 again_by s b rest later true e = ap (λ t. cond t (b ∷ accepted_of (act s b).state rest) (accepted_of (act s b).state rest)) e ∙ ap (λ xs. b ∷ xs) later
 again_by s b rest later false e = subst (λ u. accepted_of u rest ≡ rest) (act_stays s b e) later
 

@@ -38,14 +38,16 @@ shut_of (Some x) b says off = refl
 
 module _ {K : Type 0} (model : Model K) where
   -- a fault that is passed on
-  fault_too : (T U : Type 0) (a b : K) (s : State) (Is : T → Type 0) (As : U → Type 0) (fault : Fault) → Reads model a b s Is (Err fault) → Reads model a b s As (Err fault)
+  fault_too : (T U : Type 0) (a b : K) (s : State) (Is : T → Type 0) (As : U → Type 0) (fault : Fault) → Reads model a b s Is (Err fault) →
+      Reads model a b s As (Err fault)
   fault_too T U a b s Is As Memory h = h
   fault_too T U a b s Is As Device h = h
   fault_too T U a b s Is As Damaged h = h
   fault_too T U a b s Is As Reopen h = h
 
   -- a weaker fact about what was found, with earlier calls before
-  reads_so : (T : Type 0) (a b c : K) (s : State) (Is As : T → Type 0) (r : Result T Fault) → ((x : T) → Is x → As x) → (model.fails b c → model.fails a c) → Reads model b c s Is r → Reads model a c s As r
+  reads_so : (T : Type 0) (a b c : K) (s : State) (Is As : T → Type 0) (r : Result T Fault) → ((x : T) → Is x → As x) → (model.fails b c → model.fails a c) →
+      Reads model b c s Is r → Reads model a c s As r
   reads_so T a b c s Is As (Ok x) so before h = (so x h.0, h.1)
   reads_so T a b c s Is As (Err Memory) so before h = h
   reads_so T a b c s Is As (Err Device) so before h = (before h.0, h.1)
@@ -54,7 +56,8 @@ module _ {K : Type 0} (model : Model K) where
 
 module _ {K : Type 0} {model : Model K} where
   -- no call was made
-  pub no_read : {T : Type 0} (keeper : K) (x : T) {Is : State → T → Type 0} → model.cause keeper ≡ None → ((s : State) → model.represents keeper s → Is s x) → IsRead model keeper keeper (Ok x) Is
+  pub no_read : {T : Type 0} (keeper : K) (x : T) {Is : State → T → Type 0} → model.cause keeper ≡ None → ((s : State) → model.represents keeper s → Is s x) →
+      IsRead model keeper keeper (Ok x) Is
   no_read keeper x unshut is = record {
     call = record {
       preserved = model.preserves_itself keeper;
@@ -89,18 +92,21 @@ module _ {K : Type 0} {model : Model K} where
       }
 
   -- two reads, of which the first was answered
-  pub read_then : {T U : Type 0} {a b c : K} {x : T} {r : Result U Fault} {Is : State → T → Type 0} {As Both : State → U → Type 0} → IsRead model a b (Ok x) Is → IsRead model b c r As
+  pub read_then : {T U : Type 0} {a b c : K} {x : T} {r : Result U Fault} {Is : State → T → Type 0} {As Both : State → U → Type 0} → IsRead model a b (Ok x) Is
+      → IsRead model b c r As
       → ((s : State) (y : U) → model.represents a s → Is s x → As s y → Both s y)
       → IsRead model a c r Both
   read_then {T} {U} {a} {b} {c} {x} {r} {Is} {As} {Both} first second both = record {
     call = call_then first.call second.call;
     reads = λ h s e.
         let found = first.reads (second.call.began_clean h) s e in
-        reads_so model U a b c s (As s) (Both s) r (λ y is. both s y e found.0 is) (model.fails_later a b c first.call.preserved second.call.preserved) (second.reads h s found.1);
+        reads_so model U a b c s (As s) (Both s) r (λ y is. both s y e found.0 is) (model.fails_later a b c first.call.preserved second.call.preserved)
+        (second.reads h s found.1);
   }
 
   -- a weaker fact about what was found
-  pub read_so : {T : Type 0} {a b : K} {r : Result T Fault} {Is As : State → T → Type 0} → IsRead model a b r Is → ((s : State) (x : T) → model.represents a s → Is s x → As s x) → IsRead model a b r As
+  pub read_so : {T : Type 0} {a b : K} {r : Result T Fault} {Is As : State → T → Type 0} → IsRead model a b r Is →
+      ((s : State) (x : T) → model.represents a s → Is s x → As s x) → IsRead model a b r As
   read_so {T} {a} {b} {r} {Is} {As} read so = record {
     call = read.call;
     reads = λ h s e. reads_so model T a a b s (Is s) (As s) r (λ x is. so s x e is) (λ failed. failed) (read.reads h s e);
@@ -115,14 +121,16 @@ module _ {K : Type 0} {model : Model K} where
     reopen = λ err. absurd cc;
   }
 
-  pub read_made : {T U : Type 0} {a b : K} {x : T} {Is : State → T → Type 0} {y : U} {As : State → U → Type 0} → IsRead model a b (Ok x) Is → ((s : State) → model.represents a s → Is s x → As s y) → IsRead model a b (Ok y) As
+  pub read_made : {T U : Type 0} {a b : K} {x : T} {Is : State → T → Type 0} {y : U} {As : State → U → Type 0} → IsRead model a b (Ok x) Is →
+      ((s : State) → model.represents a s → Is s x → As s y) → IsRead model a b (Ok y) As
   read_made {T} {U} {a} {b} {x} {Is} {y} {As} read so = record {
     call = call_made read.call;
     reads = λ h s e. (so s e (read.reads h s e).0, (read.reads h s e).1);
   }
 
   -- two reads that both succeeded
-  pub read_after : {T U V : Type 0} {a b c : K} {x : T} {y : U} {z : V} {Is : State → T → Type 0} {As : State → U → Type 0} {Both : State → V → Type 0} → IsRead model a b (Ok x) Is → IsRead model b c (Ok y) As
+  pub read_after : {T U V : Type 0} {a b c : K} {x : T} {y : U} {z : V} {Is : State → T → Type 0} {As : State → U → Type 0} {Both : State → V → Type 0} →
+      IsRead model a b (Ok x) Is → IsRead model b c (Ok y) As
       → ((s : State) → model.represents a s → Is s x → As s y → Both s z)
       → IsRead model a c (Ok z) Both
   read_after {T} {U} {V} {a} {b} {c} {x} {y} {z} {Is} {As} {Both} first second both =
@@ -137,14 +145,16 @@ module _ {K : Type 0} {model : Model K} where
     reopen = λ err. call.reopen (same_err {T = U} {U = T} fault Reopen err);
   }
 
-  pub read_failed : {T U : Type 0} {a b : K} {fault : Fault} {Is : State → T → Type 0} {As : State → U → Type 0} → IsRead model a b (Err fault) Is → IsRead model a b (Err fault) As
+  pub read_failed : {T U : Type 0} {a b : K} {fault : Fault} {Is : State → T → Type 0} {As : State → U → Type 0} → IsRead model a b (Err fault) Is →
+      IsRead model a b (Err fault) As
   read_failed {T} {U} {a} {b} {fault} {Is} {As} read = record {
     call = call_failed read.call;
     reads = λ h s e. fault_too model T U a b s (Is s) (As s) fault (read.reads h s e);
   }
 
   -- a result that does not need what a read failed to find as memory ran out
-  pub read_kept : {T U : Type 0} {a b : K} {Is : State → T → Type 0} {y : U} {As : State → U → Type 0} → IsRead model a b (Err Memory) Is → ((s : State) → model.represents a s → As s y) → IsRead model a b (Ok y) As
+  pub read_kept : {T U : Type 0} {a b : K} {Is : State → T → Type 0} {y : U} {As : State → U → Type 0} → IsRead model a b (Err Memory) Is →
+      ((s : State) → model.represents a s → As s y) → IsRead model a b (Ok y) As
   read_kept {T} {U} {a} {b} {Is} {y} {As} read so = record {
     call = record {
       preserved = read.call.preserved;

@@ -1,5 +1,6 @@
 -- A feature that is selected is a candidate, and a page of candidates is that of all.
-use Rattle.std.proofs.Common.{◌≡◌, ◌⊎◌, inl, inr, All, ℕ, List, [], ◌∷◌, ◌++◌, Bool, true, false, cond, ◌&&◌, Option, None, Some, option_map, length, take, refl, sym, ap, subst, ◌∙◌, append-nil}
+use Rattle.std.proofs.Common.{◌≡◌, ◌⊎◌, inl, inr, All, ℕ, List, [], ◌∷◌, ◌++◌, Bool, true, false, cond, ◌&&◌, Option, None, Some, option_map, length, take}
+use Rattle.std.proofs.Common.{refl, sym, ap, subst, ◌∙◌, append-nil}
 use Rattle.std.specs.Prelude.{filter, nat_lt, if◌then◌else◌, T}
 use Rattle.std.proofs.lemmas.List.Elements.{filter-append, All-head, All-tail}
 use Rattle.streetmap_grid.specs.Values.{GeometryValue}
@@ -18,7 +19,8 @@ use Rattle.streetmap_query.specs.QueryValue.{QueryValue, DatetimeValue}
 use Rattle.streetmap_query.specs.Views.{query_value, datetime_value}
 use Rattle.streetmap_query.specs.declared.datetimes.Datetime.{Datetime}
 use Rattle.streetmap_query.specs.declared.queries.Query.{Query}
-use Rattle.streetmap_ledger.specs.Pages.{PageValue, passes, selects, selected, extent_overlaps, is_candidate, candidates, following, last_id, saturated, page_of}
+use Rattle.streetmap_ledger.specs.Pages.{PageValue, passes, selects, selected, extent_overlaps, is_candidate, candidates, following, last_id, saturated}
+use Rattle.streetmap_ledger.specs.Pages.{page_of}
 use Rattle.streetmap_ledger.specs.Folds.{IsFoldOf, HoldsCandidates}
 use Rattle.streetmap_ledger.specs.Laws.{SelectedAreCandidates}
 use Rattle.streetmap_ledger.specs.declared.fold.PageFold.{PageFold}
@@ -28,7 +30,8 @@ both true true h = (refl, refl)
 both true false h = absurd cc
 both false b h = absurd cc
 
-box_overlaps : (g : Option GeometryValue) (b : Option GridBox) → IsGeometryIf g → passes geometry_meets g (option_map box_value b) ≡ true → passes extent_overlaps g (option_map box_value b) ≡ true
+box_overlaps : (g : Option GeometryValue) (b : Option GridBox) → IsGeometryIf g → passes geometry_meets g (option_map box_value b) ≡ true →
+    passes extent_overlaps g (option_map box_value b) ≡ true
 box_overlaps g None h e = refl
 box_overlaps None (Some b) h e = e
 box_overlaps (Some v) (Some b) h e = what_meets_overlaps v (box_value b) h (box_facts b) e
@@ -45,7 +48,8 @@ selected_are_candidates q f h e =
     let p = both _ _ e in
     rw (box_overlaps f.geometry q.bbox h.made p.0, seconds_meet f.time q.datetime h.timed p.1) refl
 
-last_is : (p : FeatureValue → Bool) (fs : List FeatureValue) (f : FeatureValue) (b : Bool) → p f ≡ b → filter p (fs ++ f ∷ []) ≡ filter p fs ++ cond b (f ∷ []) []
+last_is : (p : FeatureValue → Bool) (fs : List FeatureValue) (f : FeatureValue) (b : Bool) → p f ≡ b → filter p (fs ++ f ∷ []) ≡ filter p fs
+    ++ cond b (f ∷ []) []
 last_is p fs f b e = filter-append p fs (f ∷ []) ∙ ap (λ t. filter p fs ++ cond t (f ∷ []) []) e
 
 pub refuted : (b : Bool) → (b ≡ true → ⊥) → b ≡ false
@@ -53,7 +57,8 @@ refuted true h = absurd (h refl)
 refuted false h = refl
 
 -- a feature that is no candidate is left out
-pub left_out : (q : Query) (fold : PageFold) (fs : List FeatureValue) (f : FeatureValue) → IsFeature f → is_candidate (query_value q) f ≡ false → HoldsCandidates (query_value q) fold fs → HoldsCandidates (query_value q) fold (fs ++ f ∷ [])
+pub left_out : (q : Query) (fold : PageFold) (fs : List FeatureValue) (f : FeatureValue) → IsFeature f → is_candidate (query_value q) f ≡ false →
+    HoldsCandidates (query_value q) fold fs → HoldsCandidates (query_value q) fold (fs ++ f ∷ [])
 left_out q fold fs f h e held =
     let v = query_value q in
     let no : selects v f ≡ false = refuted (selects v f) (λ s. subst T (sym (selected_are_candidates q f h s) ∙ e) tt) in
@@ -65,12 +70,14 @@ left_out q fold fs f h e held =
     }
 
 -- a candidate is taken
-pub taken : (v : QueryValue) (fold : PageFold) (fs : List FeatureValue) (f : FeatureValue) → is_candidate v f ≡ true → selected v (candidates v fs) ≡ selected v fs → IsFoldOf v fold (candidates v fs ++ f ∷ []) → HoldsCandidates v fold (fs ++ f ∷ [])
+pub taken : (v : QueryValue) (fold : PageFold) (fs : List FeatureValue) (f : FeatureValue) → is_candidate v f ≡ true → selected v (candidates v fs)
+    ≡ selected v fs → IsFoldOf v fold (candidates v fs ++ f ∷ []) → HoldsCandidates v fold (fs ++ f ∷ [])
 taken v fold fs f e whole held =
     let same : candidates v (fs ++ f ∷ []) ≡ candidates v fs ++ f ∷ [] = last_is (is_candidate v) fs f true e in
     record {
       holds = subst (IsFoldOf v fold) (sym same) held;
-      whole = ap (selected v) same ∙ (filter-append (selects v) (candidates v fs) (f ∷ []) ∙ (ap (λ l. l ++ selected v (f ∷ [])) whole ∙ sym (filter-append (selects v) fs (f ∷ []))));
+      whole = ap (selected v) same ∙ (filter-append (selects v) (candidates v fs) (f ∷ [])
+          ∙ (ap (λ l. l ++ selected v (f ∷ [])) whole ∙ sym (filter-append (selects v) fs (f ∷ []))));
     }
 
 -- a page of the selected features
@@ -87,18 +94,21 @@ unfolding paged
 same_page q n cs fs e = ap (paged q n) e
 
 -- a geometry meets the box that its extent lies within
-pub within_passes : (g : Option GeometryValue) (e b : GridBox) → Some (box_value e) ≡ option_map extent_of g → IsGeometryIf g → is_within (box_value e) (box_value b) ≡ true → passes geometry_meets g (Some (box_value b)) ≡ true
+pub within_passes : (g : Option GeometryValue) (e b : GridBox) → Some (box_value e) ≡ option_map extent_of g → IsGeometryIf g →
+    is_within (box_value e) (box_value b) ≡ true → passes geometry_meets g (Some (box_value b)) ≡ true
 within_passes None e b is h w = cc
 within_passes (Some v) e b is h w =
     let same : box_value e ≡ extent_of v = cc in
     what_lies_within_meets v (box_value b) h (box_facts b) (ap (λ x. is_within x (box_value b)) (sym same) ∙ w)
 
 -- the fold's own query is the one that it holds a page of
-pub left_out_of : (fold : PageFold) (q : QueryValue) (fs : List FeatureValue) (f : FeatureValue) → IsFeature f → is_candidate (query_value fold.query.now) f ≡ false → HoldsCandidates q fold fs → HoldsCandidates q fold (fs ++ f ∷ [])
+pub left_out_of : (fold : PageFold) (q : QueryValue) (fs : List FeatureValue) (f : FeatureValue) → IsFeature f → is_candidate (query_value fold.query.now) f
+    ≡ false → HoldsCandidates q fold fs → HoldsCandidates q fold (fs ++ f ∷ [])
 left_out_of fold q fs f made e held =
     subst (λ v. HoldsCandidates v fold fs → HoldsCandidates v fold (fs ++ f ∷ [])) held.holds.is_for (left_out fold.query.now fold fs f made e) held
 
-pub passed_on : (old new : PageFold) (q : QueryValue) (fs : List FeatureValue) (f : FeatureValue) → is_candidate (query_value old.query.now) f ≡ true → (IsFoldOf q old (candidates q fs) → IsFoldOf q new (candidates q fs ++ f ∷ [])) → HoldsCandidates q old fs → HoldsCandidates q new (fs ++ f ∷ [])
+pub passed_on : (old new : PageFold) (q : QueryValue) (fs : List FeatureValue) (f : FeatureValue) → is_candidate (query_value old.query.now) f ≡ true →
+    (IsFoldOf q old (candidates q fs) → IsFoldOf q new (candidates q fs ++ f ∷ [])) → HoldsCandidates q old fs → HoldsCandidates q new (fs ++ f ∷ [])
 passed_on old new q fs f e takes held = taken q new fs f (ap (λ v. is_candidate v f) (sym held.holds.is_for) ∙ e) held.whole (takes held.holds)
 
 known : (b : Bool) → (b ≡ true) ⊎ (b ≡ false)
@@ -106,7 +116,8 @@ known true = inl refl
 known false = inr refl
 
 -- leaving out what is no candidate leaves out nothing that is selected
-pub candidates_selected : (q : Query) (fs : List FeatureValue) → All IsFeature fs → selected (query_value q) (candidates (query_value q) fs) ≡ selected (query_value q) fs
+pub candidates_selected : (q : Query) (fs : List FeatureValue) → All IsFeature fs → selected (query_value q) (candidates (query_value q) fs)
+    ≡ selected (query_value q) fs
 candidates_selected q [] made = refl
 candidates_selected q (f ∷ fs) made =
     let v = query_value q in
@@ -118,7 +129,8 @@ candidates_selected q (f ∷ fs) made =
           rw (not, off) rest
     ]
 
-pub page_of_candidates : (q : Query) (n : ℕ) (fs : List FeatureValue) → All IsFeature fs → page_of (query_value q) n (candidates (query_value q) fs) ≡ page_of (query_value q) n fs
+pub page_of_candidates : (q : Query) (n : ℕ) (fs : List FeatureValue) → All IsFeature fs → page_of (query_value q) n (candidates (query_value q) fs)
+    ≡ page_of (query_value q) n fs
 page_of_candidates q n fs made = same_page (query_value q) n (candidates (query_value q) fs) fs (candidates_selected q fs made)
 
 pub candidates_are_enough : SelectedAreCandidates

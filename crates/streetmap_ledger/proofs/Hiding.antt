@@ -1,5 +1,6 @@
 -- Features that are counted and that the page does not show.
-use Rattle.std.proofs.Common.{◌≡◌, ◌≤◌, ◌+◌, ℕ, All, List, [], ◌∷◌, ◌++◌, Bool, true, false, cond, IsTrue, length, take, refl, sym, ap, ◌∙◌, append-nil, length-append, arith}
+use Rattle.std.proofs.Common.{◌≡◌, ◌≤◌, ◌+◌, ℕ, All, List, [], ◌∷◌, ◌++◌, Bool, true, false, cond, IsTrue, length, take, refl, sym, ap, ◌∙◌, append-nil}
+use Rattle.std.proofs.Common.{length-append, arith}
 use Rattle.std.specs.Prelude.{◌||◌, ◌&&◌, filter, nat_lt}
 use Rattle.std.proofs.lemmas.Bool.Decides.{nat_tests}
 use Rattle.std.proofs.lemmas.List.{length-take, take-append-le}
@@ -61,7 +62,8 @@ counted n xs gs is = let e = length-append xs gs in omega (arith, e, is)
 
 -- the fold holds the page of the hidden features too
 pub all_hidden : (q : QueryValue) (old new : PageFold) (b : Bool) (fs gs : List FeatureValue) → IsFoldOf q old fs → AreHidden q b gs → (IsTrue b → IsFull old)
-    → new.query ≡ old.query → new.features ≡ old.features → new.more ≡ (old.more || (b && nat_lt 0 (length gs))) → new.matched ≡ saturated (old.matched + length gs) → new.examined ≡ saturated (old.examined + length gs)
+    → new.query ≡ old.query → new.features ≡ old.features → new.more ≡ (old.more || (b && nat_lt 0 (length gs))) → new.matched
+    ≡ saturated (old.matched + length gs) → new.examined ≡ saturated (old.examined + length gs)
     → IsFoldOf q new (fs ++ gs)
 all_hidden q old new b fs gs held hidden full query features more matched examined =
     let limit : old.query.now.limit ≡ q.limit = ap (λ (v : QueryValue). v.limit) held.is_for in

@@ -1,5 +1,6 @@
 -- A repeated batch finds its key, and changes nothing.
-use Rattle.std.proofs.Common.{◌≡◌, ℕ, ◌+◌, List, [], ◌∷◌, ◌++◌, Bool, true, false, cond, Option, None, Some, Result, Ok, Err, IfOk, ok_or, refl, sym, ap, subst, ◌∙◌, nat_eq, nat_lt}
+use Rattle.std.proofs.Common.{◌≡◌, ℕ, ◌+◌, List, [], ◌∷◌, ◌++◌, Bool, true, false, cond, Option, None, Some, Result, Ok, Err, IfOk, ok_or, refl, sym, ap, subst}
+use Rattle.std.proofs.Common.{◌∙◌, nat_eq, nat_lt}
 use Rattle.std.specs.Ordering.{is_eq}
 use Rattle.std.specs.declared.cmp.Ordering.{Ordering}
 use Rattle.std.specs.declared.cmp.Ordering.TheVariants.{Less, Equal, Greater}
@@ -31,15 +32,19 @@ if_done s (Err why) next stay = tt
 
 pub step_keys : (s : State) (e : EditValue) → KeysStay s (step s e)
 step_keys s (edit.«open» name title time) = if_done s (absent (get s.collections name) CollectionExists) _ (λ new. refl)
-step_keys s (edit.insert name f) = if_done s (ok_or (get s.collections name) NoCollection) _ (λ c. if_done s (absent (get c.features f.id) FeatureExists) _ (λ new. if_done s (timed c.time f) _ (λ g. refl)))
-step_keys s (edit.replace name f) = if_done s (ok_or (get s.collections name) NoCollection) _ (λ c. if_done s (ok_or (get c.features f.id) NoFeature) _ (λ old. if_done s (timed c.time f) _ (λ g. refl)))
-step_keys s (edit.delete name id) = if_done s (ok_or (get s.collections name) NoCollection) _ (λ c. if_done s (ok_or (get c.features id) NoFeature) _ (λ old. refl))
+step_keys s (edit.insert name f) = if_done s (ok_or (get s.collections name) NoCollection) _
+    (λ c. if_done s (absent (get c.features f.id) FeatureExists) _ (λ new. if_done s (timed c.time f) _ (λ g. refl)))
+step_keys s (edit.replace name f) = if_done s (ok_or (get s.collections name) NoCollection) _
+    (λ c. if_done s (ok_or (get c.features f.id) NoFeature) _ (λ old. if_done s (timed c.time f) _ (λ g. refl)))
+step_keys s (edit.delete name id) = if_done s (ok_or (get s.collections name) NoCollection) _
+    (λ c. if_done s (ok_or (get c.features id) NoFeature) _ (λ old. refl))
 
 through : (s t : State) (r : Result State (ℕ × Refusal)) → t.keys ≡ s.keys → IfOk r (λ u. u.keys ≡ t.keys) → IfOk r (λ u. u.keys ≡ s.keys)
 through s t (Err e) same h = tt
 through s t (Ok u) same h = h ∙ same
 
-then_keys : (s : State) (place : ℕ) (r : Result State Refusal) (next : State → Result State (ℕ × Refusal)) → KeysStay s r → ((t : State) → IfOk (next t) (λ u. u.keys ≡ t.keys)) → IfOk (placed place r >>= next) (λ u. u.keys ≡ s.keys)
+then_keys : (s : State) (place : ℕ) (r : Result State Refusal) (next : State → Result State (ℕ × Refusal)) → KeysStay s r →
+    ((t : State) → IfOk (next t) (λ u. u.keys ≡ t.keys)) → IfOk (placed place r >>= next) (λ u. u.keys ≡ s.keys)
 then_keys s place (Err why) next h f = tt
 then_keys s place (Ok t) next h f = through s t (next t) h (f t)
 
@@ -51,7 +56,8 @@ none_some : {A : Type 0} {B : Type 0} (x : A) → None ≡ Some x → B
 none_some x e = cc
 
 -- a key that is present stays present, whatever is accepted
-fresh_keeps : (s : State) (b : BatchValue) (k : Text) (kept : AcceptedBatch) (serial : ℕ) → get s.keys k ≡ Some kept → get s.keys b.key ≡ None → (r : Result State (ℕ × Refusal)) → IfOk r (λ t. t.keys ≡ s.keys) → get (fresh s b serial r).state.keys k ≡ Some kept
+fresh_keeps : (s : State) (b : BatchValue) (k : Text) (kept : AcceptedBatch) (serial : ℕ) → get s.keys k ≡ Some kept → get s.keys b.key ≡ None →
+    (r : Result State (ℕ × Refusal)) → IfOk r (λ t. t.keys ≡ s.keys) → get (fresh s b serial r).state.keys k ≡ Some kept
 fresh_keeps s b k kept serial h none (Err e) same = h
 fresh_keeps s b k kept serial h none (Ok t) same = get-insert nat_list_cmp_total t.keys b.key (kept_for b serial) k ∙ other (text_cmp k b.key) refl where
   here : get t.keys k ≡ Some kept
@@ -62,9 +68,11 @@ fresh_keeps s b k kept serial h none (Ok t) same = get-insert nat_list_cmp_total
   other Greater e = here
   other Equal e = none_some kept (sym none ∙ (get_tied nat_list_cmp_total s.keys k b.key e ∙ h))
 
-by_key_keeps : (s : State) (b : BatchValue) (k : Text) (kept : AcceptedBatch) → get s.keys k ≡ Some kept → (o : Option AcceptedBatch) → get s.keys b.key ≡ o → get (by_key s b o).state.keys k ≡ Some kept
+by_key_keeps : (s : State) (b : BatchValue) (k : Text) (kept : AcceptedBatch) → get s.keys k ≡ Some kept → (o : Option AcceptedBatch) → get s.keys b.key ≡ o →
+    get (by_key s b o).state.keys k ≡ Some kept
 by_key_keeps s b k kept h (Some old) e = either (λ (o : Outcome). get o.state.keys k ≡ Some kept) (pointwise nat_eq old.text (batch_text b)) _ _ h h
-by_key_keeps s b k kept h None e = either (λ (o : Outcome). get o.state.keys k ≡ Some kept) (nat_lt (len s.keys) most_batches) _ _ (fresh_keeps s b k kept _ h e (edited 1 s b.edits) (edited_keys 1 s b.edits)) h
+by_key_keeps s b k kept h None e = either (λ (o : Outcome). get o.state.keys k ≡ Some kept) (nat_lt (len s.keys) most_batches) _ _
+    (fresh_keeps s b k kept _ h e (edited 1 s b.edits) (edited_keys 1 s b.edits)) h
 
 pub act_keeps : (s : State) (b : BatchValue) (k : Text) (kept : AcceptedBatch) → get s.keys k ≡ Some kept → get (act s b).state.keys k ≡ Some kept
 act_keeps s b k kept h = by_key_keeps s b k kept h (get s.keys b.key) refl
@@ -77,16 +85,24 @@ all_keep s (b ∷ bs) k kept h = all_keep (act s b).state bs k kept (act_keeps s
 abbrev pub IsThere : State → BatchValue → Type 0
 IsThere s b = (kept : AcceptedBatch) × (get s.keys b.key ≡ Some kept) × (pointwise nat_eq kept.text (batch_text b) ≡ true)
 
-fresh_there : (s : State) (b : BatchValue) (serial : ℕ) (r : Result State (ℕ × Refusal)) → IsAcknowledged (fresh s b serial r).reply → IsThere (fresh s b serial r).state b
+fresh_there : (s : State) (b : BatchValue) (serial : ℕ) (r : Result State (ℕ × Refusal)) → IsAcknowledged (fresh s b serial r).reply →
+    IsThere (fresh s b serial r).state b
 fresh_there s b serial (Err e) h = absurd h
-fresh_there s b serial (Ok t) h = (kept_for b serial, get-insert nat_list_cmp_total t.keys b.key (kept_for b serial) b.key ∙ ap (λ q. cond (is_eq q) (Some (kept_for b serial)) (get t.keys b.key)) (tied_itself nat_list_cmp_total b.key), nat_list_eq_equiv.refl (batch_text b))
+fresh_there s b serial (Ok t) h = (
+  kept_for b serial,
+  get-insert nat_list_cmp_total t.keys b.key (kept_for b serial) b.key
+      ∙ ap (λ q. cond (is_eq q) (Some (kept_for b serial)) (get t.keys b.key)) (tied_itself nat_list_cmp_total b.key),
+  nat_list_eq_equiv.refl (batch_text b),
+)
 
 -- an acknowledgement of a choice is one of the arm that was taken
-chosen : (s : State) (b : BatchValue) (t : Bool) (x y : Outcome) → (t ≡ true → IsAcknowledged x.reply → IsThere x.state b) → (IsAcknowledged y.reply → IsThere y.state b) → IsAcknowledged (cond t x y).reply → IsThere (cond t x y).state b
+chosen : (s : State) (b : BatchValue) (t : Bool) (x y : Outcome) → (t ≡ true → IsAcknowledged x.reply → IsThere x.state b) →
+    (IsAcknowledged y.reply → IsThere y.state b) → IsAcknowledged (cond t x y).reply → IsThere (cond t x y).state b
 chosen s b true x y f g h = f refl h
 chosen s b false x y f g h = g h
 
-by_key_there : (s : State) (b : BatchValue) (o : Option AcceptedBatch) → get s.keys b.key ≡ o → IsAcknowledged (by_key s b o).reply → IsThere (by_key s b o).state b
+by_key_there : (s : State) (b : BatchValue) (o : Option AcceptedBatch) → get s.keys b.key ≡ o → IsAcknowledged (by_key s b o).reply →
+    IsThere (by_key s b o).state b
 by_key_there s b (Some old) e h = chosen s b (pointwise nat_eq old.text (batch_text b)) _ _ (λ same ack. (old, e, same)) (λ no. absurd no) h
 by_key_there s b None e h = chosen s b (nat_lt (len s.keys) most_batches) _ _ (λ less ack. fresh_there s b _ (edited 1 s b.edits) ack) (λ no. absurd no) h
 
@@ -119,4 +135,5 @@ chosen_ack false x y e h = cc
 
 -- and a batch that is present is acknowledged
 pub there_again : (s : State) (b : BatchValue) → IsThere s b → IsAcknowledged (act s b).reply
-there_again s b there = subst (λ (o : Option AcceptedBatch). IsAcknowledged (by_key s b o).reply) (sym there.1) (chosen_ack (pointwise nat_eq there.0.text (batch_text b)) _ _ there.2 tt)
+there_again s b there = subst (λ (o : Option AcceptedBatch). IsAcknowledged (by_key s b o).reply) (sym there.1)
+    (chosen_ack (pointwise nat_eq there.0.text (batch_text b)) _ _ there.2 tt)

@@ -23,7 +23,8 @@ map_last : (xs : List Batch) (b : Batch) → map batch_value (xs ++ b ∷ []) �
 map_last [] b = refl
 map_last (x ∷ xs) b = ap (λ ys. batch_value x ∷ ys) (map_last xs b)
 
-pub taken : (xs : List Batch) (i : ℕ) (b : Batch) → i < length xs → b ≡ get_or xs i b → take (i + 1) (map batch_value xs) ≡ take i (map batch_value xs) ++ batch_value b ∷ []
+pub taken : (xs : List Batch) (i : ℕ) (b : Batch) → i < length xs → b ≡ get_or xs i b → take (i + 1) (map batch_value xs) ≡ take i (map batch_value xs)
+    ++ batch_value b ∷ []
 taken xs i b h is =
     take-map batch_value (i + 1) xs ∙ ap (map batch_value) (take_more xs i b h ∙ ap (λ y. take i xs ++ y ∷ []) (sym is)) ∙ map_last (take i xs) b
     ∙ ap (λ ys. ys ++ batch_value b ∷ []) (sym (take-map batch_value i xs))
@@ -33,7 +34,9 @@ pub after_more : (s : State) (bs cs : List BatchValue) (b : BatchValue) → cs �
 after_more s bs cs b more = sym (after_last s bs b) ∙ ap (after_all s) (sym more)
 
 -- a batch ended the run
-pub ends_at : {K : Type 0} (model : Model K) (first old new : K) (s : State) (bs : List BatchValue) (n k : ℕ) (b : BatchValue) (f : Fault) → n ≡ k → take (k + 1) bs ≡ take k bs ++ b ∷ [] → (model.fails old new → model.fails first new) → Writes model old new (after_all s (take k bs)) b (Err f) → RunEnds model first new s bs n (Some f)
+pub ends_at : {K : Type 0} (model : Model K) (first old new : K) (s : State) (bs : List BatchValue) (n k : ℕ) (b : BatchValue) (f : Fault) → n ≡ k →
+    take (k + 1) bs ≡ take k bs ++ b ∷ [] → (model.fails old new → model.fails first new) → Writes model old new (after_all s (take k bs)) b (Err f) →
+    RunEnds model first new s bs n (Some f)
 ends_at model first old new s bs n k b f is more later h = subst (λ m. RunEnds model first new s bs m (Some f)) (sym is) (go f h) where
   go : (f : Fault) → Writes model old new (after_all s (take k bs)) b (Err f) → RunEnds model first new s bs k (Some f)
   go Memory h = h

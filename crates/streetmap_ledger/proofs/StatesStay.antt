@@ -1,5 +1,6 @@
 -- The opening state is well-formed, and each batch keeps a state so.
-use Rattle.std.proofs.Common.{◌≡◌, ◌⊎◌, ℕ, ◌+◌, ◌≤◌, ◌<◌, List, [], ◌∷◌, length, Bool, true, false, cond, Option, None, Some, Result, Ok, Err, IfOk, IsTrue, All, ok_or, refl, sym, ap, subst, ◌∙◌, inl, inr, arith, nat_eq, nat_lt}
+use Rattle.std.proofs.Common.{◌≡◌, ◌⊎◌, ℕ, ◌+◌, ◌≤◌, ◌<◌, List, [], ◌∷◌, length, Bool, true, false, cond, Option, None, Some, Result, Ok, Err, IfOk, IsTrue}
+use Rattle.std.proofs.Common.{All, ok_or, refl, sym, ap, subst, ◌∙◌, inl, inr, arith, nat_eq, nat_lt}
 use Rattle.std.proofs.lemmas.Bool.Decides.{nat_tests}
 use Rattle.std.proofs.lemmas.List.Elements.{All-head, All-tail}
 use Rattle.std.specs.Option.{is_some}
@@ -69,8 +70,10 @@ put_collection s name c all here q d e = elim (put_or_there s.collections name c
 ]
 
 -- a collection with other features, each of which is placed
-put_features : (s : State) (name : Text) (c : Collection) (features : FinMap text_cmp FeatureValue) → AllMade s → IsCollection name c → HoldsFeatures (record c { features = features }) → AllMade (record s { collections = insert s.collections name (record c { features = features }) })
-put_features s name c features all old here = put_collection s name (record c { features = features }) all (record { named = old.named; titled = old.titled; timed = old.timed; holds = here })
+put_features : (s : State) (name : Text) (c : Collection) (features : FinMap text_cmp FeatureValue) → AllMade s → IsCollection name c →
+    HoldsFeatures (record c { features = features }) → AllMade (record s { collections = insert s.collections name (record c { features = features }) })
+put_features s name c features all old here = put_collection s name (record c { features = features }) all
+    (record { named = old.named; titled = old.titled; timed = old.timed; holds = here })
 
 put_feature : (c : Collection) (g : FeatureValue) → HoldsFeatures c → IsPlaced c.time g.id g → HoldsFeatures (record c { features = insert c.features g.id g })
 put_feature c g all here id f e = elim (put_or_there c.features g.id g id f e) [
@@ -100,33 +103,42 @@ in_time property f g whole e = by (time_of property f.properties) refl e where
 step_made : (s : State) (e : EditValue) → IsSoundEdit e → AllMade s → KeepsMade (step s e)
 step_made s (edit.«open» name title time) h all = if_done (absent (get s.collections name) CollectionExists) _ (λ new is.
     put_collection s name _ all (record { named = h.0; titled = h.1; timed = h.2; holds = none_placed title time }))
-step_made s (edit.insert name f) h all = if_done (ok_or (get s.collections name) NoCollection) _ (λ c there. if_done (absent (get c.features f.id) FeatureExists) _ (λ new is. if_done (timed c.time f) _ (λ g reported.
+step_made s (edit.insert name f) h all = if_done (ok_or (get s.collections name) NoCollection) _
+    (λ c there. if_done (absent (get c.features f.id) FeatureExists) _ (λ new is. if_done (timed c.time f) _ (λ g reported.
     let old = all name c (found _ NoCollection c there) in
     put_features s name c _ all old (put_feature c g old.holds (in_time c.time f g h.1 reported)))))
-step_made s (edit.replace name f) h all = if_done (ok_or (get s.collections name) NoCollection) _ (λ c there. if_done (ok_or (get c.features f.id) NoFeature) _ (λ was is. if_done (timed c.time f) _ (λ g reported.
+step_made s (edit.replace name f) h all = if_done (ok_or (get s.collections name) NoCollection) _
+    (λ c there. if_done (ok_or (get c.features f.id) NoFeature) _ (λ was is. if_done (timed c.time f) _ (λ g reported.
     let old = all name c (found _ NoCollection c there) in
     put_features s name c _ all old (put_feature c g old.holds (in_time c.time f g h.1 reported)))))
-step_made s (edit.delete name id) h all = if_done (ok_or (get s.collections name) NoCollection) _ (λ c there. if_done (ok_or (get c.features id) NoFeature) _ (λ was is.
+step_made s (edit.delete name id) h all = if_done (ok_or (get s.collections name) NoCollection) _
+    (λ c there. if_done (ok_or (get c.features id) NoFeature) _ (λ was is.
     let old = all name c (found _ NoCollection c there) in
     put_features s name c _ all old (cut_feature c id old.holds)))
 
-then_made : (place : ℕ) (r : Result State Refusal) (next : State → Result State (ℕ × Refusal)) → KeepsMade r → ((t : State) → AllMade t → IfOk (next t) AllMade) → IfOk (placed place r >>= next) AllMade
+then_made : (place : ℕ) (r : Result State Refusal) (next : State → Result State (ℕ × Refusal)) → KeepsMade r → ((t : State) → AllMade t → IfOk (next t) AllMade)
+    → IfOk (placed place r >>= next) AllMade
 then_made place (Err why) next all keeps = tt
 then_made place (Ok t) next all keeps = keeps t all
 
 edited_made : (place : ℕ) (s : State) (es : List EditValue) → All IsSoundEdit es → AllMade s → IfOk (edited place s es) AllMade
 edited_made place s [] sound all = all
 edited_made place s (e ∷ es) sound all =
-    then_made place (step s e) _ (step_made s e (All-head IsSoundEdit e es sound) all) (λ t made. edited_made (place + 1) t es (All-tail IsSoundEdit e es sound) made)
+    then_made place (step s e) _ (step_made s e (All-head IsSoundEdit e es sound) all) (λ t made.
+    edited_made (place + 1) t es (All-tail IsSoundEdit e es sound) made)
 
 -- ---- counts
-counted_most : (n : Counts) (es : List EditValue) (m : ℕ) → n.opened + length es ≤ m → n.inserted + length es ≤ m → n.replaced + length es ≤ m → n.deleted + length es ≤ m →
+counted_most : (n : Counts) (es : List EditValue) (m : ℕ) → n.opened + length es ≤ m → n.inserted + length es ≤ m → n.replaced + length es ≤ m → n.deleted
+    + length es ≤ m →
     (((counted_all n es).opened ≤ m) × ((counted_all n es).inserted ≤ m)) × (((counted_all n es).replaced ≤ m) × ((counted_all n es).deleted ≤ m))
 counted_most n [] m o i r d = ((omega arith, omega arith), (omega arith, omega arith))
-counted_most n (edit.«open» name title time ∷ es) m o i r d = counted_most (counted n (edit.«open» name title time)) es m (omega arith) (omega arith) (omega arith) (omega arith)
+counted_most n (edit.«open» name title time ∷ es) m o i r d = counted_most (counted n (edit.«open» name title time)) es m (omega arith) (omega arith)
+    (omega arith) (omega arith)
 counted_most n (edit.insert name f ∷ es) m o i r d = counted_most (counted n (edit.insert name f)) es m (omega arith) (omega arith) (omega arith) (omega arith)
-counted_most n (edit.replace name f ∷ es) m o i r d = counted_most (counted n (edit.replace name f)) es m (omega arith) (omega arith) (omega arith) (omega arith)
-counted_most n (edit.delete name id ∷ es) m o i r d = counted_most (counted n (edit.delete name id)) es m (omega arith) (omega arith) (omega arith) (omega arith)
+counted_most n (edit.replace name f ∷ es) m o i r d = counted_most (counted n (edit.replace name f)) es m (omega arith) (omega arith) (omega arith)
+    (omega arith)
+counted_most n (edit.delete name id ∷ es) m o i r d = counted_most (counted n (edit.delete name id)) es m (omega arith) (omega arith) (omega arith)
+    (omega arith)
 
 are_counts : (es : List EditValue) → length es ≤ most_edits → AreCounts (counts_of es)
 are_counts es few =
@@ -136,10 +148,12 @@ are_counts es few =
 
 -- ---- keys
 -- one more key under the next serial
-one_more_key : (s t : State) (key : Text) (k : AcceptedBatch) → IsTrue (is_key key) → IsState s → AllMade t → t.keys ≡ s.keys → get s.keys key ≡ None → len s.keys < most_batches → k.serial ≡ len s.keys + 1 → AreCounts k.counts → IsState (record t { keys = insert t.keys key k })
+one_more_key : (s t : State) (key : Text) (k : AcceptedBatch) → IsTrue (is_key key) → IsState s → AllMade t → t.keys ≡ s.keys → get s.keys key ≡ None →
+    len s.keys < most_batches → k.serial ≡ len s.keys + 1 → AreCounts k.counts → IsState (record t { keys = insert t.keys key k })
 one_more_key s t key k named sound all same new room serial counts =
     let keys = insert s.keys key k in
-    let count : len keys ≡ len s.keys + 1 = len-insert nat_list_cmp_total s.keys key k ∙ ap (λ (o : Option AcceptedBatch). cond (is_some o) (len s.keys) (len s.keys + 1)) new in
+    let count : len keys ≡ len s.keys + 1 = len-insert nat_list_cmp_total s.keys key k ∙ ap
+    (λ (o : Option AcceptedBatch). cond (is_some o) (len s.keys) (len s.keys + 1)) new in
     let here = λ (q : Text) (l : AcceptedBatch) (e : get keys q ≡ Some l). put_or_there s.keys key k q l e in
     subst (λ m. IsState (record { collections = t.collections; keys = insert m key k })) (sym same) (record {
       made = all;
@@ -181,9 +195,11 @@ one_more_key s t key k named sound all same new room serial counts =
 less_than : (a b : ℕ) → nat_lt a b ≡ true → a < b
 less_than a b e = grind (arith, nat_tests)
 
-fresh_sound : (s : State) (b : BatchValue) → IsState s → IsSoundBatch b → get s.keys b.key ≡ None → len s.keys < most_batches → (r : Result State (ℕ × Refusal)) → IfOk r AllMade → IfOk r (λ t. t.keys ≡ s.keys) → IsState (fresh s b (len s.keys + 1) r).state
+fresh_sound : (s : State) (b : BatchValue) → IsState s → IsSoundBatch b → get s.keys b.key ≡ None → len s.keys < most_batches → (r : Result State (ℕ × Refusal))
+    → IfOk r AllMade → IfOk r (λ t. t.keys ≡ s.keys) → IsState (fresh s b (len s.keys + 1) r).state
 fresh_sound s b sound batch new room (Err e) all same = sound
-fresh_sound s b sound batch new room (Ok t) all same = one_more_key s t b.key (kept_for b (len s.keys + 1)) batch.named sound all same new room refl (are_counts b.edits batch.few)
+fresh_sound s b sound batch new room (Ok t) all same = one_more_key s t b.key (kept_for b (len s.keys + 1)) batch.named sound all same new room refl
+    (are_counts b.edits batch.few)
 
 -- a choice whose test is known in its arm
 chosen : (t : Bool) (x y : Outcome) → (t ≡ true → IsState x.state) → IsState y.state → IsState (cond t x y).state
@@ -192,7 +208,8 @@ chosen false x y f g = g
 
 by_key_sound : (s : State) (b : BatchValue) → IsState s → IsSoundBatch b → (o : Option AcceptedBatch) → get s.keys b.key ≡ o → IsState (by_key s b o).state
 by_key_sound s b sound batch (Some kept) e = either (λ (o : Outcome). IsState o.state) (pointwise nat_eq kept.text (batch_text b)) _ _ sound sound
-by_key_sound s b sound batch None e = chosen (nat_lt (len s.keys) most_batches) _ _ (λ room. fresh_sound s b sound batch e (less_than _ _ room) (edited 1 s b.edits) (edited_made 1 s b.edits batch.made sound.made) (edited_keys 1 s b.edits)) sound
+by_key_sound s b sound batch None e = chosen (nat_lt (len s.keys) most_batches) _ _ (λ room.
+    fresh_sound s b sound batch e (less_than _ _ room) (edited 1 s b.edits) (edited_made 1 s b.edits batch.made sound.made) (edited_keys 1 s b.edits)) sound
 
 pub opening_sound : IsState opening_state
 opening_sound =

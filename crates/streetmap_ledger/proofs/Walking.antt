@@ -1,5 +1,6 @@
 -- A walk over the pages of a collection misses nothing and repeats nothing.
-use Rattle.std.proofs.Common.{◌≡◌, ℕ, zero, suc, ◌-◌, ◌<◌, ◌≤◌, List, [], ◌∷◌, ◌++◌, Bool, true, false, cond, T, Option, None, Some, length, take, drop, get_or, map, nat_lt, refl, sym, ap, subst, ◌∙◌, arith, append-nil, length-drop}
+use Rattle.std.proofs.Common.{◌≡◌, ℕ, zero, suc, ◌-◌, ◌<◌, ◌≤◌, List, [], ◌∷◌, ◌++◌, Bool, true, false, cond, T, Option, None, Some, length, take, drop, get_or}
+use Rattle.std.proofs.Common.{map, nat_lt, refl, sym, ap, subst, ◌∙◌, arith, append-nil, length-drop}
 use Rattle.std.specs.Prelude.{filter, slice_get, All}
 use Rattle.std.specs.Option.{option_map}
 use Rattle.std.specs.Ordering.{is_gt, is_lt, is_eq, ordering_reverse}
@@ -56,7 +57,8 @@ end_at f (g ∷ gs) d = end_at g gs d
 last_is : (f : FeatureValue) (fs : List FeatureValue) → last_id (f ∷ fs) ≡ Some (end_of f fs).id
 last_is f fs =
     let at : length (f ∷ fs) - 1 ≡ length fs = omega arith in
-    ap (option_map (λ (g : FeatureValue). g.id)) (ap (slice_get (f ∷ fs)) at ∙ slice_get_read (f ∷ fs) (length (f ∷ fs)) (length fs) (end_of f fs) refl (omega arith) (sym (end_at f fs (end_of f fs))))
+    ap (option_map (λ (g : FeatureValue). g.id)) (ap (slice_get (f ∷ fs)) at ∙ slice_get_read (f ∷ fs) (length (f ∷ fs)) (length fs) (end_of f fs) refl
+    (omega arith) (sym (end_at f fs (end_of f fs))))
 
 -- ---- what comes after an id
 all_after : (id : Text) (fs : List FeatureValue) → Below id fs → following (Some id) fs ≡ fs
@@ -104,14 +106,18 @@ after_both : (after : Option Text) (e f : FeatureValue) → comes_after after e 
 after_both None e f h k = refl
 after_both (Some id) e f h k = greater id f.id (nat_list_cmp_total.trans id e.id f.id (less id e.id h) (less e.id f.id k))
 
-twice_by : (after : Option Text) (e f : FeatureValue) (fs : List FeatureValue) → comes_after after e ≡ true → following (Some e.id) (following after fs) ≡ following (Some e.id) fs → (b a : Bool) → comes_after (Some e.id) f ≡ b → comes_after after f ≡ a →
+twice_by : (after : Option Text) (e f : FeatureValue) (fs : List FeatureValue) → comes_after after e ≡ true → following (Some e.id) (following after fs)
+    ≡ following (Some e.id) fs → (b a : Bool) → comes_after (Some e.id) f ≡ b → comes_after after f ≡ a →
     following (Some e.id) (cond a (f ∷ following after fs) (following after fs)) ≡ cond b (f ∷ following (Some e.id) fs) (following (Some e.id) fs)
-twice_by after e f fs h rest true true i j = ap (λ t. cond t (f ∷ following (Some e.id) (following after fs)) (following (Some e.id) (following after fs))) i ∙ ap (λ gs. f ∷ gs) rest
-twice_by after e f fs h rest false true i j = ap (λ t. cond t (f ∷ following (Some e.id) (following after fs)) (following (Some e.id) (following after fs))) i ∙ rest
+twice_by after e f fs h rest true true i j = ap (λ t. cond t (f ∷ following (Some e.id) (following after fs)) (following (Some e.id) (following after fs))) i
+    ∙ ap (λ gs. f ∷ gs) rest
+twice_by after e f fs h rest false true i j = ap (λ t. cond t (f ∷ following (Some e.id) (following after fs)) (following (Some e.id) (following after fs))) i
+    ∙ rest
 twice_by after e f fs h rest true false i j = let both : comes_after after f ≡ true = after_both after e f h i in cc
 twice_by after e f fs h rest false false i j = rest
 
-after_twice : (after : Option Text) (e : FeatureValue) (fs : List FeatureValue) → comes_after after e ≡ true → following (Some e.id) (following after fs) ≡ following (Some e.id) fs
+after_twice : (after : Option Text) (e : FeatureValue) (fs : List FeatureValue) → comes_after after e ≡ true → following (Some e.id) (following after fs)
+    ≡ following (Some e.id) fs
 after_twice after e [] h = refl
 after_twice after e (f ∷ fs) h = twice_by after e f fs h (after_twice after e fs h) (comes_after (Some e.id) f) (comes_after after f) refl refl
 
@@ -120,7 +126,8 @@ abbrev Every : (FeatureValue → Type 0) → List FeatureValue → Type 0
 Every P [] = Unit {0}
 Every P (f ∷ fs) = P f × Every P fs
 
-every_by : (after : Option Text) (f : FeatureValue) (gs : List FeatureValue) → Every (λ g. comes_after after g ≡ true) gs → (b : Bool) → comes_after after f ≡ b → Every (λ g. comes_after after g ≡ true) (cond b (f ∷ gs) gs)
+every_by : (after : Option Text) (f : FeatureValue) (gs : List FeatureValue) → Every (λ g. comes_after after g ≡ true) gs → (b : Bool) → comes_after after f ≡ b
+    → Every (λ g. comes_after after g ≡ true) (cond b (f ∷ gs) gs)
 every_by after f gs rest true e = (e, rest)
 every_by after f gs rest false e = rest
 
@@ -160,7 +167,9 @@ pub record Follows (limit : ℕ) (after : Option Text) (id : Text) (fs : List Fe
   pub full : limit < length (following after fs)
   pub others : following (Some id) fs ≡ drop limit (following after fs)
 
-follows_on : (limit : ℕ) (after : Option Text) (id : Text) (fs rest : List FeatureValue) → rest ≡ following after fs → Ascends rest → Every (λ f. comes_after after f ≡ true) rest → 1 ≤ limit → limit < length rest → last_id (take limit rest) ≡ Some id → following (Some id) fs ≡ drop limit rest
+follows_on : (limit : ℕ) (after : Option Text) (id : Text) (fs rest : List FeatureValue) → rest ≡ following after fs → Ascends rest →
+    Every (λ f. comes_after after f ≡ true) rest → 1 ≤ limit → limit < length rest → last_id (take limit rest) ≡ Some id → following (Some id) fs
+    ≡ drop limit rest
 follows_on zero after id fs rest is up all one h e = absurd (omega arith)
 follows_on (suc n) after id fs [] is up all one h e = absurd (omega arith)
 follows_on (suc n) after id fs (f ∷ gs) is up all one h e =
@@ -170,9 +179,11 @@ follows_on (suc n) after id fs (f ∷ gs) is up all one h e =
     subst (λ i. following (Some i) fs ≡ drop n gs) same
     (sym (after_twice after last fs (every_end (λ g. comes_after after g ≡ true) f gs n all)) ∙ (ap (following (Some last.id)) (sym is) ∙ after_end f gs n up))
 
-follows : (limit : ℕ) (after : Option Text) (id : Text) (fs : List FeatureValue) → Ascends fs → 1 ≤ limit → next_of limit (following after fs) ≡ Some id → Follows limit after id fs
+follows : (limit : ℕ) (after : Option Text) (id : Text) (fs : List FeatureValue) → Ascends fs → 1 ≤ limit → next_of limit (following after fs) ≡ Some id →
+    Follows limit after id fs
 follows limit after id fs up some e = by (nat_lt limit (length (following after fs))) refl e where
-  by : (b : Bool) → nat_lt limit (length (following after fs)) ≡ b → cond b (last_id (take limit (following after fs))) None ≡ Some id → Follows limit after id fs
+  by : (b : Bool) → nat_lt limit (length (following after fs)) ≡ b → cond b (last_id (take limit (following after fs))) None ≡ Some id →
+      Follows limit after id fs
   by true is h = record {
     full = more _ _ is;
     others = follows_on limit after id fs (following after fs) refl (ascends_some (comes_after after) fs up) (every_after after fs) some (more _ _ is) h;
@@ -205,7 +216,8 @@ module _ (q : QueryValue) (fs : List FeatureValue) (some : 1 ≤ q.limit) (up : 
   no_more after is = (page_after q fs after ∷ [], ends after (ap (λ t. cond t (last_id (take q.limit (following after (selected q fs)))) None) is))
 
   -- the next id, after which fewer features follow
-  next_one : (after : Option Text) → nat_lt q.limit (length (following after (selected q fs))) ≡ true → (id : Text) × ((page_after q fs after).next ≡ Some id) × (length (following (Some id) (selected q fs)) < length (following after (selected q fs)))
+  next_one : (after : Option Text) → nat_lt q.limit (length (following after (selected q fs))) ≡ true → (id : Text) × ((page_after q fs after).next ≡ Some id)
+      × (length (following (Some id) (selected q fs)) < length (following after (selected q fs)))
   next_one after is =
       let rest = following after (selected q fs) in
       let next = has_next q.limit rest some (more _ _ is) in
@@ -215,7 +227,8 @@ module _ (q : QueryValue) (fs : List FeatureValue) (some : 1 ≤ q.limit) (up : 
       let room : q.limit < length rest = more _ _ is in
       (next.0, reported_next, omega arith)
 
-  walk_by : (n : ℕ) (after : Option Text) → length (following after (selected q fs)) ≤ n → ((id : Text) → length (following (Some id) (selected q fs)) < n → (pages : List PageValue) × IsWalk q fs (Some id) pages) →
+  walk_by : (n : ℕ) (after : Option Text) → length (following after (selected q fs)) ≤ n →
+      ((id : Text) → length (following (Some id) (selected q fs)) < n → (pages : List PageValue) × IsWalk q fs (Some id) pages) →
       (b : Bool) → nat_lt q.limit (length (following after (selected q fs))) ≡ b → (pages : List PageValue) × IsWalk q fs after pages
   walk_by n after few later true is =
       let next = next_one after is in
@@ -225,7 +238,8 @@ module _ (q : QueryValue) (fs : List FeatureValue) (some : 1 ≤ q.limit) (up : 
 
   walk_from : (n : ℕ) (after : Option Text) → length (following after (selected q fs)) ≤ n → (pages : List PageValue) × IsWalk q fs after pages
   walk_from zero after few = walk_by zero after few (λ id fewer. absurd (omega arith)) (nat_lt q.limit (length (following after (selected q fs)))) refl
-  walk_from (suc n) after few = walk_by (suc n) after few (λ id fewer. walk_from n (Some id) (omega arith)) (nat_lt q.limit (length (following after (selected q fs)))) refl
+  walk_from (suc n) after few = walk_by (suc n) after few (λ id fewer. walk_from n (Some id) (omega arith))
+      (nat_lt q.limit (length (following after (selected q fs)))) refl
 
 -- ---- the features of a well-formed collection are in order of ids
 pub is_less : (r : Ordering) → T (is_lt r) → r ≡ Less
@@ -238,13 +252,15 @@ abbrev Named : List (Text × FeatureValue) → Type 0
 Named [] = Unit {0}
 Named (e ∷ es) = (e.1.id ≡ e.0) × Named es
 
-named_all : (es : List (Text × FeatureValue)) → T (is_sorted text_cmp es) → ((id : Text) (f : FeatureValue) → find text_cmp id es ≡ Some f → f.id ≡ id) → Named es
+named_all : (es : List (Text × FeatureValue)) → T (is_sorted text_cmp es) → ((id : Text) (f : FeatureValue) → find text_cmp id es ≡ Some f → f.id ≡ id) →
+    Named es
 named_all [] up named = tt
 named_all (e ∷ es) up named = (
   named e.0 e.1 (ap (λ r. cond (is_eq r) (Some e.1) (find text_cmp e.0 es)) (tied_itself nat_list_cmp_total e.0)),
   named_all es (second _ _ up) (λ id f there. named id f (later id f there (text_cmp id e.0) refl)),
 ) where
-  later : (id : Text) (f : FeatureValue) → find text_cmp id es ≡ Some f → (r : Ordering) → text_cmp id e.0 ≡ r → cond (is_eq (text_cmp id e.0)) (Some e.1) (find text_cmp id es) ≡ Some f
+  later : (id : Text) (f : FeatureValue) → find text_cmp id es ≡ Some f → (r : Ordering) → text_cmp id e.0 ≡ r →
+      cond (is_eq (text_cmp id e.0)) (Some e.1) (find text_cmp id es) ≡ Some f
   later id f there Less is = ap (λ r. cond (is_eq r) (Some e.1) (find text_cmp id es)) is ∙ there
   later id f there Greater is = ap (λ r. cond (is_eq r) (Some e.1) (find text_cmp id es)) is ∙ there
   later id f there Equal is =
@@ -264,7 +280,8 @@ ascends_all (e ∷ es) up named = (
 )
 
 values_ascend : (features : Features) → ((id : Text) (f : FeatureValue) → get features id ≡ Some f → f.id ≡ id) → Ascends (values features)
-values_ascend features named = ascends_all (entries features) (entries_sorted features) (named_all (entries features) (entries_sorted features) (λ id f there. named id f (get-entries features id ∙ there)))
+values_ascend features named = ascends_all (entries features) (entries_sorted features) (named_all (entries features) (entries_sorted features)
+    (λ id f there. named id f (get-entries features id ∙ there)))
 
 after_none : (fs : List FeatureValue) → following None fs ≡ fs
 after_none [] = refl

@@ -39,7 +39,8 @@ empty-answer : (s : State) (keeper : PlainKeeper) (o : Option (String Global)) �
 empty-answer s keeper None h represented = record { said = refl; state = represented }
 empty-answer s keeper (Some text) h represented = cc
 
-some-answer : (s : State) (keeper : PlainKeeper) (b : ℕ) (bs : List ℕ) (o : Option (String Global)) → LineSays s (answer_to s (request_in (b ∷ bs))) (Ok o) keeper → IsLineAnswer s (b ∷ bs) o keeper
+some-answer : (s : State) (keeper : PlainKeeper) (b : ℕ) (bs : List ℕ) (o : Option (String Global)) →
+    LineSays s (answer_to s (request_in (b ∷ bs))) (Ok o) keeper → IsLineAnswer s (b ∷ bs) o keeper
 some-answer s keeper b bs None h = absurd h
 some-answer s keeper b bs (Some text) h = record { said = ap Some h.0; state = h.1 }
 
@@ -49,7 +50,8 @@ none-text o e = cc
 
 pub line_answered : (s : State) (old keeper : PlainKeeper) (line : List ℕ) (o : Option (String Global)) → IsPlainState old s
     → (line ≢ [] → LineSays s (answer_to s (request_in line)) (Ok o) keeper)
-    → (line ≡ [] → (◌≡◌ {A = Result (Option (String Global)) AllocError} (Ok o) (Ok None)) × ((t : State) → IsPlainState old t → IsPlainState keeper t)) → IsLineAnswer s line o keeper
+    → (line ≡ [] → (◌≡◌ {A = Result (Option (String Global)) AllocError} (Ok o) (Ok None)) × ((t : State) → IsPlainState old t → IsPlainState keeper t)) →
+    IsLineAnswer s line o keeper
 line_answered s old keeper [] o represented h k = empty-answer s keeper o (none-text o (k refl).0) ((k refl).1 s represented)
 line_answered s old keeper (b ∷ bs) o represented h k = some-answer s keeper b bs o (h (λ e. cc))
 
@@ -74,7 +76,8 @@ answers_of-append : (s : State) (xs ys : List (List ℕ)) → answers_of s (xs +
 answers_of-append s [] ys = refl
 answers_of-append s (x ∷ xs) ys =
     let first = answer_text (line_answer s x) in
-    ap (λ l. first ++ l) (answers_of-append (state_after s x) xs ys) ∙ sym (append_assoc first (answers_of (state_after s x) xs) (answers_of (state_after_all (state_after s x) xs) ys))
+    ap (λ l. first ++ l) (answers_of-append (state_after s x) xs ys) ∙ sym (append_assoc first (answers_of (state_after s x) xs)
+    (answers_of (state_after_all (state_after s x) xs) ys))
 
 state_after_all-push : (s : State) (xs : List (List ℕ)) (x : List ℕ) → state_after_all s (xs ++ x ∷ []) ≡ state_after (state_after_all s xs) x
 state_after_all-push s [] x = refl
@@ -142,8 +145,11 @@ pub answered_first : (a b old w : Option (List ℕ)) (s : State) → WhereKnown 
     → IfSome a (λ input. AnswersFirst old w opening_state (lines input))
 answered_first None b old w s h = tt
 answered_first (Some input) None old w s h = absurd h
-answered_first (Some input) (Some rest) old w s h =
-    (length h.done, subst (λ ls. Appends old w (answers_of opening_state ls)) (sym (ap (take (length h.done)) h.all ∙ take-append_seam h.done (lines rest))) h.written)
+answered_first (Some input) (Some rest) old w s h = (
+  length h.done,
+  subst (λ ls. Appends old w (answers_of opening_state ls)) (sym (ap (take (length h.done)) h.all ∙ take-append_seam h.done (lines rest)))
+      h.written,
+)
 
 rest-written : (input rest : List ℕ) (old w v : Option (List ℕ)) (s : State) →
     IsAnswered input rest old w s → AppendsBeginning w v (answers_of s (lines rest)) →

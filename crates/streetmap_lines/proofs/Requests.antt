@@ -1,5 +1,6 @@
 -- A line spells the request that is read from it, and no other.
-use Rattle.std.proofs.Common.{◌≡◌, ℕ, ◌+◌, Bool, true, false, cond, not, [], ◌∷◌, ◌++◌, length, take, drop, ap, sym, refl, ◌∙◌, codes, Option, Some, None, arith, ◌==◌, ◌||◌, subst}
+use Rattle.std.proofs.Common.{◌≡◌, ℕ, ◌+◌, Bool, true, false, cond, not, [], ◌∷◌, ◌++◌, length, take, drop, ap, sym, refl, ◌∙◌, codes, Option, Some, None}
+use Rattle.std.proofs.Common.{arith, ◌==◌, ◌||◌, subst}
 use Rattle.std.proofs.lemmas.Grind.{common_steps}
 use Rattle.std.proofs.lemmas.Bool.Decides.{nat_tests}
 use Rattle.std.specs.Prelude.{option_map, option_and_then, nat_lt}
@@ -7,7 +8,8 @@ use Rattle.std.specs.List.{position_or_len, list_any}
 use Rattle.std.specs.Cmp.Lexicographic.{same_text}
 use Rattle.std.specs.Str.{bytes_eq}
 use Rattle.streetmap_batch.specs.Text.{Text}
-use Rattle.streetmap_lines.specs.Request.{LineRequest, batch, page, feature, split_space, HasNoSpace, SpellsRequest, queried, requested_page, page_request_of, request_by, request_of}
+use Rattle.streetmap_lines.specs.Request.{LineRequest, batch, page, feature, split_space, HasNoSpace, SpellsRequest, queried, requested_page, page_request_of}
+use Rattle.streetmap_lines.specs.Request.{request_by, request_of}
 
 -- the same cut, byte by byte
 abbrev pub with_front : ℕ → Option (Text × Text) → Option (Text × Text)
@@ -110,7 +112,8 @@ page-is text (Some p) r k h =
     let both = cut-found text p k in
     queried-is text p.0 p.1 (split_space p.1) r both.0 both.1 (sym (split-cut p.1)) h
 
-feature-is : (text : Text) (o : Option (Text × Text)) (r : LineRequest) → cut text ≡ o → option_map (λ p. feature p.0 p.1) o ≡ Some r → SpellsRequest (codes "feature " ++ text) r
+feature-is : (text : Text) (o : Option (Text × Text)) (r : LineRequest) → cut text ≡ o → option_map (λ p. feature p.0 p.1) o ≡ Some r →
+    SpellsRequest (codes "feature " ++ text) r
 feature-is text None r k h = cc
 feature-is text (Some p) r k h =
     let both = cut-found text p k in
@@ -133,7 +136,8 @@ word-is false false true word text r d e f h =
     subst P (sym (same_text word (codes "feature") f)) (feature-is text (split_space text) r (sym (split-cut text)) h)
 word-is false false false word text r d e f h = cc
 
-request-is : (line : Text) (o : Option (Text × Text)) (r : LineRequest) → cut line ≡ o → option_and_then (λ p. request_by p.0 p.1) o ≡ Some r → SpellsRequest line r
+request-is : (line : Text) (o : Option (Text × Text)) (r : LineRequest) → cut line ≡ o → option_and_then (λ p. request_by p.0 p.1) o ≡ Some r →
+    SpellsRequest line r
 unfolding request_by
 request-is line None r k h = cc
 request-is line (Some p) r k h =

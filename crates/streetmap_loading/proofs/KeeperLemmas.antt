@@ -29,7 +29,8 @@ use Rattle.streetmap_loading.specs.KeeperLoads.{LeavesUnsent, EndsIn, LoadsTo}
 use Rattle.streetmap_loading.specs.declared.keeper_sink.KeeperSink.{KeeperSink}
 use Rattle.streetmap_loading.specs.declared.loaded.Loaded.{Loaded}
 use Rattle.streetmap_loading.specs.declared.load_fault.LoadFault.{LoadFault}
-use Rattle.streetmap_loading.specs.declared.load_fault.LoadFault.TheVariants.{BadKey, BadCount, BadBatch, AtFault, ReadFailed, Memory, Refused, Stopped, WriteFailed}
+use Rattle.streetmap_loading.specs.declared.load_fault.LoadFault.TheVariants.{BadKey, BadCount, BadBatch, AtFault, ReadFailed, Memory, Refused, Stopped}
+use Rattle.streetmap_loading.specs.declared.load_fault.LoadFault.TheVariants.{WriteFailed}
 
 off_known : (items : List Item) (new : Option (List Item)) (xs : List Item) →
     TakesOff (Some items) new xs → (rest : List Item) × (items ≡ xs ++ rest)
@@ -351,7 +352,8 @@ module _ {S K : Type 0} (keeper : S → K) (model : Model K) where
     preserves_by (Some (AtFault fault)) e = preserves_still e.0.still
     preserves_by (Some ReadFailed) e = preserves_still e.still
     preserves_by (Some Memory) e = preserves_still e.still
-    preserves_by (Some (Refused why place)) e = model.preserves_then (keeper first) (keeper it.ends.mid) (keeper last) preserves_mid e.refused.write.call.preserved
+    preserves_by (Some (Refused why place)) e = model.preserves_then (keeper first) (keeper it.ends.mid) (keeper last) preserves_mid
+        e.refused.write.call.preserved
     preserves_by (Some (Stopped fault)) e = model.preserves_then (keeper first) (keeper it.ends.mid) (keeper last) preserves_mid e.refused.write.call.preserved
     preserves_by (Some WriteFailed) e = model.preserves_then (keeper first) (keeper it.ends.mid) (keeper last) preserves_mid e.refused.write.call.preserved
     preserves_by (Some BadKey) e = absurd e
@@ -374,7 +376,8 @@ module _ {S K : Type 0} (keeper : S → K) (model : Model K) where
         LeavesSame (model.may_leave (keeper first)) (model.may_leave (keeper last))
     reopen_at fault is e =
         let reply = reply_is (take (length e.batch.edits) (places_of e.left)) e.stop e.refused.reply faults.Reopen (sym is ∙ e.reported) e.refused.is in
-        let shut = subst (λ (x : Result Reply Fault). ShutsBy x (model.cause (keeper it.ends.mid)) (model.cause (keeper last))) reply e.refused.write.call.faults in
+        let shut = subst (λ (x : Result Reply Fault). ShutsBy x (model.cause (keeper it.ends.mid)) (model.cause (keeper last))) reply
+        e.refused.write.call.faults in
         reopened it.ends.sent it.ends.mid loaded.serial it.ends.all shut.0
         (e.refused.write.call.reopen
         (subst (λ (x : Result Reply Fault). IsErrOf x faults.Reopen) (sym reply) refl))

@@ -15,7 +15,8 @@ use Rattle.streetmap_loading.specs.Prints.{line_of, IsOfWrite, Prints}
 use Rattle.streetmap_loading.specs.TextPrints.{lines_of, PrintsBefore, PrintsInto, PrintsBy}
 use Rattle.streetmap_loading.specs.declared.loaded.Loaded.{Loaded}
 use Rattle.streetmap_loading.specs.declared.load_fault.LoadFault.{LoadFault}
-use Rattle.streetmap_loading.specs.declared.load_fault.LoadFault.TheVariants.{BadKey, BadCount, BadBatch, AtFault, ReadFailed, Memory, Refused, Stopped, WriteFailed}
+use Rattle.streetmap_loading.specs.declared.load_fault.LoadFault.TheVariants.{BadKey, BadCount, BadBatch, AtFault, ReadFailed, Memory, Refused, Stopped}
+use Rattle.streetmap_loading.specs.declared.load_fault.LoadFault.TheVariants.{WriteFailed}
 use Rattle.streetmap_text_lines.proofs.WriteLemmas.{beginning_after}
 
 -- a write that failed

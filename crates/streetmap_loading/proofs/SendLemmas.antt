@@ -23,7 +23,8 @@ use Rattle.streetmap_loading.specs.LoadProgress.{IsSending, Sends, SendsWhenFull
 use Rattle.streetmap_loading.specs.declared.progress.Sending.{Sending}
 use Rattle.streetmap_loading.specs.declared.text_fault.TextFault.{TextFault}
 use Rattle.streetmap_loading.specs.declared.load_fault.LoadFault.{LoadFault}
-use Rattle.streetmap_loading.specs.declared.load_fault.LoadFault.TheVariants.{BadKey, BadCount, BadBatch, AtFault, ReadFailed, Memory, Refused, Stopped, WriteFailed}
+use Rattle.streetmap_loading.specs.declared.load_fault.LoadFault.TheVariants.{BadKey, BadCount, BadBatch, AtFault, ReadFailed, Memory, Refused, Stopped}
+use Rattle.streetmap_loading.specs.declared.load_fault.LoadFault.TheVariants.{WriteFailed}
 use Rattle.streetmap_loading.proofs.Sent.{length-numbered, edits-numbered, edits_more, one_numbered}
 use Rattle.streetmap_loading.proofs.Sent.{edits_of_more, places_of_more, first_places, takes_more}
 

@@ -11,7 +11,8 @@ use Rattle.streetmap_loading.specs.LoadProgress.{EndsAtEdit}
 use Rattle.streetmap_loading.specs.Loads.{Skips, SkippedAt}
 use Rattle.streetmap_loading.specs.declared.loaded.Loaded.{Loaded}
 use Rattle.streetmap_loading.specs.declared.load_fault.LoadFault.{LoadFault}
-use Rattle.streetmap_loading.specs.declared.load_fault.LoadFault.TheVariants.{BadKey, BadCount, BadBatch, AtFault, ReadFailed, Memory, Refused, Stopped, WriteFailed}
+use Rattle.streetmap_loading.specs.declared.load_fault.LoadFault.TheVariants.{BadKey, BadCount, BadBatch, AtFault, ReadFailed, Memory, Refused, Stopped}
+use Rattle.streetmap_loading.specs.declared.load_fault.LoadFault.TheVariants.{WriteFailed}
 use Rattle.streetmap_loading.specs.Texts.{Rules, text_on, item_of_text, is_skipped, and_count}
 use Rattle.streetmap_loading.specs.Texts.{count_skipped, all_in, skips_left}
 use Rattle.streetmap_loading.specs.declared.text_fault.TextFault.{TextFault}

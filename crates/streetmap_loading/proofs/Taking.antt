@@ -16,7 +16,8 @@ use Rattle.streetmap_loading.specs.declared.text_fault.TextFault.{TextFault}
 use Rattle.streetmap_loading.specs.declared.progress.Sending.{Sending}
 use Rattle.streetmap_loading.specs.declared.loaded.Loaded.{Loaded}
 use Rattle.streetmap_loading.specs.declared.load_fault.LoadFault.{LoadFault}
-use Rattle.streetmap_loading.specs.declared.load_fault.LoadFault.TheVariants.{BadKey, BadCount, BadBatch, AtFault, ReadFailed, Memory, Refused, Stopped, WriteFailed}
+use Rattle.streetmap_loading.specs.declared.load_fault.LoadFault.TheVariants.{BadKey, BadCount, BadBatch, AtFault, ReadFailed, Memory, Refused, Stopped}
+use Rattle.streetmap_loading.specs.declared.load_fault.LoadFault.TheVariants.{WriteFailed}
 use Rattle.streetmap_loading.proofs.SendLemmas.{ends_at_fault, ends_unread, ends_memory}
 
 pub takes_none : (a : Option (List Item)) → TakesOff a a []

@@ -17,11 +17,13 @@ neither true x y = refl
 neither false x y = refl
 
 -- it has an id, and is not a collection
-usual_value : (r : Rules) (place : ℕ) (g i p : Data) → item_of_value r place (feature_object g i p) ≡ item_of_feature r place (feature_of r place (feature_object g i p))
+usual_value : (r : Rules) (place : ℕ) (g i p : Data) → item_of_value r place (feature_object g i p)
+    ≡ item_of_feature r place (feature_of r place (feature_object g i p))
 unfolding serde_json_on_literals
 usual_value r place g i p = neither (place == 1) _ _
 
-named : (r : Rules) (place : ℕ) (g i p : Data) (f : FeatureValue) → feature None (feature_object g i p) ≡ Ok f → feature_of r place (feature_object g i p) ≡ held r.skip f
+named : (r : Rules) (place : ℕ) (g i p : Data) (f : FeatureValue) → feature None (feature_object g i p) ≡ Ok f → feature_of r place (feature_object g i p)
+    ≡ held r.skip f
 unfolding serde_json_on_literals
 named r place g i p f read = rw read refl
 
@@ -36,7 +38,8 @@ usual_item r place text f plain usual =
     ∙ ap (item_of_feature r place) (named r place usual.geometry usual.id usual.properties f usual.reads)
 
 -- the same for each feature that was found
-pub usual_found : {X : Type 0} (view : X → FeatureValue) (r : Rules) (text : List ℕ) (found : Option X) → is_requested r.numbers.placement r.numbers.fractions ≡ false
+pub usual_found : {X : Type 0} (view : X → FeatureValue) (r : Rules) (text : List ℕ) (found : Option X) → is_requested r.numbers.placement r.numbers.fractions
+    ≡ false
     → IfSome found (λ x. IsUsual None text (view x))
     → IfSome found (λ x. (place : ℕ) → item_of_text r place text ≡ item_of_feature r place (held r.skip (view x)))
 usual_found view r text None plain usual = tt

@@ -16,11 +16,13 @@ no_more : (ps : List PositionValue) (o : Option GridBox) → AreBounds ps o → 
 no_more ps o b = subst (λ vs. AreBounds vs o) (sym (append-nil ps)) b
 
 -- the bounds of the first feature that has some, or of none
-pub grown_first : (ps : List PositionValue) (o : Option GridBox) (g : Option GeometryValue) → IsGeometryIf g → option_map box_value o ≡ option_map extent_of g → ps ≡ [] → AreBounds (ps ++ option_map_or vertices g []) o
+pub grown_first : (ps : List PositionValue) (o : Option GridBox) (g : Option GeometryValue) → IsGeometryIf g → option_map box_value o ≡ option_map extent_of g →
+    ps ≡ [] → AreBounds (ps ++ option_map_or vertices g []) o
 grown_first ps None None h e none = ap (λ vs. vs ++ []) none
 grown_first ps None (Some v) h e none = absurd cc
 grown_first ps (Some b) None h e none = absurd cc
-grown_first ps (Some b) (Some v) h e none = subst (λ vs. IsExtent (vs ++ vertices v) (box_value b)) (sym none) (subst (IsExtent (vertices v)) (sym (ap (λ o. unwrap_or o (box_value b)) e)) (extent_is v h))
+grown_first ps (Some b) (Some v) h e none = subst (λ vs. IsExtent (vs ++ vertices v) (box_value b)) (sym none)
+    (subst (IsExtent (vertices v)) (sym (ap (λ o. unwrap_or o (box_value b)) e)) (extent_is v h))
 
 -- the bounds with those of one more feature
 pub grown_next : (ps : List PositionValue) (b k : GridBox) (g : Option GeometryValue) → IsGeometryIf g → Some (box_value b) ≡ option_map extent_of g
@@ -37,5 +39,7 @@ bounds_extent (p ∷ ps) (Some g) h = ap (λ x. Some x) (same_extent (p ∷ ps) 
 -- two summaries of one id, title, time property and extent
 pub same_summary : (x y : SummaryValue) → x.id ≡ y.id → x.title ≡ y.title → x.time ≡ y.time → x.extent ≡ y.extent → x ≡ y
 same_summary x y i t p e =
-    ap (λ a. record { id = a; title = x.title; time = x.time; extent = x.extent }) i ∙ (ap (λ a. record { id = y.id; title = a; time = x.time; extent = x.extent }) t
-    ∙ (ap (λ a. record { id = y.id; title = y.title; time = a; extent = x.extent }) p ∙ ap (λ a. record { id = y.id; title = y.title; time = y.time; extent = a }) e))
+    ap (λ a. record { id = a; title = x.title; time = x.time; extent = x.extent }) i ∙ (ap
+    (λ a. record { id = y.id; title = a; time = x.time; extent = x.extent }) t
+    ∙ (ap (λ a. record { id = y.id; title = y.title; time = a; extent = x.extent }) p ∙ ap
+    (λ a. record { id = y.id; title = y.title; time = y.time; extent = a }) e))

@@ -37,7 +37,8 @@ module _ {X : Type 0} where
   get_of es q = get-from_entries nat_list_cmp_total (by_text es) q ∙ find_by_text es q
 
   -- what an update of one key leaves at each text
-  pub updated : (es fs : List (String Global × X)) (id : Text) (w : Option X) → KeepsOthers (eq_by_cmp string_cmp) (at_text id) es fs → lookup (at_text id) fs ≡ w → (q : Text) → lookup (at_text q) fs ≡ cond (eq_by_cmp text_cmp q id) w (lookup (at_text q) es)
+  pub updated : (es fs : List (String Global × X)) (id : Text) (w : Option X) → KeepsOthers (eq_by_cmp string_cmp) (at_text id) es fs → lookup (at_text id) fs
+      ≡ w → (q : Text) → lookup (at_text q) fs ≡ cond (eq_by_cmp text_cmp q id) w (lookup (at_text q) es)
   unfolding KeepsOthers
   updated es fs id w keeps here q = by (text_cmp q id) refl where
     by : (r : Ordering) → text_cmp q id ≡ r → lookup (at_text q) fs ≡ cond (is_eq r) w (lookup (at_text q) es)
@@ -45,21 +46,31 @@ module _ {X : Type 0} where
     by Less e = keeps (at_text q) (key_test q) (apart q id Less e refl)
     by Greater e = keeps (at_text q) (key_test q) (apart q id Greater e refl)
 
-  pub map_put : (es fs : List (String Global × X)) (id : Text) (v : X) → KeepsOthers (eq_by_cmp string_cmp) (at_text id) es fs → lookup (at_text id) fs ≡ Some v → map_of fs ≡ insert (map_of es) id v
+  pub map_put : (es fs : List (String Global × X)) (id : Text) (v : X) → KeepsOthers (eq_by_cmp string_cmp) (at_text id) es fs → lookup (at_text id) fs ≡ Some v
+      → map_of fs ≡ insert (map_of es) id v
   map_put es fs id v keeps here = same_map nat_list_cmp_total one_text _ _ (λ q.
-      get_of fs q ∙ (updated es fs id (Some v) keeps here q ∙ (ap (cond (eq_by_cmp text_cmp q id) (Some v)) (sym (get_of es q)) ∙ sym (get-insert nat_list_cmp_total (map_of es) id v q))))
+      get_of fs q ∙ (updated es fs id (Some v) keeps here q ∙ (ap (cond (eq_by_cmp text_cmp q id) (Some v)) (sym (get_of es q))
+      ∙ sym (get-insert nat_list_cmp_total (map_of es) id v q))))
 
-  pub map_cut : (es fs : List (String Global × X)) (id : Text) → KeepsOthers (eq_by_cmp string_cmp) (at_text id) es fs → lookup (at_text id) fs ≡ None → map_of fs ≡ remove (map_of es) id
+  pub map_cut : (es fs : List (String Global × X)) (id : Text) → KeepsOthers (eq_by_cmp string_cmp) (at_text id) es fs → lookup (at_text id) fs ≡ None →
+      map_of fs ≡ remove (map_of es) id
   map_cut es fs id keeps here = same_map nat_list_cmp_total one_text _ _ (λ q.
-      get_of fs q ∙ (updated es fs id None keeps here q ∙ (ap (cond (eq_by_cmp text_cmp q id) None) (sym (get_of es q)) ∙ sym (get-remove nat_list_cmp_total (map_of es) id q))))
+      get_of fs q ∙ (updated es fs id None keeps here q ∙ (ap (cond (eq_by_cmp text_cmp q id) None) (sym (get_of es q))
+      ∙ sym (get-remove nat_list_cmp_total (map_of es) id q))))
 
 -- an existing slot is written
-pub reset_some : (title : Text) (time : Option Text) (es fs : List (String Global × Option FeatureValue)) (id : Text) (slot old : Option FeatureValue) → lookup (at_text id) es ≡ Some old → KeepsOthers (eq_by_cmp string_cmp) (at_text id) es fs → lookup (at_text id) fs ≡ Some slot → ◌≡◌ {A = SlotCollection} (record { title = title; time = time; slots = map_of fs }) (reset_slot (record { title = title; time = time; slots = map_of es }) id slot)
+pub reset_some : (title : Text) (time : Option Text) (es fs : List (String Global × Option FeatureValue)) (id : Text) (slot old : Option FeatureValue) →
+    lookup (at_text id) es ≡ Some old → KeepsOthers (eq_by_cmp string_cmp) (at_text id) es fs → lookup (at_text id) fs ≡ Some slot →
+    ◌≡◌ {A = SlotCollection} (record { title = title; time = time; slots = map_of fs })
+    (reset_slot (record { title = title; time = time; slots = map_of es }) id slot)
 reset_some title time es fs id slot old there keeps here =
     let s : SlotCollection = record { title = title; time = time; slots = map_of es } in
-    ap (λ m. record { title = title; time = time; slots = m }) (map_put es fs id slot keeps here) ∙ sym (ap (λ o. cond {A = SlotCollection} (is_some o) (put_slot s id slot) s) (get_of es id ∙ there))
+    ap (λ m. record { title = title; time = time; slots = m }) (map_put es fs id slot keeps here)
+    ∙ sym (ap (λ o. cond {A = SlotCollection} (is_some o) (put_slot s id slot) s) (get_of es id ∙ there))
 
-pub reset_none : (title : Text) (time : Option Text) (es : List (String Global × Option FeatureValue)) (id : Text) (slot : Option FeatureValue) → lookup (at_text id) es ≡ None → ◌≡◌ {A = SlotCollection} (record { title = title; time = time; slots = map_of es }) (reset_slot (record { title = title; time = time; slots = map_of es }) id slot)
+pub reset_none : (title : Text) (time : Option Text) (es : List (String Global × Option FeatureValue)) (id : Text) (slot : Option FeatureValue) →
+    lookup (at_text id) es ≡ None → ◌≡◌ {A = SlotCollection} (record { title = title; time = time; slots = map_of es })
+    (reset_slot (record { title = title; time = time; slots = map_of es }) id slot)
 reset_none title time es id slot none =
     let s : SlotCollection = record { title = title; time = time; slots = map_of es } in
     sym (ap (λ o. cond {A = SlotCollection} (is_some o) (put_slot s id slot) s) (get_of es id ∙ none))

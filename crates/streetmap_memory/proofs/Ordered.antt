@@ -20,7 +20,8 @@ both true b p q = q
 both false b p q = p
 
 module _ {X : Type 0} where
-  below : (k : String Global) (es : List (String Global × X)) → AllByRecursion (λ y. string_cmp k y ≡ Less) (keys_of es) → T (below_all text_cmp (string_bytes k) (by_text es))
+  below : (k : String Global) (es : List (String Global × X)) → AllByRecursion (λ y. string_cmp k y ≡ Less) (keys_of es) →
+      T (below_all text_cmp (string_bytes k) (by_text es))
   below k [] h = tt
   below k (e ∷ es) h = both _ _ (subst (λ r. T (is_lt r)) (sym h.0) tt) (below k es h.1)
 
@@ -32,7 +33,9 @@ module _ {X : Type 0} where
   pub entries_of : (es : List (String Global × X)) → IsStrictlySortedBy string_cmp (keys_of es) → entries (map_of es) ≡ by_text es
   entries_of es h =
       let up = ascending es h in
-      ap entries (same_map nat_list_cmp_total one_text (map_of es) (from_sorted (by_text es)) (λ q. get-from_entries nat_list_cmp_total (by_text es) q ∙ sym (get-from_sorted text_cmp (by_text es) q up))) ∙ entries-from_sorted text_cmp (by_text es) up
+      ap entries (same_map nat_list_cmp_total one_text (map_of es) (from_sorted (by_text es))
+      (λ q. get-from_entries nat_list_cmp_total (by_text es) q ∙ sym (get-from_sorted text_cmp (by_text es) q up)))
+      ∙ entries-from_sorted text_cmp (by_text es) up
 
   length_by_text : (es : List (String Global × X)) → length (by_text es) ≡ length es
   length_by_text [] = refl

@@ -8,7 +8,8 @@ use Rattle.std.specs.Cmp.Lexicographic.{nat_list_cmp_total}
 use Rattle.std.specs.FinMap.{get, insert, remove, get-remove, same_map}
 use Rattle.streetmap_geojson.specs.FeatureValue.{FeatureValue}
 use Rattle.streetmap_batch.specs.Text.{Text, text_cmp}
-use Rattle.streetmap_memory.specs.Slots.{Slots, SlotCollection, SlotCollections, live, collected, collections_of, cut_slot, is_emptied, swept_slot, changed_collection, swept_in}
+use Rattle.streetmap_memory.specs.Slots.{Slots, SlotCollection, SlotCollections, live, collected, collections_of, cut_slot, is_emptied, swept_slot}
+use Rattle.streetmap_memory.specs.Slots.{changed_collection, swept_in}
 use Rattle.streetmap_memory.specs.Undo.{swept_by, all_swept}
 use Rattle.streetmap_memory.specs.declared.undo.Undo.{Undo}
 use Rattle.streetmap_memory.specs.declared.undo.Undo.TheVariants.{Open, Add, Set}
@@ -36,7 +37,8 @@ pub collections_swept : (t : SlotCollections) (name id : Text) → collections_o
 collections_swept t name id = go (get t name) refl where
   go : (o : Option SlotCollection) → get t name ≡ o → collections_of (changed_collection t name (λ c. swept_slot c id) o) ≡ collections_of t
   go None e = refl
-  go (Some c) e = collections_insert t name (swept_slot c id) ∙ (ap (insert (collections_of t) name) (collected_swept c id) ∙ insert_same (collections_of t) name (collected c) (get_collection t name ∙ ap (option_map collected) e))
+  go (Some c) e = collections_insert t name (swept_slot c id) ∙ (ap (insert (collections_of t) name) (collected_swept c id)
+      ∙ insert_same (collections_of t) name (collected c) (get_collection t name ∙ ap (option_map collected) e))
 
 swept_by_same : (u : Undo) (t : SlotCollections) → collections_of (swept_by u t) ≡ collections_of t
 swept_by_same (Open name) t = refl

@@ -1,5 +1,6 @@
 -- The extents of outlines beside one another, and the outlines that a page passes over for them.
-use Rattle.std.proofs.Common.{◌≡◌, ◌<◌, ℕ, List, [], ◌∷◌, ◌++◌, Option, None, Some, false, option_map, slice_get, get_or, length, refl, ap, sym, subst, ◌∙◌, inl, inr, length-append, arith}
+use Rattle.std.proofs.Common.{◌≡◌, ◌<◌, ℕ, List, [], ◌∷◌, ◌++◌, Option, None, Some, false, option_map, slice_get, get_or, length, refl, ap, sym, subst, ◌∙◌}
+use Rattle.std.proofs.Common.{inl, inr, length-append, arith}
 use Rattle.std.specs.Prelude.{nat_le}
 use Rattle.std.proofs.lemmas.Int.{ints}
 use Rattle.std.proofs.lemmas.Bool.{cases_lt, false_from_ne_true, both_ways, and_parts, lt-leb}
@@ -22,7 +23,8 @@ use Rattle.streetmap_outlines.specs.Outlines.{IsOutlineOf, IsExtentIf, AreExtent
 use Rattle.streetmap_outlines.specs.Selections.{IsWindowOf}
 
 -- ---- one more
-module _ (es : List Envelope) (os : List FeatureOutline) (i : ℕ) (e : Envelope) (o : FeatureOutline) (len : length es ≡ i) (within : i < length os) (is : o ≡ get_or os i o) where
+module _ (es : List Envelope) (os : List FeatureOutline) (i : ℕ) (e : Envelope) (o : FeatureOutline) (len : length es ≡ i) (within : i < length os)
+    (is : o ≡ get_or os i o) where
   -- the outline in the last place
   last_is : (y : FeatureOutline) (k : ℕ) → k ≡ i → slice_get os k ≡ Some y → o ≡ y
   last_is y k at there =
@@ -31,11 +33,13 @@ module _ (es : List Envelope) (os : List FeatureOutline) (i : ℕ) (e : Envelope
 
   pub one_more : AreExtentsOf es os → IsExtentIf e o.extent → AreExtentsOf (es ++ e ∷ []) os
   one_more kept one k x y here there = elim (cases_lt k (length es)) [
-    | inl before ↦ kept k x y (slice_get-get_or es k x before ∙ ap (λ v. Some v) (sym (get_or_append_left es (e ∷ []) x k before) ∙ get_or_from_slice_get (es ++ e ∷ []) k x x here)) there
+    | inl before ↦ kept k x y (slice_get-get_or es k x before ∙ ap (λ v. Some v) (sym (get_or_append_left es (e ∷ []) x k before)
+        ∙ get_or_from_slice_get (es ++ e ∷ []) k x x here)) there
     | inr following ↦
         let less : k < length (es ++ e ∷ []) = slice_get_within (es ++ e ∷ []) k x here in
         let at : k ≡ length es = omega (arith, less, following, length-append es (e ∷ [])) in
-        let new : e ≡ x = sym (get_or-append_seam es e [] x) ∙ (ap (λ n. get_or (es ++ e ∷ []) n x) (sym at) ∙ get_or_from_slice_get (es ++ e ∷ []) k x x here) in
+        let new : e ≡ x = sym (get_or-append_seam es e [] x) ∙ (ap (λ n. get_or (es ++ e ∷ []) n x) (sym at) ∙ get_or_from_slice_get (es ++ e ∷ []) k x x here)
+        in
         subst (λ v. IsExtentIf v y.extent) new (subst (λ (v : FeatureOutline). IsExtentIf e v.extent) (last_is y k (at ∙ len) there) one)
   ]
 
@@ -52,7 +56,8 @@ module _ (window e : Envelope) (area : GridBox) (requested : IsEnvelopeOf window
       false_from_ne_true _ (λ on. both_ways (nat_le window.x0 e.x1) off (and_parts _ _ (and_parts _ _ on).1).0)
 
   -- the kept extent overlaps the window if the geometry's extent overlaps the box
-  pub overlaps_as : (extent : Option GridBox) (g : Option GeometryValue) → IsExtentIf e extent → option_map box_value extent ≡ option_map extent_of g → overlaps e window ≡ passes extent_overlaps g (Some (box_value area))
+  pub overlaps_as : (extent : Option GridBox) (g : Option GeometryValue) → IsExtentIf e extent → option_map box_value extent ≡ option_map extent_of g →
+      overlaps e window ≡ passes extent_overlaps g (Some (box_value area))
   overlaps_as None None kept same = off_at_corner kept
   overlaps_as None (Some v) kept same = absurd cc
   overlaps_as (Some box) None kept same = absurd cc
@@ -60,11 +65,14 @@ module _ (window e : Envelope) (area : GridBox) (requested : IsEnvelopeOf window
       let one : box_value box ≡ extent_of v = cc in
       same_overlap e window (box_value box) (box_value area) kept requested ∙ ap (λ b. boxes_overlap b (box_value area)) one
 
-pub overlaps_requested : (q : QueryValue) (window e : Envelope) (o : FeatureOutline) (f : FeatureValue) → IsWindowOf q (Some window) → IsExtentIf e o.extent → IsOutlineOf o f → overlaps e window ≡ passes extent_overlaps f.geometry q.bbox
+pub overlaps_requested : (q : QueryValue) (window e : Envelope) (o : FeatureOutline) (f : FeatureValue) → IsWindowOf q (Some window) → IsExtentIf e o.extent →
+    IsOutlineOf o f → overlaps e window ≡ passes extent_overlaps f.geometry q.bbox
 overlaps_requested q window e o f (area, requested, is) kept known =
-    overlaps_as window e area is o.extent f.geometry kept (ap (λ (v : FeatureOutlineValue). v.extent) known) ∙ ap (passes extent_overlaps f.geometry) (sym requested)
+    overlaps_as window e area is o.extent f.geometry kept (ap (λ (v : FeatureOutlineValue). v.extent) known)
+    ∙ ap (passes extent_overlaps f.geometry) (sym requested)
 
-pub off_window : (q : QueryValue) (window e : Envelope) (o : FeatureOutline) (f : FeatureValue) → IsWindowOf q (Some window) → overlaps e window ≡ false → IsExtentIf e o.extent → IsOutlineOf o f → is_candidate q f ≡ false
+pub off_window : (q : QueryValue) (window e : Envelope) (o : FeatureOutline) (f : FeatureValue) → IsWindowOf q (Some window) → overlaps e window ≡ false →
+    IsExtentIf e o.extent → IsOutlineOf o f → is_candidate q f ≡ false
 off_window q window e o f requested off kept known =
     let none : passes extent_overlaps f.geometry q.bbox ≡ false = sym (overlaps_requested q window e o f requested kept known) ∙ off in
     rw none refl

@@ -1,5 +1,6 @@
 -- Extents that are counted a block at a time.
-use Rattle.std.proofs.Common.{◌≡◌, ◌↔◌, ℕ, ◌+◌, ◌<◌, ◌≤◌, Bool, true, false, not, ◌&&◌, ◌||◌, cond, List, Some, All, length, take, get_or, refl, sym, ◌∙◌, arith, inl, inr}
+use Rattle.std.proofs.Common.{◌≡◌, ◌↔◌, ℕ, ◌+◌, ◌<◌, ◌≤◌, Bool, true, false, not, ◌&&◌, ◌||◌, cond, List, Some, All, length, take, get_or, refl, sym, ◌∙◌}
+use Rattle.std.proofs.Common.{arith, inl, inr}
 use mir.Val.{bool_byte}
 use Rattle.std.proofs.lemmas.Bool.{cases_Bool, and_parts, and_from, or_cases, or_left, or_right, not-true, not_from_false, both_ways}
 use Rattle.std.proofs.lemmas.List.{take_more}

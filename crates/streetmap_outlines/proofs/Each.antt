@@ -11,7 +11,8 @@ module _ {X : Type 0} (P : X → Type 0) where
 
   -- without the element that was changed
   pub each_without : (xs : List X) (i : ℕ) (x : X) → All P xs → All P (remove (set xs i x) i)
-  each_without xs i x h = rw (take-set xs i x, drop-set-lt (suc i) xs i x (omega arith)) (All-append P (take i xs) (drop (suc i) xs) (All-take P i xs h) (All-drop P (suc i) xs h))
+  each_without xs i x h = rw (take-set xs i x, drop-set-lt (suc i) xs i x (omega arith))
+      (All-append P (take i xs) (drop (suc i) xs) (All-take P i xs h) (All-drop P (suc i) xs h))
 
   pub each_removed : (xs : List X) (i : ℕ) → All P xs → All P (remove xs i)
   each_removed xs i h = All-append P (take i xs) (drop (suc i) xs) (All-take P i xs h) (All-drop P (suc i) xs h)

@@ -19,7 +19,8 @@ use Rattle.streetmap_outlines.specs.Outlines.{Pairs}
 use Rattle.streetmap_outlines.proofs.Pairing.{parted}
 
 -- the bounds of a feature's positions
-feature_bounds : (o : Option GridBox) (g : Option GeometryValue) → IsGeometryIf g → option_map box_value o ≡ option_map extent_of g → AreBounds (option_map_or vertices g []) o
+feature_bounds : (o : Option GridBox) (g : Option GeometryValue) → IsGeometryIf g → option_map box_value o ≡ option_map extent_of g →
+    AreBounds (option_map_or vertices g []) o
 feature_bounds None None h e = refl
 feature_bounds None (Some v) h e = absurd cc
 feature_bounds (Some b) None h e = absurd cc
@@ -34,21 +35,27 @@ bounds_extent (p ∷ ps) (Some g) h = ap (λ x. Some x) (same_extent (p ∷ ps) 
 -- two summaries of one id, title, time property and extent
 pub same_summary : (x y : SummaryValue) → x.id ≡ y.id → x.title ≡ y.title → x.time ≡ y.time → x.extent ≡ y.extent → x ≡ y
 same_summary x y i t p e =
-    ap (λ a. record { id = a; title = x.title; time = x.time; extent = x.extent }) i ∙ (ap (λ a. record { id = y.id; title = a; time = x.time; extent = x.extent }) t
-    ∙ (ap (λ a. record { id = y.id; title = y.title; time = a; extent = x.extent }) p ∙ ap (λ a. record { id = y.id; title = y.title; time = y.time; extent = a }) e))
+    ap (λ a. record { id = a; title = x.title; time = x.time; extent = x.extent }) i ∙ (ap
+    (λ a. record { id = y.id; title = a; time = x.time; extent = x.extent }) t
+    ∙ (ap (λ a. record { id = y.id; title = y.title; time = a; extent = x.extent }) p ∙ ap
+    (λ a. record { id = y.id; title = y.title; time = y.time; extent = a }) e))
 
 -- some of all features were met, the bounds are of them and of these positions; the others are left
-pub record Growing (ps : List PositionValue) (bounds : Option GridBox) (features : Features) (all : List FeatureValue) (rest : List FeatureOutline) : Type 0 where
-  pub met : List FeatureValue
-  pub left : List FeatureValue
-  pub whole : met ++ left ≡ all
-  pub pairs : Pairs features rest left
-  pub bounds_are : AreBounds (ps ++ all_vertices met) bounds
+pub record Growing (ps : List PositionValue) (bounds : Option GridBox) (features : Features) (all : List FeatureValue) (rest : List FeatureOutline) : Type 0
+  where
+    pub met : List FeatureValue
+    pub left : List FeatureValue
+    pub whole : met ++ left ≡ all
+    pub pairs : Pairs features rest left
+    pub bounds_are : AreBounds (ps ++ all_vertices met) bounds
 
-more_vertices : (ps : List PositionValue) (o : Option GridBox) (met : List FeatureValue) (f : FeatureValue) → AreBounds ((ps ++ all_vertices met) ++ feature_vertices f) o → AreBounds (ps ++ all_vertices (met ++ f ∷ [])) o
-more_vertices ps o met f h = subst (λ vs. AreBounds vs o) (append_assoc ps (all_vertices met) (feature_vertices f) ∙ ap (λ vs. ps ++ vs) (flat_map_more feature_vertices [] met f)) h
+more_vertices : (ps : List PositionValue) (o : Option GridBox) (met : List FeatureValue) (f : FeatureValue) →
+    AreBounds ((ps ++ all_vertices met) ++ feature_vertices f) o → AreBounds (ps ++ all_vertices (met ++ f ∷ [])) o
+more_vertices ps o met f h = subst (λ vs. AreBounds vs o) (append_assoc ps (all_vertices met) (feature_vertices f)
+    ∙ ap (λ vs. ps ++ vs) (flat_map_more feature_vertices [] met f)) h
 
-pub grows_on : (ps : List PositionValue) (old new : Option GridBox) (features : Features) (all : List FeatureValue) (o : FeatureOutline) (rest : List FeatureOutline) → Growing ps old features all (o ∷ rest)
+pub grows_on : (ps : List PositionValue) (old new : Option GridBox) (features : Features) (all : List FeatureValue) (o : FeatureOutline)
+    (rest : List FeatureOutline) → Growing ps old features all (o ∷ rest)
     → ((vs qs : List PositionValue) → AreBounds vs old → AreBounds qs o.extent → AreBounds (vs ++ qs) new) → Growing ps new features all rest
 grows_on ps old new features all o rest growing wider = by growing.left growing.whole growing.pairs where
   by : (left : List FeatureValue) → growing.met ++ left ≡ all → Pairs features (o ∷ rest) left → Growing ps new features all rest
@@ -63,14 +70,17 @@ grows_on ps old new features all o rest growing wider = by growing.left growing.
         (feature_bounds o.extent f.geometry pairs.0.made.made (ap (λ (v : FeatureOutlineValue). v.extent) pairs.0.known)));
   }
 
-all_grown : (ps : List PositionValue) (o : Option GridBox) (met fs : List FeatureValue) → AreBounds ((ps ++ all_vertices met) ++ all_vertices fs) o → AreBounds (ps ++ all_vertices (met ++ fs)) o
+all_grown : (ps : List PositionValue) (o : Option GridBox) (met fs : List FeatureValue) → AreBounds ((ps ++ all_vertices met) ++ all_vertices fs) o →
+    AreBounds (ps ++ all_vertices (met ++ fs)) o
 all_grown ps o met fs h = subst (λ vs. AreBounds vs o) (append_assoc ps (all_vertices met) (all_vertices fs) ∙ ap (λ vs. ps ++ vs) (flat_both met fs)) h where
   flat_both : (met fs : List FeatureValue) → all_vertices met ++ all_vertices fs ≡ all_vertices (met ++ fs)
   flat_both [] fs = refl
   flat_both (f ∷ met) fs = append_assoc (feature_vertices f) (all_vertices met) (all_vertices fs) ∙ ap (λ vs. feature_vertices f ++ vs) (flat_both met fs)
 
-pub grows_after : (ps : List PositionValue) (old new : Option GridBox) (features : Features) (all : List FeatureValue) (front rest : List FeatureOutline) → Growing ps old features all (front ++ rest)
-    → ((vs : List PositionValue) (fs : List FeatureValue) → Pairs features front fs → AreBounds vs old → AreBounds (vs ++ all_vertices fs) new) → Growing ps new features all rest
+pub grows_after : (ps : List PositionValue) (old new : Option GridBox) (features : Features) (all : List FeatureValue) (front rest : List FeatureOutline) →
+    Growing ps old features all (front ++ rest)
+    → ((vs : List PositionValue) (fs : List FeatureValue) → Pairs features front fs → AreBounds vs old → AreBounds (vs ++ all_vertices fs) new) →
+    Growing ps new features all rest
 grows_after ps old new features all front rest growing wider =
     let parts = parted features front rest growing.left growing.pairs in
     record {
@@ -82,7 +92,8 @@ grows_after ps old new features all front rest growing wider =
     }
 
 -- if no outline is left these are the bounds of all
-pub all_bounds : (ps : List PositionValue) (o : Option GridBox) (features : Features) (all : List FeatureValue) → Growing ps o features all [] → AreBounds (ps ++ all_vertices all) o
+pub all_bounds : (ps : List PositionValue) (o : Option GridBox) (features : Features) (all : List FeatureValue) → Growing ps o features all [] →
+    AreBounds (ps ++ all_vertices all) o
 all_bounds ps o features all growing = by growing.left growing.whole growing.pairs where
   by : (left : List FeatureValue) → growing.met ++ left ≡ all → Pairs features [] left → AreBounds (ps ++ all_vertices all) o
   by [] whole pairs = subst (λ fs. AreBounds (ps ++ all_vertices fs) o) (sym (append-nil growing.met) ∙ whole) growing.bounds_are

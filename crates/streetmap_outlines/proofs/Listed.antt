@@ -24,26 +24,34 @@ use Rattle.streetmap_outlines.specs.declared.chunks.Chunks.{Chunks}
 use Rattle.streetmap_outlines.proofs.Covering.{passed_over}
 
 -- ---- more in the cells
-pub still_listed_if : (old new : Cells) → KeepsExtents old new → (number : ℕ) (extent : Option GridBox) → IsListedIf old number extent → IsListedIf new number extent
+pub still_listed_if : (old new : Cells) → KeepsExtents old new → (number : ℕ) (extent : Option GridBox) → IsListedIf old number extent →
+    IsListedIf new number extent
 still_listed_if old new keeps number None h = tt
 still_listed_if old new keeps number (Some extent) h = keeps number (box_value extent) h
 
 abbrev pub Listed : Cells → ℕ → FeatureOutline → Type 0
 Listed cells number o = IsListedIf cells number o.extent
 
-pub still_under : (old new : Cells) → KeepsExtents old new → (number : ℕ) (os : List FeatureOutline) → AreListedUnder old number os → AreListedUnder new number os
+pub still_under : (old new : Cells) → KeepsExtents old new → (number : ℕ) (os : List FeatureOutline) → AreListedUnder old number os →
+    AreListedUnder new number os
 still_under old new keeps number os h = All-weaker (Listed old number) (Listed new number) (λ o held. still_listed_if old new keeps number o.extent held) os h
 
 pub still_listed : (old new : Cells) → KeepsExtents old new → (cs : List Chunk) → AreListed old cs → AreListed new cs
-still_listed old new keeps cs h = All-weaker (IsListedChunk old) (IsListedChunk new) (λ chunk held. still_under old new keeps chunk.number chunk.outlines.items held) cs h
+still_listed old new keeps cs h = All-weaker (IsListedChunk old) (IsListedChunk new) (λ chunk held.
+    still_under old new keeps chunk.number chunk.outlines.items held) cs h
 
 -- ---- chunks with no mark have no candidates
 
-none_marked : (outlines : Chunks) (q : Query) (marks : Option Marks) (number : ℕ) → IfSome marks (MarksCandidates outlines (query_value q)) → is_marked_if marks number ≡ false
+none_marked : (outlines : Chunks) (q : Query) (marks : Option Marks) (number : ℕ) → IfSome marks (MarksCandidates outlines (query_value q)) →
+    is_marked_if marks number ≡ false
     → (o : FeatureOutline) (f : FeatureValue) → IsListedIf outlines.cells number o.extent → IsOutlineOf o f → is_candidate (query_value q) f ≡ false
 none_marked outlines q None number says off o f listed is = absurd cc
-none_marked outlines q (Some marks) number says off o f listed is = false_from_ne_true _ (λ on. both_ways (is_marked marks number) off (says number o f listed is on))
+none_marked outlines q (Some marks) number says off o f listed is = false_from_ne_true _
+    (λ on. both_ways (is_marked marks number) off (says number o f listed is on))
 
-pub unmarked_over : (outlines : Chunks) (q : Query) (marks : Option Marks) → IfSome marks (MarksCandidates outlines (query_value q)) → (fold : PageFold) (features : Features) (chunk : Chunk) → is_marked_if marks chunk.number ≡ false → IsListedChunk outlines.cells chunk
-    → (met fs : List FeatureValue) → Pairs features chunk.outlines.items fs → HoldsCandidates (query_value q) fold met → HoldsCandidates (query_value q) fold (met ++ fs)
-unmarked_over outlines q marks says fold features chunk off listed = passed_over (Listed outlines.cells chunk.number) q fold features (none_marked outlines q marks chunk.number says off) chunk.outlines.items listed
+pub unmarked_over : (outlines : Chunks) (q : Query) (marks : Option Marks) → IfSome marks (MarksCandidates outlines (query_value q)) →
+    (fold : PageFold) (features : Features) (chunk : Chunk) → is_marked_if marks chunk.number ≡ false → IsListedChunk outlines.cells chunk
+    → (met fs : List FeatureValue) → Pairs features chunk.outlines.items fs → HoldsCandidates (query_value q) fold met →
+    HoldsCandidates (query_value q) fold (met ++ fs)
+unmarked_over outlines q marks says fold features chunk off listed = passed_over (Listed outlines.cells chunk.number) q fold features
+    (none_marked outlines q marks chunk.number says off) chunk.outlines.items listed

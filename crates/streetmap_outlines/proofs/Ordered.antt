@@ -1,5 +1,6 @@
 -- The order of the ids of a chunk, and which of them come after another one.
-use Rattle.std.proofs.Common.{◌≡◌, ℕ, zero, suc, ◌<◌, List, [], ◌∷◌, All, Bool, true, false, T, None, Some, length, get_or, string_bytes, refl, sym, ap, subst, ◌∙◌, arith}
+use Rattle.std.proofs.Common.{◌≡◌, ℕ, zero, suc, ◌<◌, List, [], ◌∷◌, All, Bool, true, false, T, None, Some, length, get_or, string_bytes, refl, sym, ap, subst}
+use Rattle.std.proofs.Common.{◌∙◌, arith}
 use Rattle.std.specs.Ordering.{is_gt}
 use Rattle.std.specs.declared.cmp.Ordering.{Ordering}
 use Rattle.std.specs.declared.cmp.Ordering.TheVariants.{Less, Equal, Greater}
@@ -27,11 +28,13 @@ use Rattle.streetmap_outlines.proofs.InChunks.{split, sorted_front, sorted_rest,
 abbrev Under : (Text → Ordering) → Ordering → FeatureOutline → Type 0
 Under compare r o = compare (string_bytes o.id) ≡ r
 
-below : (k : Text) (os : List FeatureOutline) (es : Entries) → feature_outline_values os ≡ outlines es → T (below_all text_cmp k es) → All (Under (text_cmp k) Less) os
+below : (k : Text) (os : List FeatureOutline) (es : Entries) → feature_outline_values os ≡ outlines es → T (below_all text_cmp k es) →
+    All (Under (text_cmp k) Less) os
 below k [] es is up = All-nil (Under (text_cmp k) Less)
 below k (o ∷ os) [] is up = too_few o os is
 below k (o ∷ os) (e ∷ es) is up =
-    All-cons (Under (text_cmp k) Less) o os (ap (text_cmp k) (key_is o os e es is) ∙ less _ (first _ _ up)) (below k os es (tail_is o os e es is) (second _ _ up))
+    All-cons (Under (text_cmp k) Less) o os (ap (text_cmp k) (key_is o os e es is) ∙ less _ (first _ _ up))
+    (below k os es (tail_is o os e es is) (second _ _ up))
 
 in_order : (os : List FeatureOutline) (es : Entries) → feature_outline_values os ≡ outlines es → T (is_sorted text_cmp es) → AreInOrder os
 in_order [] es is up = tt
@@ -44,16 +47,20 @@ in_order (o ∷ os) (e ∷ es) is up =
     )
 
 -- the outlines of each chunk are in order
-one_in_order : (cs : List Chunk) (i : ℕ) (chunk : Chunk) (es : Entries) → feature_outline_values (joined cs) ≡ outlines es → T (is_sorted text_cmp es) → i < length cs → chunk ≡ get_or cs i chunk → AreInOrder chunk.outlines.items
+one_in_order : (cs : List Chunk) (i : ℕ) (chunk : Chunk) (es : Entries) → feature_outline_values (joined cs) ≡ outlines es → T (is_sorted text_cmp es) → i
+    < length cs → chunk ≡ get_or cs i chunk → AreInOrder chunk.outlines.items
 one_in_order [] i chunk es is up within at = absurd (omega arith)
 one_in_order (c ∷ cs) zero chunk es is up within at =
     let parts = split c.outlines.items (joined cs) es is in
-    subst (λ (x : Chunk). AreInOrder x.outlines.items) (sym at) (in_order c.outlines.items parts.front parts.fronts (sorted_front parts.front parts.rest (subst (λ zs. T (is_sorted text_cmp zs)) (sym parts.whole) up)))
+    subst (λ (x : Chunk). AreInOrder x.outlines.items) (sym at) (in_order c.outlines.items parts.front parts.fronts
+    (sorted_front parts.front parts.rest (subst (λ zs. T (is_sorted text_cmp zs)) (sym parts.whole) up)))
 one_in_order (c ∷ cs) (suc i) chunk es is up within at =
     let parts = split c.outlines.items (joined cs) es is in
-    one_in_order cs i chunk parts.rest parts.rests (sorted_rest parts.front parts.rest (subst (λ zs. T (is_sorted text_cmp zs)) (sym parts.whole) up)) (omega arith) at
+    one_in_order cs i chunk parts.rest parts.rests (sorted_rest parts.front parts.rest (subst (λ zs. T (is_sorted text_cmp zs)) (sym parts.whole) up))
+    (omega arith) at
 
-pub chunk_in_order : (cs : List Chunk) (i : ℕ) (chunk : Chunk) (features : Features) → AreOutlines (joined cs) features → i < length cs → chunk ≡ get_or cs i chunk → AreInOrder chunk.outlines.items
+pub chunk_in_order : (cs : List Chunk) (i : ℕ) (chunk : Chunk) (features : Features) → AreOutlines (joined cs) features → i < length cs → chunk
+    ≡ get_or cs i chunk → AreInOrder chunk.outlines.items
 chunk_in_order cs i chunk features known within at = one_in_order cs i chunk (entries features) known (entries_sorted features) within at
 
 -- if the last outline does not reach an id, none does
@@ -83,18 +90,21 @@ all_after k (o ∷ os) up begins =
     let one : text_cmp (string_bytes o.id) k ≡ Greater = greater _ begins in
     let before : text_cmp k (string_bytes o.id) ≡ Less = flip (string_bytes o.id) k Greater one in
     All-cons (IsAfter k) o os one
-    (All-weaker (Under (text_cmp (string_bytes o.id)) Less) (IsAfter k) (λ p next. flip k (string_bytes p.id) Less (nat_list_cmp_total.trans k (string_bytes o.id) (string_bytes p.id) before next)) os up.0)
+    (All-weaker (Under (text_cmp (string_bytes o.id)) Less) (IsAfter k) (λ p next. flip k (string_bytes p.id) Less
+    (nat_list_cmp_total.trans k (string_bytes o.id) (string_bytes p.id) before next)) os up.0)
 
 -- what that says of features
 abbrev ComesAfter : QueryValue → Bool → FeatureOutline → Type 0
 ComesAfter q b o = (f : FeatureValue) → IsOutlineOf o f → comes_after q.after f ≡ b
 
-after_id : (q : QueryValue) (k : Text) (r : Ordering) → q.after ≡ Some k → (o : FeatureOutline) → text_cmp (string_bytes o.id) k ≡ r → (f : FeatureValue) → IsOutlineOf o f → comes_after q.after f ≡ is_gt r
+after_id : (q : QueryValue) (k : Text) (r : Ordering) → q.after ≡ Some k → (o : FeatureOutline) → text_cmp (string_bytes o.id) k ≡ r → (f : FeatureValue) →
+    IsOutlineOf o f → comes_after q.after f ≡ is_gt r
 after_id q k r requested o at f is =
     let id : string_bytes o.id ≡ f.id = ap (λ (v : FeatureOutlineValue). v.id) is in
     ap (λ a. comes_after a f) requested ∙ (ap (λ i. is_gt (text_cmp i k)) (sym id) ∙ ap is_gt at)
 
-pub none_comes_after : (q : QueryValue) (k : Text) → q.after ≡ Some k → (os : List FeatureOutline) → AreInOrder os → reaches k os ≡ false → AllComeAfter q false os
+pub none_comes_after : (q : QueryValue) (k : Text) → q.after ≡ Some k → (os : List FeatureOutline) → AreInOrder os → reaches k os ≡ false →
+    AllComeAfter q false os
 none_comes_after q k requested os up short = All-weaker (Before k) (ComesAfter q false) (after_id q k Less requested) os (none_reach k os up short)
 
 pub all_come_after : (q : QueryValue) (k : Text) → q.after ≡ Some k → (os : List FeatureOutline) → AreInOrder os → BeginsAfter k os → AllComeAfter q true os

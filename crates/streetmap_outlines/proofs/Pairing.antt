@@ -37,13 +37,15 @@ module _ {X : Type 0} where
   none_below k [] h = refl
   none_below k (e ∷ es) h = ap (λ b. cond b (Some e.1) (find text_cmp k es)) (not_equal _ (first _ _ h)) ∙ none_below k es (second _ _ h)
 
-  pub each_found : (P : Text → X → Type 0) (es : List (Text × X)) → T (is_sorted text_cmp es) → ((id : Text) (x : X) → find text_cmp id es ≡ Some x → P id x) → AllByRecursion (λ e. P e.0 e.1) es
+  pub each_found : (P : Text → X → Type 0) (es : List (Text × X)) → T (is_sorted text_cmp es) → ((id : Text) (x : X) → find text_cmp id es ≡ Some x → P id x) →
+      AllByRecursion (λ e. P e.0 e.1) es
   each_found P [] up found = tt
   each_found P (e ∷ es) up found = (
     found e.0 e.1 (ap (λ r. cond (is_eq r) (Some e.1) (find text_cmp e.0 es)) (tied_itself nat_list_cmp_total e.0)),
     each_found P es (second _ _ up) (λ id x there. found id x (later id x there (text_cmp id e.0) refl)),
   ) where
-    later : (id : Text) (x : X) → find text_cmp id es ≡ Some x → (r : Ordering) → text_cmp id e.0 ≡ r → cond (is_eq (text_cmp id e.0)) (Some e.1) (find text_cmp id es) ≡ Some x
+    later : (id : Text) (x : X) → find text_cmp id es ≡ Some x → (r : Ordering) → text_cmp id e.0 ≡ r →
+        cond (is_eq (text_cmp id e.0)) (Some e.1) (find text_cmp id es) ≡ Some x
     later id x there Less is = ap (λ r. cond (is_eq r) (Some e.1) (find text_cmp id es)) is ∙ there
     later id x there Greater is = ap (λ r. cond (is_eq r) (Some e.1) (find text_cmp id es)) is ∙ there
     later id x there Equal is =
@@ -53,7 +55,8 @@ module _ {X : Type 0} where
 abbrev outlines : List (Text × FeatureValue) → List FeatureOutlineValue
 outlines es = map (λ e. feature_outline_of e.0 e.1) es
 
-pairs_by : (features : Features) (os : List FeatureOutline) (xs : List (Text × FeatureValue)) → feature_outline_values os ≡ outlines xs → AllByRecursion (λ x. IsThere features x.0 x.1) xs → Pairs features os (map (λ x. x.1) xs)
+pairs_by : (features : Features) (os : List FeatureOutline) (xs : List (Text × FeatureValue)) → feature_outline_values os ≡ outlines xs →
+    AllByRecursion (λ x. IsThere features x.0 x.1) xs → Pairs features os (map (λ x. x.1) xs)
 pairs_by features [] [] is h = tt
 pairs_by features [] (x ∷ xs) is h = absurd cc
 pairs_by features (o ∷ os) [] is h = absurd cc
@@ -83,8 +86,10 @@ pub record Going (q : QueryValue) (fold : PageFold) (features : Features) (all :
   pub pairs : Pairs features rest left
   pub holds : HoldsCandidates q fold met
 
-pub goes_on : (q : QueryValue) (old new : PageFold) (features : Features) (all : List FeatureValue) (o : FeatureOutline) (rest : List FeatureOutline) → Going q old features all (o ∷ rest)
-    → ((fs : List FeatureValue) (f : FeatureValue) → IsEntry features o f → HoldsCandidates q old fs → HoldsCandidates q new (fs ++ f ∷ [])) → Going q new features all rest
+pub goes_on : (q : QueryValue) (old new : PageFold) (features : Features) (all : List FeatureValue) (o : FeatureOutline) (rest : List FeatureOutline) →
+    Going q old features all (o ∷ rest)
+    → ((fs : List FeatureValue) (f : FeatureValue) → IsEntry features o f → HoldsCandidates q old fs → HoldsCandidates q new (fs ++ f ∷ [])) →
+    Going q new features all rest
 goes_on q old new features all o rest going takes = by going.left going.whole going.pairs where
   by : (left : List FeatureValue) → going.met ++ left ≡ all → Pairs features (o ∷ rest) left → Going q new features all rest
   by [] whole pairs = absurd pairs
@@ -104,14 +109,23 @@ pub record Parted (features : Features) (front rest : List FeatureOutline) (fs :
   pub first_pairs : Pairs features front firsts
   pub other_pairs : Pairs features rest others
 
-pub parted : (features : Features) (front rest : List FeatureOutline) (fs : List FeatureValue) → Pairs features (front ++ rest) fs → Parted features front rest fs
+pub parted : (features : Features) (front rest : List FeatureOutline) (fs : List FeatureValue) → Pairs features (front ++ rest) fs →
+    Parted features front rest fs
 parted features [] rest fs pairs = record { firsts = []; others = fs; whole = refl; first_pairs = tt; other_pairs = pairs }
 parted features (o ∷ front) rest [] pairs = absurd pairs
 parted features (o ∷ front) rest (f ∷ fs) pairs =
     let more = parted features front rest fs pairs.1 in
-    record { firsts = f ∷ more.firsts; others = more.others; whole = ap (λ xs. f ∷ xs) more.whole; first_pairs = (pairs.0, more.first_pairs); other_pairs = more.other_pairs }
+    record {
+      firsts = f ∷ more.firsts;
+      others = more.others;
+      whole = ap (λ xs. f ∷ xs) more.whole;
+      first_pairs = (pairs.0, more.first_pairs);
+      other_pairs =
+          more.other_pairs;
+    }
 
-pub goes_on_after : (q : QueryValue) (old new : PageFold) (features : Features) (all : List FeatureValue) (front rest : List FeatureOutline) → Going q old features all (front ++ rest)
+pub goes_on_after : (q : QueryValue) (old new : PageFold) (features : Features) (all : List FeatureValue) (front rest : List FeatureOutline) →
+    Going q old features all (front ++ rest)
     → ((met fs : List FeatureValue) → Pairs features front fs → HoldsCandidates q old met → HoldsCandidates q new (met ++ fs)) → Going q new features all rest
 goes_on_after q old new features all front rest going takes =
     let parts = parted features front rest going.left going.pairs in

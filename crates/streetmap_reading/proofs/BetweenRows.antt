@@ -24,7 +24,8 @@ first_cell f row is = subst (λ r. 0 < length r) (sym is) (omega arith)
 pub first_text : (f : FeatureValue) (row : Row) → row ≡ candidate_row f → column row 0 ≡ Words (feature_text f)
 first_text f row is = ap (λ r. column r 0) is
 
-pub given_open : {S : Type 0} (g : Ghosts S) (sql : List ℕ) (params : Row) (h : Held S) (given : List Row) → HasGiven g sql params h given → IsUnchanged (state g h) (state g h)
+pub given_open : {S : Type 0} (g : Ghosts S) (sql : List ℕ) (params : Row) (h : Held S) (given : List Row) → HasGiven g sql params h given →
+    IsUnchanged (state g h) (state g h)
 unfolding HasGiven
 given_open g sql params h given it = unchanged (state g h) it.0.is_open
 

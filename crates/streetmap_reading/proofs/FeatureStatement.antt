@@ -113,8 +113,10 @@ module _ (db : Database) (s : State) (keeps : Keeps s db) (name id : Text) where
 
   -- the row of a feature
   pub text_at : ShowsOf select_text (keys_of key) db (option_to_list (option_map dated_row (feature_in s name id)))
-  text_at = shows_by select_text (keys_of key) db (over roots.features both text_terms) (codes "body" ∷ codes "s0" ∷ []) _ (select_text_means db.schema roots.features in_features) (select_text_never db.schema roots.features in_features db.trees name id)
-      (λ rows a. chosen db.trees roots.features both text_terms (keys_of key) (staged db.trees roots.features both (keys_of key) in_features.low) (has_pair key) (both_is s roots db.trees of key) found one_found rows a
+  text_at = shows_by select_text (keys_of key) db (over roots.features both text_terms) (codes "body" ∷ codes "s0" ∷ []) _
+      (select_text_means db.schema roots.features in_features) (select_text_never db.schema roots.features in_features db.trees name id)
+      (λ rows a. chosen db.trees roots.features both text_terms (keys_of key) (staged db.trees roots.features both (keys_of key) in_features.low) (has_pair key)
+      (both_is s roots db.trees of key) found one_found rows a
       ∙ ap option_to_list (shown_is (keys_of key)))
 
   -- ---- the row of a feature, if it has this rowid
@@ -137,8 +139,10 @@ module _ (db : Database) (s : State) (keeps : Keeps s db) (name id : Text) where
 
     pub text_at_rowid : ShowsOf select_text_at params db (option_to_list row_at)
     unfolding row_at
-    text_at_rowid = shows_by select_text_at params db (over roots.features tests text_terms) (codes "body" ∷ codes "s0" ∷ []) _ (select_text_at_means db.schema roots.features in_features) (select_text_at_never db.schema roots.features in_features db.trees name id rowid)
-        (λ rows a. chosen db.trees roots.features tests text_terms params (staged db.trees roots.features tests params in_features.low) (λ r. has_rowid r && has_pair key r) passes (if_passes has_rowid found)
+    text_at_rowid = shows_by select_text_at params db (over roots.features tests text_terms) (codes "body" ∷ codes "s0" ∷ []) _
+        (select_text_at_means db.schema roots.features in_features) (select_text_at_never db.schema roots.features in_features db.trees name id rowid)
+        (λ rows a. chosen db.trees roots.features tests text_terms params (staged db.trees roots.features tests params in_features.low)
+        (λ r. has_rowid r && has_pair key r) passes (if_passes has_rowid found)
         (filter_both has_rowid (has_pair key) all_rows ∙ ap (filter has_rowid) one_found ∙ filter_option has_rowid found) rows a)
 
     -- a row that is shown is that of the feature
@@ -162,7 +166,8 @@ pub no_text : (o : Option FeatureValue) → None ≡ option_map dated_row o → 
 no_text None e = refl
 no_text (Some f) e = absurd (cc)
 
-pub if_found : (name id : Text) (s : State) (a b : Seen) (o : Option Row) (r : Result (Option Row) ReadFault) → IsTextRowIfFound name id s o → MatchResult r (λ row. (row ≡ o) × IsUnchanged a b) (Stopped a b) → MatchResult r (λ row. IsTextRowIfFound name id s row × IsUnchanged a b) (Stopped a b)
+pub if_found : (name id : Text) (s : State) (a b : Seen) (o : Option Row) (r : Result (Option Row) ReadFault) → IsTextRowIfFound name id s o →
+    MatchResult r (λ row. (row ≡ o) × IsUnchanged a b) (Stopped a b) → MatchResult r (λ row. IsTextRowIfFound name id s row × IsUnchanged a b) (Stopped a b)
 if_found name id s a b o (Ok row) is h = (subst (IsTextRowIfFound name id s) (sym h.0) is, h.1)
 if_found name id s a b o (Err e) is h = h
 
@@ -194,6 +199,7 @@ read_on a b f (Ok g) same h = (h, same)
 read_on a b f (Err e) same h = subst (Stopped a b) (sym h) same
 
 -- the collection of an existing feature
-pub holder : (o : Option Collection) (id : Text) (f : FeatureValue) → option_and_then (λ (d : Collection). get d.features id) o ≡ Some f → (d : Collection) × (o ≡ Some d)
+pub holder : (o : Option Collection) (id : Text) (f : FeatureValue) → option_and_then (λ (d : Collection). get d.features id) o ≡ Some f → (d : Collection)
+    × (o ≡ Some d)
 holder None id f e = absurd (cc)
 holder (Some d) id f e = (d, refl)

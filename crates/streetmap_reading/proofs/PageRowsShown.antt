@@ -31,7 +31,8 @@ use Rattle.streetmap_rows.proofs.NamedTables.{IsFound}
 use Rattle.streetmap_rows.proofs.Resolving.{Means, command_is, is_plain, is_whole, unlisted}
 use Rattle.streetmap_rows.proofs.OneRowChosen.{chosen, shown_as, staged}
 use Rattle.streetmap_rows.specs.Tables.{Roots, features, collections, features_name, collections_name}
-use Rattle.streetmap_rows.proofs.Compiles.{one, select_all_means, select_all_never, select_in_box_means, select_in_box_never, select_in_time_means, select_in_time_never, select_in_both_means, select_in_both_never, select_collection_means, select_collection_never}
+use Rattle.streetmap_rows.proofs.Compiles.{one, select_all_means, select_all_never, select_in_box_means, select_in_box_never, select_in_time_means}
+use Rattle.streetmap_rows.proofs.Compiles.{select_in_time_never, select_in_both_means, select_in_both_never, select_collection_means, select_collection_never}
 use Rattle.streetmap_rows.proofs.PutCollection.{name_cell}
 use Rattle.streetmap_rows.proofs.KeyReads.{named_is}
 use Rattle.streetmap_rows.proofs.TablesInSchema as placing
@@ -42,7 +43,8 @@ use Rattle.streetmap_rows.specs.Views.{collection_view}
 use Rattle.streetmap_moment.specs.Meeting.{first_second, last_second}
 use Rattle.streetmap_rows.proofs.OrderedRows.{find_has, mapped_has}
 use Rattle.streetmap_reading.proofs.ChosenInOrder.{Chooses, page_query, lists_chosen}
-use Rattle.streetmap_reading.proofs.TermsChoose.{in_collection, box_params, time_params, box_terms, time_terms, all_chooses, box_chooses, time_chooses, both_chooses}
+use Rattle.streetmap_reading.proofs.TermsChoose.{in_collection, box_params, time_params, box_terms, time_terms, all_chooses, box_chooses, time_chooses}
+use Rattle.streetmap_reading.proofs.TermsChoose.{both_chooses}
 
 -- ---- the features of a collection
 
@@ -64,8 +66,10 @@ module _ (s : State) (db : Database) (keeps : Keeps s db) (name : Text) (c : Col
 -- ---- each statement of a page
 
 -- what a query that no rule refuses shows
-pub shows_such : (sql : List ℕ) (params : Row) (db : Database) (q : Query) (names : List (List ℕ)) (Are : List Row → Type 0) → Means db.schema sql (length params) (Select (program q) names)
-    → ((e : Error) → RefusesQuery None db (program q) params e → ⊥) → ((given : List Row) → IsAnswerAs Null q (overlay db.trees []) params given → Are given) → ShowsSuch sql params db Are
+pub shows_such : (sql : List ℕ) (params : Row) (db : Database) (q : Query) (names : List (List ℕ)) (Are : List Row → Type 0) →
+    Means db.schema sql (length params) (Select (program q) names)
+    → ((e : Error) → RefusesQuery None db (program q) params e → ⊥) → ((given : List Row) → IsAnswerAs Null q (overlay db.trees []) params given → Are given) →
+    ShowsSuch sql params db Are
 shows_such sql params db q names Are it never only = record {
   plain = is_plain db.schema sql (length params) _ it;
   unlisted = unlisted db.schema sql (length params) _ it;
@@ -78,8 +82,10 @@ shows_such sql params db q names Are it never only = record {
   never = never;
 }
 
-pub shows_by : (sql : List ℕ) (params : Row) (db : Database) (q : Query) (names : List (List ℕ)) (rows : List Row) → Means db.schema sql (length params) (Select (program q) names)
-    → ((e : Error) → RefusesQuery None db (program q) params e → ⊥) → ((given : List Row) → IsAnswerAs Null q (overlay db.trees []) params given → given ≡ rows) → ShowsOf sql params db rows
+pub shows_by : (sql : List ℕ) (params : Row) (db : Database) (q : Query) (names : List (List ℕ)) (rows : List Row) →
+    Means db.schema sql (length params) (Select (program q) names)
+    → ((e : Error) → RefusesQuery None db (program q) params e → ⊥) → ((given : List Row) → IsAnswerAs Null q (overlay db.trees []) params given → given ≡ rows)
+    → ShowsOf sql params db rows
 shows_by sql params db q names rows = shows_such sql params db q names (λ given. given ≡ rows)
 
 module _ (db : Database) (s : State) (keeps : Keeps s db) (name : Text) where
@@ -96,49 +102,67 @@ module _ (db : Database) (s : State) (keeps : Keeps s db) (name : Text) where
   in_collections = placing.collections_found roots db keeps.rows.ours keeps.rows.sound
 
   module _ (c : Collection) (collected : get s.collections name ≡ Some c) where
-    only_chosen : (terms : List Term) (params : Row) (test : FeatureValue → Bool) → Chooses terms params name test → (given : List Row) → IsAnswerAs Null (page_query roots.features terms) (overlay db.trees []) params given → given ≡ map candidate_row (filter test (values c.features))
-    only_chosen terms params test chooses given a = lists_chosen s roots db.trees of name c.features (λ q. sym (rw collected refl)) terms params test (λ r p f cells is. chooses r p f cells) in_features.low given a
+    only_chosen : (terms : List Term) (params : Row) (test : FeatureValue → Bool) → Chooses terms params name test → (given : List Row) →
+        IsAnswerAs Null (page_query roots.features terms) (overlay db.trees []) params given → given ≡ map candidate_row (filter test (values c.features))
+    only_chosen terms params test chooses given a = lists_chosen s roots db.trees of name c.features (λ q. sym (rw collected refl)) terms params test
+        (λ r p f cells is. chooses r p f cells) in_features.low given a
 
     pub all_at : ShowsOf select_all (Words name ∷ []) db (map candidate_row (chosen_of None None c))
-    all_at = shows_by select_all (Words name ∷ []) db (page_query roots.features (in_collection ∷ [])) (codes "body" ∷ []) _ (select_all_means db.schema roots.features in_features) (select_all_never db.schema roots.features in_features db.trees name)
+    all_at = shows_by select_all (Words name ∷ []) db (page_query roots.features (in_collection ∷ [])) (codes "body" ∷ []) _
+        (select_all_means db.schema roots.features in_features) (select_all_never db.schema roots.features in_features db.trees name)
         (only_chosen (in_collection ∷ []) (Words name ∷ []) (is_chosen None None) (all_chooses name))
 
     pub box_at : (b : BoxValue) → ShowsOf select_in_box (Words name ∷ box_params b []) db (map candidate_row (chosen_of (Some b) None c))
-    box_at b = shows_by select_in_box (Words name ∷ box_params b []) db (page_query roots.features (in_collection ∷ box_terms [])) (codes "body" ∷ []) _ (select_in_box_means db.schema roots.features in_features) (select_in_box_never db.schema roots.features in_features db.trees name b.x1 b.x0 b.y1 b.y0)
+    box_at b = shows_by select_in_box (Words name ∷ box_params b []) db (page_query roots.features (in_collection ∷ box_terms [])) (codes "body" ∷ []) _
+        (select_in_box_means db.schema roots.features in_features) (select_in_box_never db.schema roots.features in_features db.trees name b.x1 b.x0 b.y1 b.y0)
         (only_chosen (in_collection ∷ box_terms []) (Words name ∷ box_params b []) (is_chosen (Some b) None) (box_chooses name b))
 
     pub time_at : (i : IntervalValue) → ShowsOf select_in_time (Words name ∷ time_params i) db (map candidate_row (chosen_of None (Some i) c))
-    time_at i = shows_by select_in_time (Words name ∷ time_params i) db (page_query roots.features (in_collection ∷ time_terms 1)) (codes "body" ∷ []) _ (select_in_time_means db.schema roots.features in_features) (select_in_time_never db.schema roots.features in_features db.trees name (last_second i.end) (first_second i.start))
+    time_at i = shows_by select_in_time (Words name ∷ time_params i) db (page_query roots.features (in_collection ∷ time_terms 1)) (codes "body" ∷ []) _
+        (select_in_time_means db.schema roots.features in_features) (select_in_time_never db.schema roots.features in_features db.trees name (last_second i.end)
+        (first_second i.start))
         (only_chosen (in_collection ∷ time_terms 1) (Words name ∷ time_params i) (is_chosen None (Some i)) (time_chooses name i))
 
-    pub both_at : (b : BoxValue) (i : IntervalValue) → ShowsOf select_in_both (Words name ∷ box_params b (time_params i)) db (map candidate_row (chosen_of (Some b) (Some i) c))
-    both_at b i = shows_by select_in_both (Words name ∷ box_params b (time_params i)) db (page_query roots.features (in_collection ∷ box_terms (time_terms 5))) (codes "body" ∷ []) _ (select_in_both_means db.schema roots.features in_features)
+    pub both_at : (b : BoxValue) (i : IntervalValue) → ShowsOf select_in_both (Words name ∷ box_params b (time_params i)) db
+        (map candidate_row (chosen_of (Some b) (Some i) c))
+    both_at b i = shows_by select_in_both (Words name ∷ box_params b (time_params i)) db (page_query roots.features (in_collection ∷ box_terms (time_terms 5)))
+        (codes "body" ∷ []) _ (select_in_both_means db.schema roots.features in_features)
         (select_in_both_never db.schema roots.features in_features db.trees name b.x1 b.x0 b.y1 b.y0 (last_second i.end) (first_second i.start))
-        (only_chosen (in_collection ∷ box_terms (time_terms 5)) (Words name ∷ box_params b (time_params i)) (is_chosen (Some b) (Some i)) (both_chooses name b i))
+        (only_chosen (in_collection ∷ box_terms (time_terms 5)) (Words name ∷ box_params b (time_params i)) (is_chosen (Some b) (Some i))
+        (both_chooses name b i))
 
   -- the row of a collection
   pub collection_at : ShowsOf select_collection (Words name ∷ []) db (option_to_list (option_map collection_view (get s.collections name)))
   collection_at =
       let found = find (is_first name) (db.trees roots.collections) in
-      shows_by select_collection (Words name ∷ []) db (over roots.collections one (col 1 2 ∷ col 1 3 ∷ [])) (codes "title" ∷ codes "time" ∷ []) _ (select_collection_means db.schema roots.collections in_collections) (select_collection_never db.schema roots.collections in_collections db.trees name)
-      (λ rows a. chosen db.trees roots.collections one (col 1 2 ∷ col 1 3 ∷ []) (Words name ∷ []) (staged db.trees roots.collections one (Words name ∷ []) in_collections.low) (is_first name)
-      (λ r h. named_is name r (name_cell (first_key r) (get s.collections (first_key r)) r (cells_of first_key is_first first_is first_self _ (db.trees roots.collections) of.collections r h)))
+      shows_by select_collection (Words name ∷ []) db (over roots.collections one (col 1 2 ∷ col 1 3 ∷ [])) (codes "title" ∷ codes "time" ∷ []) _
+      (select_collection_means db.schema roots.collections in_collections) (select_collection_never db.schema roots.collections in_collections db.trees
+      name)
+      (λ rows a. chosen db.trees roots.collections one (col 1 2 ∷ col 1 3 ∷ []) (Words name ∷ [])
+      (staged db.trees roots.collections one (Words name ∷ []) in_collections.low) (is_first name)
+      (λ r h. named_is name r (name_cell (first_key r) (get s.collections (first_key r)) r
+      (cells_of first_key is_first first_is first_self _ (db.trees roots.collections) of.collections r h)))
       found (filter_one first_key is_first first_is first_self _ (db.trees roots.collections) of.collections name) rows a
       ∙ ap option_to_list (shown_as (collection_cells name) collection_view _ found (get s.collections name) (of.collections.found name) (λ r c same.
       let at : (n : ℕ) → column r (suc n) ≡ column (collection_cells name c) n = λ n. column_later r n ∙ ap (λ x. column x n) same in
       λ i. at 1 i ∷ at 2 i ∷ [])))
 
 pub select_all_plain : (db : Database) (s : State) (keeps : Keeps s db) → IsPlain (understood db.schema select_all)
-select_all_plain db s keeps = is_plain db.schema select_all 1 _ (select_all_means db.schema keeps.rows.roots.features (placing.features_found keeps.rows.roots db keeps.rows.ours keeps.rows.sound))
+select_all_plain db s keeps = is_plain db.schema select_all 1 _ (select_all_means db.schema keeps.rows.roots.features
+    (placing.features_found keeps.rows.roots db keeps.rows.ours keeps.rows.sound))
 
 pub select_in_box_plain : (db : Database) (s : State) (keeps : Keeps s db) → IsPlain (understood db.schema select_in_box)
-select_in_box_plain db s keeps = is_plain db.schema select_in_box 5 _ (select_in_box_means db.schema keeps.rows.roots.features (placing.features_found keeps.rows.roots db keeps.rows.ours keeps.rows.sound))
+select_in_box_plain db s keeps = is_plain db.schema select_in_box 5 _ (select_in_box_means db.schema keeps.rows.roots.features
+    (placing.features_found keeps.rows.roots db keeps.rows.ours keeps.rows.sound))
 
 pub select_in_time_plain : (db : Database) (s : State) (keeps : Keeps s db) → IsPlain (understood db.schema select_in_time)
-select_in_time_plain db s keeps = is_plain db.schema select_in_time 3 _ (select_in_time_means db.schema keeps.rows.roots.features (placing.features_found keeps.rows.roots db keeps.rows.ours keeps.rows.sound))
+select_in_time_plain db s keeps = is_plain db.schema select_in_time 3 _ (select_in_time_means db.schema keeps.rows.roots.features
+    (placing.features_found keeps.rows.roots db keeps.rows.ours keeps.rows.sound))
 
 pub select_in_both_plain : (db : Database) (s : State) (keeps : Keeps s db) → IsPlain (understood db.schema select_in_both)
-select_in_both_plain db s keeps = is_plain db.schema select_in_both 7 _ (select_in_both_means db.schema keeps.rows.roots.features (placing.features_found keeps.rows.roots db keeps.rows.ours keeps.rows.sound))
+select_in_both_plain db s keeps = is_plain db.schema select_in_both 7 _ (select_in_both_means db.schema keeps.rows.roots.features
+    (placing.features_found keeps.rows.roots db keeps.rows.ours keeps.rows.sound))
 
 pub select_collection_plain : (db : Database) (s : State) (keeps : Keeps s db) → IsPlain (understood db.schema select_collection)
-select_collection_plain db s keeps = is_plain db.schema select_collection 1 _ (select_collection_means db.schema keeps.rows.roots.collections (placing.collections_found keeps.rows.roots db keeps.rows.ours keeps.rows.sound))
+select_collection_plain db s keeps = is_plain db.schema select_collection 1 _ (select_collection_means db.schema keeps.rows.roots.collections
+    (placing.collections_found keeps.rows.roots db keeps.rows.ours keeps.rows.sound))

@@ -6,7 +6,8 @@ use Rattle.std.specs.List.{AllByRecursion, flat_map}
 use Rattle.std.proofs.lemmas.Int.{ints}
 use Rattle.std.proofs.lemmas.List.Elements.{recursion_from_All}
 use Rattle.streetmap_grid.specs.declared.grid_box.GridBox.{GridBox}
-use Rattle.streetmap_grid.specs.Values.{PositionValue, SimpleValue, GeometryValue, point, multi_point, line_string, multi_line_string, polygon, multi_polygon, simple, collection}
+use Rattle.streetmap_grid.specs.Values.{PositionValue, SimpleValue, GeometryValue, point, multi_point, line_string, multi_line_string, polygon, multi_polygon}
+use Rattle.streetmap_grid.specs.Values.{simple, collection}
 use Rattle.streetmap_grid.specs.Views.{box_value}
 use Rattle.streetmap_grid.specs.Some.{SomeOf}
 use Rattle.streetmap_grid.specs.Range.{IsBound}
@@ -18,7 +19,8 @@ use Rattle.streetmap_geojson.specs.FeatureInvariant.{IsGeometryIf}
 use Rattle.streetmap_ledger.specs.Summaries.{extent_if}
 
 -- the bounds of a feature's positions
-pub feature_bounds : (o : Option GridBox) (g : Option GeometryValue) → IsGeometryIf g → option_map box_value o ≡ option_map extent_of g → AreBounds (option_map_or vertices g []) o
+pub feature_bounds : (o : Option GridBox) (g : Option GeometryValue) → IsGeometryIf g → option_map box_value o ≡ option_map extent_of g →
+    AreBounds (option_map_or vertices g []) o
 feature_bounds None None h e = refl
 feature_bounds None (Some v) h e = absurd cc
 feature_bounds (Some b) None h e = absurd cc
@@ -36,7 +38,8 @@ all_both : (P : PositionValue → Type 0) (ps qs : List PositionValue) → AllBy
 all_both P [] qs a b = b
 all_both P (p ∷ ps) qs a b = (a.0, all_both P ps qs a.1 b)
 
-all_flat : {X : Type 0} (f : X → List PositionValue) (P : X → Type 0) → ((x : X) → P x → AllByRecursion IsInGrid (f x)) → (xs : List X) → AllByRecursion P xs → AllByRecursion IsInGrid (flat_map f xs)
+all_flat : {X : Type 0} (f : X → List PositionValue) (P : X → Type 0) → ((x : X) → P x → AllByRecursion IsInGrid (f x)) → (xs : List X) → AllByRecursion P xs →
+    AllByRecursion IsInGrid (flat_map f xs)
 all_flat f P each [] all = tt
 all_flat f P each (x ∷ xs) all = all_both IsInGrid (f x) (flat_map f xs) (each x all.0) (all_flat f P each xs all.1)
 
@@ -70,5 +73,11 @@ extent_is_box None h = tt
 extent_is_box (Some v) h =
     let all = vertices_in v h in
     let it = extent_is v h in
-    let ordered = ordered_extent v h in
-    (x_bound _ (vertices v) all it.west, y_bound _ (vertices v) all it.south, x_bound _ (vertices v) all it.east, y_bound _ (vertices v) all it.north, ordered.0, ordered.1)
+    let ordered = ordered_extent v h in (
+      x_bound _ (vertices v) all it.west,
+      y_bound _ (vertices v) all it.south,
+      x_bound _ (vertices v) all it.east,
+      y_bound _ (vertices v) all it.north,
+      ordered.0,
+      ordered.1,
+    )

@@ -53,16 +53,21 @@ module _ (db : Database) (s : State) (keeps : Keeps s db) where
 
   module _ (name : Text) (c : Collection) (collected : get s.collections name ≡ Some c) (first last : Text) where
     pub run_at : ShowsOf select_run (run_params name first last) db (map candidate_row (run_of first last c))
-    run_at = shows_by select_run (run_params name first last) db (page_query keeps.rows.roots.features run_terms) (codes "body" ∷ []) _ (select_run_means db.schema keeps.rows.roots.features in_features) (select_run_never db.schema keeps.rows.roots.features in_features db.trees name first last)
-        (λ given a. lists_chosen s keeps.rows.roots db.trees keeps.rows.of name c.features (λ q. sym (rw collected refl)) run_terms (run_params name first last) (is_between first last) (run_chooses s placed name first last) in_features.low given a)
+    run_at = shows_by select_run (run_params name first last) db (page_query keeps.rows.roots.features run_terms) (codes "body" ∷ []) _
+        (select_run_means db.schema keeps.rows.roots.features in_features) (select_run_never db.schema keeps.rows.roots.features in_features db.trees name first
+        last)
+        (λ given a. lists_chosen s keeps.rows.roots db.trees keeps.rows.of name c.features (λ q. sym (rw collected refl)) run_terms (run_params name first last)
+        (is_between first last) (run_chooses s placed name first last) in_features.low given a)
 
     pub run_stored : AllByRecursion (IsStored c.time) (run_of first last c)
-    run_stored = all_from _ (run_of first last c) (λ f h. stored_one s db keeps name c collected f (has_filtered (is_between first last) (values c.features) f h).0)
+    run_stored = all_from _ (run_of first last c) (λ f h. stored_one s db keeps name c collected f
+        (has_filtered (is_between first last) (values c.features) f h).0)
 
 -- ---- the rows of a run, one after the other
 
 -- what reads under the time property of the run as it was begun reads so under that of the run
-pub run_reads : (start now : FeatureRows) (rows : List Row) → HoldsRun start now rows → (f : FeatureValue) → IsStored (option_copied start.property) f → IsStored (option_copied now.property) f
+pub run_reads : (start now : FeatureRows) (rows : List Row) → HoldsRun start now rows → (f : FeatureValue) → IsStored (option_copied start.property) f →
+    IsStored (option_copied now.property) f
 run_reads start now rows held f fine = subst (λ p. IsStored (option_copied p) f) (sym held.property) fine
 
 -- a run as it was begun
@@ -70,14 +75,16 @@ pub run_begun : (run : FeatureRows) → HoldsRun run run []
 run_begun run = record { property = refl; features = λ fs none is fine. none ∙ sym (none_mapped candidate_row fs is) }
 
 -- a run with one more feature
-pub run_more : (start before after : FeatureRows) (feature : FeatureValue) (rows : List Row) (row : Row) → HoldsRun start before rows → after.property ≡ before.property → after.features.items ≡ before.features.items ++ feature ∷ []
+pub run_more : (start before after : FeatureRows) (feature : FeatureValue) (rows : List Row) (row : Row) → HoldsRun start before rows → after.property
+    ≡ before.property → after.features.items ≡ before.features.items ++ feature ∷ []
     → ((f : FeatureValue) → row ≡ candidate_row f → IsStored (option_copied before.property) f → feature ≡ f)
     → HoldsRun start after (rows ++ row ∷ [])
 run_more start before after feature rows row held same more reads = record {
   property = same ∙ held.property;
   features = λ fs none is fine.
       let end = ends_with candidate_row rows row fs is in
-      let all = all_before (IsStored (option_copied start.property)) end.before end.last (subst (AllByRecursion (IsStored (option_copied start.property))) end.is fine) in
+      let all = all_before (IsStored (option_copied start.property)) end.before end.last
+      (subst (AllByRecursion (IsStored (option_copied start.property))) end.is fine) in
       let front : before.features.items ≡ end.before = held.features end.before none end.rest all.0 in
       let last : feature ≡ end.last = reads end.last end.same (run_reads start before rows held end.last all.1) in
       more ∙ (λ i. front i ++ last i ∷ []) ∙ sym end.is;
@@ -87,10 +94,14 @@ run_more start before after feature rows row held same more reads = record {
 
 -- the rows of the features with ids between two are taken
 pub runs_by : (name first last : Text) (old new : Seen) (before after : FeatureRows) (r : Result (Unit {0}) ReadFault)
-    → TakesAll HoldsRun (λ start. AllByRecursion (IsCandidate (option_copied start.property))) select_run (run_params name first last) before after old new r → before.features.items ≡ []
+    → TakesAll HoldsRun (λ start. AllByRecursion (IsCandidate (option_copied start.property))) select_run (run_params name first last) before after old new r →
+    before.features.items ≡ []
     → (s : State) (c : Collection) → old.step_limit ≡ None → Keeps s old.now → get s.collections name ≡ Some c → c.time ≡ option_copied before.property
     → MatchResult r (λ _. (after.features.items ≡ run_of first last c) × IsUnchanged old new) (Stopped old new)
-runs_by name first last old new before after r all none s c limit keeps there property = go r (folded HoldsRun (λ start. AllByRecursion (IsCandidate (option_copied start.property))) select_run (run_params name first last) old new before after (map candidate_row fs) (run_at old.now s keeps name c there first last) limit (candidates_fine (option_copied before.property) fs stored) r all (run_begun before))
+runs_by name first last old new before after r all none s c limit keeps there property =
+    go r (folded HoldsRun (λ start. AllByRecursion (IsCandidate (option_copied start.property))) select_run (run_params name first last) old new before after
+    (map candidate_row fs) (run_at old.now s keeps name c there first last) limit (candidates_fine (option_copied before.property) fs stored) r all
+    (run_begun before))
   where
     fs : List FeatureValue
     fs = run_of first last c

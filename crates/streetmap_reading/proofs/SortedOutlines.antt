@@ -82,7 +82,8 @@ module _ (fs : Features) (es : List Entry) (apart : IsDistinct same_text (map (�
   said : (p : Text × FeatureOutlineValue) → Has (map named sorted) p → (f : FeatureValue) × (get fs p.0 ≡ Some f) × (p.1 ≡ feature_outline_of p.0 f)
   said p h =
       let o = mapped_has named sorted p h in
-      let e = mapped_has outline_of es (feature_outline_value o.0) (moved _ _ _ (IsPermutation-sym _ _ turned) (has_mapped feature_outline_value sorted o.0 o.1)) in
+      let e = mapped_has outline_of es (feature_outline_value o.0) (moved _ _ _ (IsPermutation-sym _ _ turned)
+      (has_mapped feature_outline_value sorted o.0 o.1)) in
       let id : p.0 ≡ e.0.0 = ap (λ (x : Text × FeatureOutlineValue). x.0) o.2 ∙ ap (λ (x : FeatureOutlineValue). x.id) e.2 in
       (e.0.1, ap (get fs) id ∙ each e.0 e.1, ap (λ (x : Text × FeatureOutlineValue). x.1) o.2 ∙ e.2 ∙ ap (λ q. feature_outline_of q e.0.1) (sym id))
 
@@ -99,5 +100,6 @@ module _ (fs : Features) (es : List Entry) (apart : IsDistinct same_text (map (�
   -- these are the outlines of the map's entries
   pub sorted_are : feature_outline_values sorted ≡ map (λ e. feature_outline_of e.0 e.1) (entries fs)
   sorted_are =
-      sym (values_of sorted) ∙ ap (map (λ (p : Text × FeatureOutlineValue). p.1)) (listed_is (get fs) feature_outline_of (map named sorted) listed (entries fs) (entries_sorted fs) (get-entries fs))
+      sym (values_of sorted) ∙ ap (map (λ (p : Text × FeatureOutlineValue). p.1)) (listed_is (get fs) feature_outline_of (map named sorted) listed (entries fs)
+      (entries_sorted fs) (get-entries fs))
       ∙ seen_outlines (entries fs)

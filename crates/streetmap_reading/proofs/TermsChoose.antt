@@ -1,5 +1,6 @@
 -- What the terms of the statements of a page and of a run choose.
-use Rattle.std.proofs.Common.{suc, ◌≡◌, ℕ, ℤ, ◌<ℤ◌, List, [], ◌∷◌, Bool, true, false, ◌&&◌, drop, Option, Some, None, option_map, Ordering, Less, Equal, Greater, refl, sym, ap, ap₂, ◌∙◌, arith}
+use Rattle.std.proofs.Common.{suc, ◌≡◌, ℕ, ℤ, ◌<ℤ◌, List, [], ◌∷◌, Bool, true, false, ◌&&◌, drop, Option, Some, None, option_map, Ordering, Less, Equal}
+use Rattle.std.proofs.Common.{Greater, refl, sym, ap, ap₂, ◌∙◌, arith}
 use Rattle.std.specs.Prelude.{int_le}
 use Rattle.std.specs.Ordering.{is_le, is_ge, int_cmp, MatchOrdering}
 use Rattle.std.specs.Cmp.{int_ranks}
@@ -111,10 +112,13 @@ in_box_is : (b : BoxValue) (f : FeatureValue) → in_box b f ≡ passes extent_o
 unfolding extent_in
 in_box_is b f = go f.geometry
   where
-    go : (g : Option GeometryValue) → (le_if (option_map (λ (x : BoxValue). x.x0) (option_map extent_of g)) b.x1 && (ge_if (option_map (λ (x : BoxValue). x.x1) (option_map extent_of g)) b.x0
-        && (le_if (option_map (λ (x : BoxValue). x.y0) (option_map extent_of g)) b.y1 && (ge_if (option_map (λ (x : BoxValue). x.y1) (option_map extent_of g)) b.y0 && true)))) ≡ passes extent_overlaps g (Some b)
+    go : (g : Option GeometryValue) → (le_if (option_map (λ (x : BoxValue). x.x0) (option_map extent_of g)) b.x1
+        && (ge_if (option_map (λ (x : BoxValue). x.x1) (option_map extent_of g)) b.x0
+        && (le_if (option_map (λ (x : BoxValue). x.y0) (option_map extent_of g)) b.y1 &&
+        (ge_if (option_map (λ (x : BoxValue). x.y1) (option_map extent_of g)) b.y0 && true)))) ≡ passes extent_overlaps g (Some b)
     go None = refl
-    go (Some g) = ap (λ t. int_le (extent_of g).x0 b.x1 && (int_le b.x0 (extent_of g).x1 && (int_le (extent_of g).y0 b.y1 && t))) (and_true (int_le b.y0 (extent_of g).y1))
+    go (Some g) = ap (λ t. int_le (extent_of g).x0 b.x1 && (int_le b.x0 (extent_of g).x1 && (int_le (extent_of g).y0 b.y1 && t)))
+        (and_true (int_le b.y0 (extent_of g).y1))
 
 abbrev in_time : IntervalValue → FeatureValue → Bool
 in_time i f = le_if (start f) (last_second i.end) && (ge_if (end f) (first_second i.start) && true)
@@ -123,7 +127,8 @@ in_time_is : (i : IntervalValue) (f : FeatureValue) → in_time i f ≡ passes s
 unfolding seconds_in
 in_time_is i f = go f.time
   where
-    go : (t : Option IntervalValue) → (le_if (option_map (λ (s : ℤ × ℤ). s.0) (option_map seconds_of t)) (last_second i.end) && (ge_if (option_map (λ (s : ℤ × ℤ). s.1) (option_map seconds_of t)) (first_second i.start) && true)) ≡ passes seconds_overlap t (Some i)
+    go : (t : Option IntervalValue) → (le_if (option_map (λ (s : ℤ × ℤ). s.0) (option_map seconds_of t)) (last_second i.end)
+        && (ge_if (option_map (λ (s : ℤ × ℤ). s.1) (option_map seconds_of t)) (first_second i.start) && true)) ≡ passes seconds_overlap t (Some i)
     go None = refl
     go (Some t) = ap (λ b. int_le (first_second t.start) (last_second i.end) && b) (and_true (int_le (first_second i.start) (last_second t.end)))
 
@@ -190,21 +195,26 @@ module _ (r : Row) (p : KeyPair) (f : FeatureValue) (cells : drop 1 r ≡ featur
   unfolding binary
   rows_in_turn name = ap (λ b. b && true) (ap (λ v. is_true (binary (Compare Eq Binary) (binary Coalesce v Null) (Words name))) one ∙ equal_texts p.0 name)
 
-  box_rows : (name : Text) (b : BoxValue) → keeps (in_collection ∷ box_terms []) (Words name ∷ box_params b []) r ≡ (same_text p.0 name && is_chosen (Some b) None f)
+  box_rows : (name : Text) (b : BoxValue) → keeps (in_collection ∷ box_terms []) (Words name ∷ box_params b []) r
+      ≡ (same_text p.0 name && is_chosen (Some b) None f)
   box_rows name b =
-      (λ i. named_is name i && (most 4 (west f) b.x1 four i && (least 6 (east f) b.x0 six i && (most 5 (south f) b.y1 five i && (least 7 (north f) b.y0 seven i && true)))))
+      (λ i. named_is name i && (most 4 (west f) b.x1 four i && (least 6 (east f) b.x0 six i
+      && (most 5 (south f) b.y1 five i && (least 7 (north f) b.y0 seven i && true)))))
       ∙ ap (λ t. same_text p.0 name && t) (in_box_is b f ∙ sym (and_true (passes extent_overlaps f.geometry (Some b))))
 
-  time_rows : (name : Text) (i : IntervalValue) → keeps (in_collection ∷ time_terms 1) (Words name ∷ time_params i) r ≡ (same_text p.0 name && is_chosen None (Some i) f)
+  time_rows : (name : Text) (i : IntervalValue) → keeps (in_collection ∷ time_terms 1) (Words name ∷ time_params i) r
+      ≡ (same_text p.0 name && is_chosen None (Some i) f)
   time_rows name i =
       (λ j. named_is name j && (most 8 (start f) (last_second i.end) eight j && (least 9 (end f) (first_second i.start) nine j && true)))
       ∙ ap (λ t. same_text p.0 name && t) (in_time_is i f)
 
-  both_rows : (name : Text) (b : BoxValue) (i : IntervalValue) → keeps (in_collection ∷ box_terms (time_terms 5)) (Words name ∷ box_params b (time_params i)) r ≡ (same_text p.0 name && is_chosen (Some b) (Some i) f)
+  both_rows : (name : Text) (b : BoxValue) (i : IntervalValue) → keeps (in_collection ∷ box_terms (time_terms 5)) (Words name ∷ box_params b (time_params i)) r
+      ≡ (same_text p.0 name && is_chosen (Some b) (Some i) f)
   both_rows name b i =
       (λ j. named_is name j && (most 4 (west f) b.x1 four j && (least 6 (east f) b.x0 six j && (most 5 (south f) b.y1 five j && (least 7 (north f) b.y0 seven j
       && (most 8 (start f) (last_second i.end) eight j && (least 9 (end f) (first_second i.start) nine j && true)))))))
-      ∙ ap (λ t. same_text p.0 name && t) (grouped (le_if (west f) b.x1) (ge_if (east f) b.x0) (le_if (south f) b.y1) (ge_if (north f) b.y0) (in_time i f) ∙ ap₂ (λ x y. x && y) (in_box_is b f) (in_time_is i f))
+      ∙ ap (λ t. same_text p.0 name && t) (grouped (le_if (west f) b.x1) (ge_if (east f) b.x0) (le_if (south f) b.y1) (ge_if (north f) b.y0) (in_time i f)
+      ∙ ap₂ (λ x y. x && y) (in_box_is b f) (in_time_is i f))
     where
       grouped : (v w x y z : Bool) → (v && (w && (x && (y && z)))) ≡ ((v && (w && (x && (y && true)))) && z)
       grouped true true true true z = refl
@@ -215,9 +225,12 @@ module _ (r : Row) (p : KeyPair) (f : FeatureValue) (cells : drop 1 r ≡ featur
 
   run_rows : (name first last : Text) → f.id ≡ p.1 → keeps run_terms (run_params name first last) r ≡ (same_text p.0 name && is_between first last f)
   run_rows name first last named =
-      let low : is_true (binary (Compare Ge Binary) (column r 2) (Words first)) ≡ is_ge (text_cmp f.id first) = ap (λ v. is_true (binary (Compare Ge Binary) v (Words first))) (two named) ∙ from_text f.id first in
-      let high : is_true (binary (Compare Le Binary) (column r 2) (Words last)) ≡ is_le (text_cmp f.id last) = ap (λ v. is_true (binary (Compare Le Binary) v (Words last))) (two named) ∙ to_text f.id last in
-      (λ i. named_is name i && (low i && (high i && true))) ∙ ap (λ t. same_text p.0 name && (is_ge (text_cmp f.id first) && t)) (and_true (is_le (text_cmp f.id last)))
+      let low : is_true (binary (Compare Ge Binary) (column r 2) (Words first)) ≡ is_ge (text_cmp f.id first) =
+      ap (λ v. is_true (binary (Compare Ge Binary) v (Words first))) (two named) ∙ from_text f.id first in
+      let high : is_true (binary (Compare Le Binary) (column r 2) (Words last)) ≡ is_le (text_cmp f.id last) =
+      ap (λ v. is_true (binary (Compare Le Binary) v (Words last))) (two named) ∙ to_text f.id last in
+      (λ i. named_is name i && (low i && (high i && true))) ∙ ap (λ t. same_text p.0 name && (is_ge (text_cmp f.id first) && t))
+      (and_true (is_le (text_cmp f.id last)))
 
 pub all_chooses : (name : Text) → Chooses (in_collection ∷ []) (Words name ∷ []) name (is_chosen None None)
 all_chooses name r p f cells = all_rows r p f cells name
@@ -231,9 +244,11 @@ box_chooses name b r p f cells = box_rows r p f cells name b
 pub time_chooses : (name : Text) (i : IntervalValue) → Chooses (in_collection ∷ time_terms 1) (Words name ∷ time_params i) name (is_chosen None (Some i))
 time_chooses name i r p f cells = time_rows r p f cells name i
 
-pub both_chooses : (name : Text) (b : BoxValue) (i : IntervalValue) → Chooses (in_collection ∷ box_terms (time_terms 5)) (Words name ∷ box_params b (time_params i)) name (is_chosen (Some b) (Some i))
+pub both_chooses : (name : Text) (b : BoxValue) (i : IntervalValue) → Chooses (in_collection ∷ box_terms (time_terms 5))
+    (Words name ∷ box_params b (time_params i)) name (is_chosen (Some b) (Some i))
 both_chooses name b i r p f cells = both_rows r p f cells name b i
 
 -- a feature of the state is under its own id
-pub run_chooses : (s : State) → ((p : KeyPair) (f : FeatureValue) → feature_at s p ≡ Some f → f.id ≡ p.1) → (name first last : Text) → ChoosesIn s run_terms (run_params name first last) name (is_between first last)
+pub run_chooses : (s : State) → ((p : KeyPair) (f : FeatureValue) → feature_at s p ≡ Some f → f.id ≡ p.1) → (name first last : Text) →
+    ChoosesIn s run_terms (run_params name first last) name (is_between first last)
 run_chooses s placed name first last r p f cells is = run_rows r p f cells name first last (placed p f is)

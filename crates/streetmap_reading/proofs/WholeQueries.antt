@@ -7,6 +7,9 @@ use Rattle.sqlite.proofs.Callers.{reads_as}
 use Rattle.streetmap_reading.specs.Candidates.{ShowsSuch}
 use Rattle.streetmap_rows.proofs.KeyReads.{shown_same}
 
-pub answered : (sql : List ℕ) (params : Row) (old new : Seen) (Are : List Row → Type 0) (shows : ShowsSuch sql params old.now Are) (given : List Row) → Shown sql params old new given → Are given × IsUnchanged old new
-answered sql params old new Are shows given h =
-    (shows.answers given (reads_as sql params old new old.now.schema refl (Select shows.program shows.names) shows.is shows.plain shows.unlisted given h), shown_same sql params old new given shows.plain h)
+pub answered : (sql : List ℕ) (params : Row) (old new : Seen) (Are : List Row → Type 0) (shows : ShowsSuch sql params old.now Are) (given : List Row) →
+    Shown sql params old new given → Are given × IsUnchanged old new
+answered sql params old new Are shows given h = (
+  shows.answers given (reads_as sql params old new old.now.schema refl (Select shows.program shows.names) shows.is shows.plain shows.unlisted given h),
+  shown_same sql params old new given shows.plain h,
+)

@@ -146,7 +146,8 @@ module _ (bs : List BatchValue) (w : All IsSoundBatch bs) where
       module _ {K : Type 0} (model : Model K) (a b : K) where
         module _ (count : ℕ) (t : State) (is : t ≡ follower bs (max k (highest (take count lines)))) where
           end_by : (read : List Line) (new : Option (List ℕ)) (why : Option FollowFault) →
-              (FollowingEndsBy model a b t read (Some input) new (Some ends.NotReported) → FollowerBy bs k lines count (Some ends.NotReported) (model.represents b)) →
+              (FollowingEndsBy model a b t read (Some input) new (Some ends.NotReported) →
+              FollowerBy bs k lines count (Some ends.NotReported) (model.represents b)) →
               FollowingEndsBy model a b t read (Some input) new why → FollowerBy bs k lines count why (model.represents b)
           end_by read new None untold h = subst (model.represents b) is h.1
           end_by read new (Some (ends.Unread batches.Memory)) untold h = subst (model.represents b) is h.3
@@ -167,8 +168,10 @@ module _ (bs : List BatchValue) (w : All IsSoundBatch bs) where
           end_by read new (Some ends.NotReported) untold h = untold h
 
         -- the last line was followed, and its reply was not reported
-        one_after : (read : List Line) (count : ℕ) → length read ≡ count → All IsInputLine read → (follow (follower bs k) read).fault ≡ None → (new : Option (List ℕ)) →
-            FollowingEndsBy model a b (follow (follower bs k) read).state read (Some input) new (Some ends.NotReported) → FollowerBy bs k lines count (Some ends.NotReported) (model.represents b)
+        one_after : (read : List Line) (count : ℕ) → length read ≡ count → All IsInputLine read → (follow (follower bs k) read).fault ≡ None →
+            (new : Option (List ℕ)) →
+            FollowingEndsBy model a b (follow (follower bs k) read).state read (Some input) new (Some ends.NotReported) →
+            FollowerBy bs k lines count (Some ends.NotReported) (model.represents b)
         one_after read count counted all whole None h = absurd h.2
         one_after read count counted all whole (Some rest) h =
             let line = h.0 in
@@ -181,7 +184,8 @@ module _ (bs : List BatchValue) (w : All IsSoundBatch bs) where
             h.2 (ap (λ (f : ReportsOutcome). f.fault) more) in
             subst (model.represents b) (sym (ap (λ (f : ReportsOutcome). f.state) more) ∙ last) h.3.2
 
-pub follower_by : {K T : Type 0} (model : Model K) (a b : K) (bs : List BatchValue) → All IsSoundBatch bs → (k : ℕ) (lines : List Line) (old new : Option (List ℕ)) (reports : T → Text → Reply → T → Type 0)
+pub follower_by : {K T : Type 0} (model : Model K) (a b : K) (bs : List BatchValue) → All IsSoundBatch bs →
+    (k : ℕ) (lines : List Line) (old new : Option (List ℕ)) (reports : T → Text → Reply → T → Type 0)
     (first last : T) (result : Followed) → IsOfJournal bs lines old → FollowsLines model a b (follower bs k) old new reports first last result →
     FollowerBy bs k lines result.count result.fault (model.represents b)
 follower_by model a b bs w k lines None new reports first last result of h = absurd of

@@ -41,7 +41,8 @@ module _ {K : Type 0} (model : Model K) where
 
 module _ {K : Type 0} {model : Model K} where
   -- a shut keeper answered `Reopen`
-  same_if : {a b : K} (fault : Fault) → IsCall {T = Unit {0}} model a b (Err fault) → IsSome (model.cause a) → LeavesSame (model.may_leave a) (model.may_leave b)
+  same_if : {a b : K} (fault : Fault) → IsCall {T = Unit {0}} model a b (Err fault) → IsSome (model.cause a) →
+      LeavesSame (model.may_leave a) (model.may_leave b)
   same_if {a} Memory call shut = not_shut (model.cause a) call.faults.0 shut
   same_if {a} Device call shut = not_shut (model.cause a) call.faults.0 shut
   same_if {a} Damaged call shut = not_shut (model.cause a) call.faults.0 shut

@@ -105,7 +105,8 @@ taken_more old now later read line bytes is h k =
 
 -- ---- on the way
 
-pub record Underway {K T : Type 0} (model : Model K) (now : K) (s : State) (input rest : Option (List ℕ)) (reports : T → Text → Reply → T → Type 0) (first last : T) (count : ℕ) : Type 0 where
+pub record Underway {K T : Type 0} (model : Model K) (now : K) (s : State) (input rest : Option (List ℕ)) (reports : T → Text → Reply → T → Type 0)
+    (first last : T) (count : ℕ) : Type 0 where
   pub read : List Line
   pub counted : length read ≡ count
   pub lines : All IsInputLine read
@@ -115,7 +116,8 @@ pub record Underway {K T : Type 0} (model : Model K) (now : K) (s : State) (inpu
   pub reported : ReportsAll reports first (answers read (follow s read).replies) last
   pub there : model.represents now (follow s read).state
 
-pub begins : {K T : Type 0} (model : Model K) (k : K) (s : State) (input : Option (List ℕ)) (reports : T → Text → Reply → T → Type 0) (first : T) → model.represents k s
+pub begins : {K T : Type 0} (model : Model K) (k : K) (s : State) (input : Option (List ℕ)) (reports : T → Text → Reply → T → Type 0) (first : T) →
+    model.represents k s
     → Underway model k s input input reports first first 0
 begins model k s input reports first h = record {
   read = [];
@@ -128,7 +130,8 @@ begins model k s input reports first h = record {
   there = h;
 }
 
-pub goes_further : {K T : Type 0} (model : Model K) (l m : K) (s : State) (input now later : Option (List ℕ)) (reports : T → Text → Reply → T → Type 0) (first mid last : T) (count : ℕ)
+pub goes_further : {K T : Type 0} (model : Model K) (l m : K) (s : State) (input now later : Option (List ℕ)) (reports : T → Text → Reply → T → Type 0)
+    (first mid last : T) (count : ℕ)
     (it : Underway model l s input now reports first mid count) (bytes : List ℕ) (line : Line) (o : Outcome) → IsJournalLine bytes line → HasNoLineFeed bytes →
     length bytes ≤ most_bytes → Consumes now later (bytes ++ 10 ∷ []) →
     line_outcome (follow s it.read).state line ≡ Ok o → model.represents m o.state →

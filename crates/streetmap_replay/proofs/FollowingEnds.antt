@@ -73,7 +73,8 @@ long_after (Some xs) (Some ys) bytes h long = (ys, h, long)
 -- ---- continuing, and ending
 
 -- the keeper's answer to the line that ended it
-pub ends_by : {K : Type 0} {model : Model K} {a b : K} (fault : FollowFault) → IsOfLine fault → AreCalls model a b (answer_of {T = Reply} (Err fault)) → AreCalls model a b (end_answer (Some fault))
+pub ends_by : {K : Type 0} {model : Model K} {a b : K} (fault : FollowFault) → IsOfLine fault → AreCalls model a b (answer_of {T = Reply} (Err fault)) →
+    AreCalls model a b (end_answer (Some fault))
 ends_by (ends.Unread fault) of_line calls = calls
 ends_by ends.NotNext of_line calls = no_fault calls
 ends_by (ends.Refused why place) of_line calls = no_fault calls
@@ -104,7 +105,8 @@ ends_at model k m t read input later ends.CutLine of_line h = absurd of_line
 ends_at model k m t read input later (ends.NotRead fault) of_line h = absurd of_line
 ends_at model k m t read input later ends.NotReported of_line h = absurd of_line
 
-module _ {K T : Type 0} (model : Model K) (k l m : K) (s : State) (input now later : Option (List ℕ)) (reports : T → Text → Reply → T → Type 0) (first mid last : T) (count : ℕ)
+module _ {K T : Type 0} (model : Model K) (k l m : K) (s : State) (input now later : Option (List ℕ)) (reports : T → Text → Reply → T → Type 0)
+    (first mid last : T) (count : ℕ)
     (it : Underway model l s input now reports first mid count) where
   pub further : (bytes : List ℕ) (a : Acknowledged) → FollowsLine model l m bytes (Ok a) → model.is_clean m → HasNoLineFeed bytes →
       length bytes ≤ most_bytes → Consumes now later (bytes ++ 10 ∷ []) →
@@ -139,7 +141,8 @@ module _ {K T : Type 0} (model : Model K) (k l m : K) (s : State) (input now lat
         );
       }
 
-  pub stopped : (bytes : List ℕ) (fault : FollowFault) → AreCalls model k l None → FollowsLine model l m bytes (Err fault) → model.is_clean m → HasNoLineFeed bytes →
+  pub stopped : (bytes : List ℕ) (fault : FollowFault) → AreCalls model k l None → FollowsLine model l m bytes (Err fault) → model.is_clean m →
+      HasNoLineFeed bytes →
       length bytes ≤ most_bytes → Consumes now later (bytes ++ 10 ∷ []) →
       FollowsLines model k m s input later reports first mid (record { count = count; fault = Some fault })
   stopped bytes fault before says clean one short took =
@@ -155,7 +158,8 @@ module _ {K T : Type 0} (model : Model K) (k l m : K) (s : State) (input now lat
           says.line,
           is_input bytes says.line says.is one short,
           taken_more input now later it.read says.line bytes says.is it.taken took,
-          follows_from model k l m t (line_outcome t says.line) (Err fault) (model.fails_later k l m before.preserved says.followed.calls.preserved) (says.followed.follows clean t it.there),
+          follows_from model k l m t (line_outcome t says.line) (Err fault) (model.fails_later k l m before.preserved says.followed.calls.preserved)
+              (says.followed.follows clean t it.there),
         );
       }
 

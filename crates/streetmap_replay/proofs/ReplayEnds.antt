@@ -50,7 +50,8 @@ module _ (s t : State) (given : GivesAll s t) where
     keys = ap (λ (x : State). x.keys) given.followed.there ∙ given.keys;
   }
 
-  pub compared : {K T : Type 0} (model : Model K) (a b : K) (result : Result T ReplayFault) → Compares s t (s.collections ≡ t.collections) result → Stays model a b t (fresh_end result)
+  pub compared : {K T : Type 0} (model : Model K) (a b : K) (result : Result T ReplayFault) → Compares s t (s.collections ≡ t.collections) result →
+      Stays model a b t (fresh_end result)
       → Checks s result (model.represents b)
   compared model a b (Ok done) h stays = (replays h, subst (model.represents b) (whole_same h) stays)
   compared model a b (Err (Kept fault)) h stays = tt
@@ -63,7 +64,8 @@ module _ (s t : State) (given : GivesAll s t) where
     subst (λ (u : State). Differs s u (string_bytes name)) (sym given.followed.there) h,
   )
 
-pub not_given : (s : State) (fault : ReplayFault) (fresh : State → Type 0) → GivesBatches {T = Unit {0}} s (Err fault) fresh → Checks {T = Unit {0}} s (Err fault) fresh
+pub not_given : (s : State) (fault : ReplayFault) (fresh : State → Type 0) → GivesBatches {T = Unit {0}} s (Err fault) fresh →
+    Checks {T = Unit {0}} s (Err fault) fresh
 not_given s (Kept fault) fresh h = h
 not_given s (Fresh fault) fresh h = h
 not_given s Memory fresh h = h
@@ -71,7 +73,8 @@ not_given s (Batch serial) fresh h = h
 not_given s (Collection name) fresh h = absurd h
 
 -- a part with a batch that its text does not reproduce
-pub part_fault : (s : State) (n : ℕ) (fault : ReplayFault) (fresh : State → Type 0) → IsState s → GivesPart {T = Unit {0}} s n (Err fault) fresh → GivesBatches {T = Unit {0}} s (Err fault) fresh
+pub part_fault : (s : State) (n : ℕ) (fault : ReplayFault) (fresh : State → Type 0) → IsState s → GivesPart {T = Unit {0}} s n (Err fault) fresh →
+    GivesBatches {T = Unit {0}} s (Err fault) fresh
 part_fault s n (Kept fault) fresh sound it = absurd it
 part_fault s n (Fresh fault) fresh sound it = it
 part_fault s n Memory fresh sound it = it

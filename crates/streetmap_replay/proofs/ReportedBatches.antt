@@ -44,7 +44,8 @@ after_is s b (Refused why place) e = (refused_changes_nothing s b why place e).0
 
 module _ {K : Type 0} (model : Model K) where
   -- calls were made before
-  pub follows_from : (a b c : K) (s : State) (outcome : Result Outcome LineFault) (r : Result Reply FollowFault) → (model.fails b c → model.fails a c) → Follows model b c s outcome r
+  pub follows_from : (a b c : K) (s : State) (outcome : Result Outcome LineFault) (r : Result Reply FollowFault) → (model.fails b c → model.fails a c) →
+      Follows model b c s outcome r
       → Follows model a c s outcome r
   follows_from a b c s outcome (Ok reply) before h = h
   follows_from a b c s outcome (Err (Unread (BadBatch place))) before h = h
@@ -63,9 +64,14 @@ module _ {K : Type 0} (model : Model K) where
   follows_from a b c s outcome (Err stops.NotReported) before h = h
 
   -- the keeper failed during the write
-  stops_at : (a b : K) (s : State) (batch : BatchValue) (fault : Fault) → Writes model a b s batch (Err fault) → Follows model a b s (acted s (Ok batch)) (Err (Stopped fault))
+  stops_at : (a b : K) (s : State) (batch : BatchValue) (fault : Fault) → Writes model a b s batch (Err fault) →
+      Follows model a b s (acted s (Ok batch)) (Err (Stopped fault))
   stops_at a b s batch Memory h = h
-  stops_at a b s batch Device h = (h.0, subst (λ (t : State). LeavesEither (model.may_leave b) (Some s) (Some t)) (after_is s batch (act s batch).reply refl) h.1)
+  stops_at a b s batch Device h = (
+    h.0,
+    subst (λ (t : State). LeavesEither (model.may_leave b) (Some s) (Some t)) (after_is s batch (act s batch).reply refl)
+        h.1,
+  )
   stops_at a b s batch Damaged h = h
   stops_at a b s batch Reopen h = h
 
@@ -79,7 +85,8 @@ module _ {K : Type 0} (model : Model K) where
 
 module _ {K : Type 0} {model : Model K} where
   -- the batch was answered
-  pub written : {a b : K} (batch : BatchValue) (reported : Reply) → IsWrite model a b batch (Ok reported) → IsFollowed model a b (λ s. acted s (Ok batch)) (line_reply reported)
+  pub written : {a b : K} (batch : BatchValue) (reported : Reply) → IsWrite model a b batch (Ok reported) →
+      IsFollowed model a b (λ s. acted s (Ok batch)) (line_reply reported)
   written batch (Accepted counts serial) write = record {
     of_line = tt;
     calls = answered write.call;
@@ -107,7 +114,8 @@ module _ {K : Type 0} {model : Model K} where
   }
 
   -- the batch was not answered, since the keeper failed
-  pub failed_write : {a b : K} (batch : BatchValue) (fault : Fault) → IsWrite model a b batch (Err fault) → IsFollowed model a b (λ s. acted s (Ok batch)) (Err (Stopped fault))
+  pub failed_write : {a b : K} (batch : BatchValue) (fault : Fault) → IsWrite model a b batch (Err fault) →
+      IsFollowed model a b (λ s. acted s (Ok batch)) (Err (Stopped fault))
   failed_write {a} {b} batch fault write = record {
     of_line = tt;
     calls = failed write.call;
@@ -117,7 +125,8 @@ module _ {K : Type 0} {model : Model K} where
   -- ---- a batch with its serial
 
   -- whose serial is the next one
-  pub next_followed : {a b c : K} {r : Result Reply FollowFault} {next : Bool} (serial : ℕ) (batch : BatchValue) → IsRead model a b (Ok next) (λ s n. n ≡ is_next s serial batch) → next ≡ true
+  pub next_followed : {a b c : K} {r : Result Reply FollowFault} {next : Bool} (serial : ℕ) (batch : BatchValue) →
+      IsRead model a b (Ok next) (λ s n. n ≡ is_next s serial batch) → next ≡ true
       → IsFollowed model b c (λ s. acted s (Ok batch)) r → IsFollowed model a c (λ s. acted_next s serial (Ok batch)) r
   next_followed {a} {b} {c} {r} {next} serial batch read is then = record {
     of_line = then.of_line;
@@ -141,7 +150,8 @@ module _ {K : Type 0} {model : Model K} where
   }
 
   -- of which this is not known, since the keeper failed
-  pub next_failed : {T : Type 0} {a b : K} {fault : Fault} {Is : State → T → Type 0} (outcome : State → Result Outcome LineFault) → IsRead model a b (Err fault) Is
+  pub next_failed : {T : Type 0} {a b : K} {fault : Fault} {Is : State → T → Type 0} (outcome : State → Result Outcome LineFault) →
+      IsRead model a b (Err fault) Is
       → IsFollowed model a b outcome (Err (Stopped fault))
   next_failed {T} {a} {b} {fault} {Is} outcome read = record {
     of_line = tt;
@@ -168,7 +178,8 @@ unread_by s (Some serial) read fault e = ap (acted_next s serial) e
 
 module _ {K : Type 0} (model : Model K) where
   unread_follows : (k : K) (s : State) (outcome : Result Outcome LineFault) (read : Result BatchValue BatchFault) (fault : BatchFault)
-      → ((why : BatchFault) → read ≡ Err why → outcome ≡ Err (unread why)) → Fails fault read → model.represents k s → Follows model k k s outcome (Err (Unread fault))
+      → ((why : BatchFault) → read ≡ Err why → outcome ≡ Err (unread why)) → Fails fault read → model.represents k s →
+      Follows model k k s outcome (Err (Unread fault))
   unread_follows k s outcome read (BadBatch place) is fails h = (is (BadBatch place) fails, h)
   unread_follows k s outcome read BadKey is fails h = (is BadKey fails, h)
   unread_follows k s outcome read TooManyEdits is fails h = (is TooManyEdits fails, h)
@@ -191,7 +202,8 @@ module _ {K : Type 0} (model : Model K) where
     }
 
     -- a line whose batch was given to the keeper
-    followed_as : {a b : K} (batch : BatchValue) (r : Result Reply FollowFault) → batch_of line.text.now ≡ Ok batch → IsFollowed model a b (λ s. acted_with s line.serial (Ok batch)) r
+    followed_as : {a b : K} (batch : BatchValue) (r : Result Reply FollowFault) → batch_of line.text.now ≡ Ok batch →
+        IsFollowed model a b (λ s. acted_with s line.serial (Ok batch)) r
         → IsFollowed model a b (λ s. line_outcome s (line_value line)) r
     followed_as {a} {b} batch r e followed = record {
       of_line = followed.of_line;

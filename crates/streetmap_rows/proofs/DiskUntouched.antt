@@ -160,7 +160,8 @@ module _ (task : Task) where
   deletes q db = next (queried task.limit _ q task.params) (λ rows. next (edited task.schema task.keys db _) (λ after. gives))
 
   inserts : (from : Source) (db : Trees) → NoDiskErrors (Inserts task from db)
-  inserts from db = next (sourced task.limit _ _ from) (λ rows. next (counter db) (λ row. next (edited task.schema task.keys db _) (λ mid. next (counts mid row _) (λ after. gives))))
+  inserts from db = next (sourced task.limit _ _ from) (λ rows. next (counter db) (λ row.
+      next (edited task.schema task.keys db _) (λ mid. next (counts mid row _) (λ after. gives))))
 
   puts : (new : Row) (db : Trees) → NoDiskErrors (Puts task new db)
   puts new db = next (edited task.schema task.keys db _) (λ after. gives)
@@ -185,7 +186,10 @@ module _ (task : Task) where
   upserts : (way : Conflict) (new : Row) (db : Trees) (clauses : List Upsert)
       → NoDiskErrors (Upserts task way new db clauses)
   upserts way new db [] = record { no_disk_errors = λ e h. (clears way new db h.0).no_disk_errors e h.2 }
-  upserts way new db (clause ∷ more) = record { no_disk_errors = λ e h. (meets (Upserts task way new db more) new db clause h.0 (upserts way new db more)).no_disk_errors e h.2 }
+  upserts way new db (clause ∷ more) = record {
+    no_disk_errors = λ e h. (meets (Upserts task way new db more) new db clause h.0
+        (upserts way new db more)).no_disk_errors e h.2;
+  }
 
   judged : (way : Conflict) (clauses : List Upsert) (new : Row) (db : Trees) (verdict : Option Refusal)
       → NoDiskErrors (Judged task way clauses new db verdict)
@@ -194,7 +198,13 @@ module _ (task : Task) where
 
   tries : (way : Conflict) (clauses : List Upsert) (new : Row) (db : Trees)
       → NoDiskErrors (Tries task way clauses new db)
-  tries way clauses new db = record { no_disk_errors = λ e h. elim h [ inl full ↦ let same : e ≡ SqliteFailure NoRowid = let is = full.1 in cc in ap is_disk_error same | inr tried ↦ (judged way clauses new db tried.0).no_disk_errors e tried.2 ] }
+  tries way clauses new db = record {
+    no_disk_errors = λ e h. elim h [
+      | inl full ↦ let same : e ≡ SqliteFailure NoRowid = let is = full.1 in cc in
+          ap is_disk_error same
+      | inr tried ↦ (judged way clauses new db tried.0).no_disk_errors e tried.2
+    ];
+  }
 
   tries_each : (way : Conflict) (clauses : List Upsert) (rows : List Row) (top : ℤ) (done : Written)
       → NoDiskErrors (TriesEach task way clauses rows top done)
@@ -204,7 +214,8 @@ module _ (task : Task) where
   inserts_or : (way : Conflict) (clauses : List Upsert) (from : Source) (db : Trees)
       → NoDiskErrors (InsertsOr task way clauses from db)
   inserts_or way clauses from db =
-      next (sourced task.limit _ _ from) (λ rows. next (counter db) (λ row. next (tries_each way clauses rows _ _) (λ done. next (counts done.0.trees row done.1) (λ after. gives))))
+      next (sourced task.limit _ _ from) (λ rows. next (counter db) (λ row. next (tries_each way clauses rows _ _)
+      (λ done. next (counts done.0.trees row done.1) (λ after. gives))))
 
   abbrev reported : Option Error → Bool
   reported None = false
@@ -264,7 +275,8 @@ module _ (task : Task) where
   left_out schema db = record { no_disk_errors = λ e h. absurd h }
 
   drops : (mode : Mode) (db : Trees) → NoDiskErrors (Drops task mode db)
-  drops mode db = next (empties db) (λ emptied. next (uncounts_in emptied (if task.table.is_counted then sequence task.schema else None)) (λ now. next (tested mode (HoldWithout task now)) (λ in_doubt. next (left_out (without_table task.schema task.table.tree) now) (λ after. gives))))
+  drops mode db = next (empties db) (λ emptied. next (uncounts_in emptied (if task.table.is_counted then sequence task.schema else None))
+      (λ now. next (tested mode (HoldWithout task now)) (λ in_doubt. next (left_out (without_table task.schema task.table.tree) now) (λ after. gives))))
 
 -- ---- a statement
 

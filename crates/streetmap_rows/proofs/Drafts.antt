@@ -52,4 +52,15 @@ rising = record { collation = Binary; descending = false }
 
 -- a query of one table
 abbrev pub draft : ℕ → List Term → List Term → List (Term × Key) → Draft
-draft tree filter project order = record { from = chain (Inner tree ∷ []); filter = filter; group = None; project = project; distinct = false; collations = []; order = order; limit = lit (Int (negsuc 0)); offset = number 0 }
+draft tree filter project order = record {
+  from = chain (Inner tree ∷ []);
+  filter = filter;
+  group = None;
+  project = project;
+  distinct = false;
+  collations =
+      [];
+  order = order;
+  limit = lit (Int (negsuc 0));
+  offset = number 0;
+}

@@ -61,7 +61,11 @@ module _ (old new : Seen) where
   no_statement : (sql : List ℕ) (params : Row) (e : Error) → IsNoStatement old sql params e
       → is_disk_error e ≡ false
   no_statement sql params e (inl missing) = ap is_disk_error missing.2
-  no_statement sql params e (inr other) = elim other.2 [ inl cut ↦ ap is_disk_error cut.1 | inr more ↦ elim more [ inl few ↦ ap is_disk_error few.1 | inr timeless ↦ ap is_disk_error timeless.1 ] ]
+  no_statement sql params e (inr other) = elim other.2 [
+    | inl cut ↦ ap is_disk_error cut.1
+    | inr more ↦ elim more
+        [ inl few ↦ ap is_disk_error few.1 | inr timeless ↦ ap is_disk_error timeless.1 ]
+  ]
 
   pub not_run : (sql : List ℕ) (params : Row) (e : Error) → IsNotRun old new sql params e
       → HasReason old new e
@@ -159,7 +163,8 @@ module _ (old new : Seen) where
   queried_inside sql params e (inr late) = other old new e (ap is_disk_error late.4)
 
   -- of a statement in a transaction, or in one that a failure ended
-  pub run_inside : {Same : Type 0} (sql : List ℕ) (params : Row) (e : Error) → (old.in_transaction ≡ false → (◌≡◌ {A = Result ℕ Error} (Err e) (Err (SqliteFailure TransactionState))) × Same)
+  pub run_inside : {Same : Type 0} (sql : List ℕ) (params : Row) (e : Error) → (old.in_transaction ≡ false →
+      (◌≡◌ {A = Result ℕ Error} (Err e) (Err (SqliteFailure TransactionState))) × Same)
       → (IsTrue old.in_transaction → ExecutesInsideIn false 0 sql params old new (Err e)) → HasReason old new e
   run_inside sql params e ended runs = elim (cases_Bool old.in_transaction) [
     | inl inside ↦ executed_inside false 0 sql params e (runs inside)

@@ -1,5 +1,6 @@
 -- The INSERT of twenty-five features as it runs.
-use Rattle.std.proofs.Common.{◌≡◌, zero, suc, ◌≢◌, ℕ, ℤ, List, [], ◌∷◌, ◌++◌, ◌&&◌, Bool, true, is_some, map, drop, length, Option, Some, None, Ok, option_map, refl, sym, ap, subst, ◌∙◌}
+use Rattle.std.proofs.Common.{◌≡◌, zero, suc, ◌≢◌, ℕ, ℤ, List, [], ◌∷◌, ◌++◌, ◌&&◌, Bool, true, is_some, map, drop, length, Option, Some, None, Ok, option_map}
+use Rattle.std.proofs.Common.{refl, sym, ap, subst, ◌∙◌}
 use Rattle.std.specs.List.{AllByRecursion}
 use Rattle.std.specs.FinMap.{get}
 use Rattle.sqlite.specs.declared.types.Value.TheVariants.{Int}
@@ -61,7 +62,15 @@ s1 f = option_map (λ (s : ℤ × ℤ). s.1) (seconds_in f)
 -- the columns take the row as it is
 cast_is : (tree : ℕ) (name : Text) (e : Entry) → cast_row (features tree) (bare name e) ≡ bare name e
 unfolding x0 y0 x1 y1 s0 s1
-cast_is tree name e = rw (cast_null, (whole_null (x0 e.1)).cast_is, (whole_null (y0 e.1)).cast_is, (whole_null (x1 e.1)).cast_is, (whole_null (y1 e.1)).cast_is, (whole_null (s0 e.1)).cast_is, (whole_null (s1 e.1)).cast_is) refl
+cast_is tree name e = rw (
+  cast_null,
+  (whole_null (x0 e.1)).cast_is,
+  (whole_null (y0 e.1)).cast_is,
+  (whole_null (x1 e.1)).cast_is,
+  (whole_null (y1 e.1)).cast_is,
+  (whole_null (s0 e.1)).cast_is,
+  (whole_null (s1 e.1)).cast_is,
+) refl
 
 cast_are : (tree : ℕ) (name : Text) (es : List Entry) → map (λ (s : Row). cast_row (features tree) (drop 0 s)) (map (bare name) es) ≡ map (bare name) es
 cast_are tree name [] = refl
@@ -79,18 +88,31 @@ numbers_taken f more =
     && (is_some (class_of (or_null Int (y1 f))) && (is_some (class_of (or_null Int (s0 f))) && (is_some (class_of (or_null Int (s1 f))) && more)))))
 
 taken : (f : FeatureValue) (more : Bool) → more ≡ true → numbers_taken f more ≡ true
-taken f more h = rw ((whole_null (x0 f)).classed, (whole_null (y0 f)).classed, (whole_null (x1 f)).classed, (whole_null (y1 f)).classed, (whole_null (s0 f)).classed, (whole_null (s1 f)).classed, h) refl
+taken f more h = rw (
+  (whole_null (x0 f)).classed,
+  (whole_null (y0 f)).classed,
+  (whole_null (x1 f)).classed,
+  (whole_null (y1 f)).classed,
+  (whole_null (s0 f)).classed,
+  (whole_null (s1 f)).classed,
+  h,
+) refl
 
 pub record AreGiven (name : Text) (es : List Entry) : Type 0 where
   pub count : length (cells_of name es) ≡ 225
   pub accepted : accepts_terms compile.insert_features_terms (cells_of name es) ≡ true
   pub rows : value_rows (cells_of name es) 10 25 compile.insert_features_terms ≡ map (bare name) es
 
-all_given : (name : Text) (e1 e2 e3 e4 e5 e6 e7 e8 e9 e10 e11 e12 e13 e14 e15 e16 e17 e18 e19 e20 e21 e22 e23 e24 e25 : Entry) → AreGiven name (e1 ∷ e2 ∷ e3 ∷ e4 ∷ e5 ∷ e6 ∷ e7 ∷ e8 ∷ e9 ∷ e10 ∷ e11 ∷ e12 ∷ e13 ∷ e14 ∷ e15 ∷ e16 ∷ e17 ∷ e18 ∷ e19 ∷ e20 ∷ e21 ∷ e22 ∷ e23 ∷ e24 ∷ e25 ∷ [])
+all_given : (name : Text) (e1 e2 e3 e4 e5 e6 e7 e8 e9 e10 e11 e12 e13 e14 e15 e16 e17 e18 e19 e20 e21 e22 e23 e24 e25 : Entry) →
+    AreGiven name (e1 ∷ e2 ∷ e3 ∷ e4 ∷ e5 ∷ e6 ∷ e7 ∷ e8 ∷ e9 ∷ e10 ∷ e11 ∷ e12 ∷ e13 ∷ e14 ∷ e15 ∷ e16 ∷ e17 ∷ e18 ∷ e19 ∷ e20 ∷ e21 ∷ e22 ∷ e23 ∷ e24 ∷ e25
+    ∷ [])
 unfolding x0 y0 x1 y1 s0 s1
 all_given name e1 e2 e3 e4 e5 e6 e7 e8 e9 e10 e11 e12 e13 e14 e15 e16 e17 e18 e19 e20 e21 e22 e23 e24 e25 = record {
   count = refl;
-  accepted = taken e1.1 _ (taken e2.1 _ (taken e3.1 _ (taken e4.1 _ (taken e5.1 _ (taken e6.1 _ (taken e7.1 _ (taken e8.1 _ (taken e9.1 _ (taken e10.1 _ (taken e11.1 _ (taken e12.1 _ (taken e13.1 _ (taken e14.1 _ (taken e15.1 _ (taken e16.1 _ (taken e17.1 _ (taken e18.1 _ (taken e19.1 _ (taken e20.1 _ (taken e21.1 _ (taken e22.1 _ (taken e23.1 _ (taken e24.1 _ (taken e25.1 true refl))))))))))))))))))))))));
+  accepted = taken e1.1 _ (taken e2.1 _ (taken e3.1 _ (taken e4.1 _ (taken e5.1 _ (taken e6.1 _
+      (taken e7.1 _ (taken e8.1 _ (taken e9.1 _ (taken e10.1 _ (taken e11.1 _ (taken e12.1 _
+      (taken e13.1 _ (taken e14.1 _ (taken e15.1 _ (taken e16.1 _ (taken e17.1 _ (taken e18.1 _
+      (taken e19.1 _ (taken e20.1 _ (taken e21.1 _ (taken e22.1 _ (taken e23.1 _ (taken e24.1 _ (taken e25.1 true refl))))))))))))))))))))))));
   rows = refl;
 }
 
@@ -108,7 +130,8 @@ for_many (suc n) P each (e ∷ es) h = for_many n (λ more. P (e ∷ more)) (eac
 pub are_given : (name : Text) (es : List Entry) → length es ≡ 25 → AreGiven name es
 are_given name es n = for_many 25 (AreGiven name) (all_given name) es n
 
-module _ (old new : Seen) (s : State) (represented : StandsFor s old.now) (limit : old.step_limit ≡ None) (name : Text) (es : List Entry) (given : AreGiven name es) where
+module _ (old new : Seen) (s : State) (represented : StandsFor s old.now) (limit : old.step_limit ≡ None) (name : Text) (es : List Entry)
+    (given : AreGiven name es) where
   abbrev roots : Roots
   roots = represented.roots
 
@@ -130,25 +153,33 @@ module _ (old new : Seen) (s : State) (represented : StandsFor s old.now) (limit
   abbrev news : List Row
   news = news_of name es (db roots.features)
 
-  made : (sources : List Row) → sources ≡ map (bare name) es → edit_of db (features roots.features) [] Chosen 0 sources ≡ record { table = features roots.features; gone = []; news = news }
+  made : (sources : List Row) → sources ≡ map (bare name) es → edit_of db (features roots.features) [] Chosen 0 sources
+      ≡ record { table = features roots.features; gone = []; news = news }
   made sources is =
       ap (λ (rows : List Row). edit_of db (features roots.features) [] Chosen 0 rows) is
-      ∙ ap (λ (rows : List Row). record { table = features roots.features; gone = []; news = numbered Chosen (db roots.features) rows }) (cast_are roots.features name es)
+      ∙ ap (λ (rows : List Row). record { table = features roots.features; gone = []; news = numbered Chosen (db roots.features) rows })
+      (cast_are roots.features name es)
 
-  pub put_represented : (c : Collection) → get s.collections name ≡ Some c → AllByRecursion (λ (e : Entry). IsFeature e.1) es → (count : ℕ) → Executes insert_features (cells_of name es) old new (Ok count) → (t : State) × PutsEach name es s t × StandsFor t new.now × IsSameElsewhere old.now new.now
+  pub put_represented : (c : Collection) → get s.collections name ≡ Some c → AllByRecursion (λ (e : Entry). IsFeature e.1) es → (count : ℕ) →
+      Executes insert_features (cells_of name es) old new (Ok count) → (t : State) × PutsEach name es s t × StandsFor t new.now
+      × IsSameElsewhere old.now new.now
   put_represented c collected fine count h =
-      let r = run.inserted _ roots.features _ _ _ _ _ in_features.at compile.insert_features_terms 10 insert_features (cells_of name es) old new schema news refl limit (command_is schema insert_features 225 _ means) (is_plain schema insert_features 225 _ means) fit given.accepted in_features.listed (made _ given.rows) count h in
+      let r = run.inserted _ roots.features _ _ _ _ _ in_features.at compile.insert_features_terms 10 insert_features (cells_of name es) old new schema news
+      refl limit (command_is schema insert_features 225 _ means) (is_plain schema insert_features 225 _ means) fit given.accepted in_features.listed
+      (made _ given.rows) count h in
       let ours = subst (IsOurs roots) (sym r.same_schema) represented.ours in
       let kept = λ (t : Table) (there : Has schema.tables t) (other : t.tree ≢ roots.features). all_has _ schema.tables t r.step.tables there other in
       let sound = subst (λ d. Rattle.sqlite.specs.Effect.IsDatabase (record { schema = d; trees = new.now.trees })) r.same_schema r.sound in
       let put : ArePut roots schema represented.ours name db new.now.trees es = record {
         fresh = r.step.fresh;
         rows = r.step.rows;
-        collections = kept (collections roots.collections) (placing.collections_there roots schema represented.ours) (placing.collections_features roots schema represented.ours);
+        collections = kept (collections roots.collections) (placing.collections_there roots schema represented.ours)
+            (placing.collections_features roots schema represented.ours);
         meta = kept (meta roots.meta) (placing.meta_there roots schema represented.ours) (placing.meta_features roots schema represented.ours);
         batches = kept (batches roots.batches) (placing.batches_there roots schema represented.ours) (placing.batches_features roots schema represented.ours);
       } in
-      let it = leads roots schema represented.ours name es s db new.now.trees represented.of represented.readable c collected fine put (are_apart roots schema represented.ours name new.now.trees sound) in (
+      let it = leads roots schema represented.ours name es s db new.now.trees represented.of represented.readable c collected fine put
+      (are_apart roots schema represented.ours name new.now.trees sound) in (
         it.state,
         it.puts,
         record { roots = roots; ours = ours; of = it.of; readable = it.readable; sound = r.sound },

@@ -1,5 +1,6 @@
 -- Why a fixed statement may be refused.
-use Rattle.std.proofs.Common.{◌≡◌, ◌⊎◌, inl, inr, ℕ, zero, suc, List, [], ◌∷◌, length, Option, None, Some, Ok, Err, sym, ap, subst, subst₂, ◌∙◌, append-nil, length-append, arith}
+use Rattle.std.proofs.Common.{◌≡◌, ◌⊎◌, inl, inr, ℕ, zero, suc, List, [], ◌∷◌, length, Option, None, Some, Ok, Err, sym, ap, subst, subst₂, ◌∙◌, append-nil}
+use Rattle.std.proofs.Common.{length-append, arith}
 use Rattle.sqlite.specs.Order.{Row}
 use Rattle.sqlite.specs.Schema.{Schema}
 use Rattle.sqlite.specs.Command.{Command}
@@ -17,10 +18,12 @@ use Rattle.sqlite_rules.specs.Action.{works, Leads, Writes}
 use Rattle.sqlite.specs.Rows.{Part, Then}
 use Rattle.streetmap_rows.proofs.Resolving.{IsFit}
 
-module _ (sql : List ℕ) (params : Row) (old new : Seen) (schema : Schema) (has : old.now.schema ≡ schema) (command : Command) (is : command_of (understood schema sql) ≡ command)
+module _ (sql : List ℕ) (params : Row) (old new : Seen) (schema : Schema) (has : old.now.schema ≡ schema) (command : Command)
+    (is : command_of (understood schema sql) ≡ command)
     (plain : IsPlain (understood schema sql)) (fit : IsFit sql (length params) (understood schema sql)) where
   abbrev pub IsRefusedAs : Error → Type 0
-  IsRefusedAs e = (IsMisplaced old command e ⊎ Does old.step_limit (mode_of old) params old.now (statement_of sql (understood schema sql)) None command (Err (Some e))) × IsUnchanged old new
+  IsRefusedAs e = (IsMisplaced old command e ⊎ Does old.step_limit (mode_of old) params old.now (statement_of sql (understood schema sql)) None command
+      (Err (Some e))) × IsUnchanged old new
 
   pub refused_as : (e : Error) → Executes sql params old new (Err e) → IsRefusedAs e ⊎ ((too_big : Type 0) × Fails old new too_big e)
   unfolding ExecutesIn IsNotRun
@@ -42,7 +45,8 @@ module _ (sql : List ℕ) (params : Row) (old new : Seen) (schema : Schema) (has
         | inl refused ↦ inl (
           elim refused.0 [
             | inl misplaced ↦ inl (subst (λ k. IsMisplaced old k e) same misplaced)
-            | inr done ↦ inr (subst₂ (λ k t. Does old.step_limit (mode_of old) params old.now t None k (Err (Some e))) same text (rw (bare.0, bare.1, append-nil params) at done.1))
+            | inr done ↦ inr (subst₂ (λ k t. Does old.step_limit (mode_of old) params old.now t None k (Err (Some e))) same text
+                (rw (bare.0, bare.1, append-nil params) at done.1))
           ],
           refused.1,
         )
@@ -50,12 +54,14 @@ module _ (sql : List ℕ) (params : Row) (old new : Seen) (schema : Schema) (has
       ]
 
 -- a part that stopped did so in its first step or in a later one
-pub stopped : {A B : Type 0} (First : Part A) (Next : A → Part B) (s : Option Error) → Then First Next (Err s) → First (Err s) ⊎ ((a : A) × First (Ok a) × Next a (Err s))
+pub stopped : {A B : Type 0} (First : Part A) (Next : A → Part B) (s : Option Error) → Then First Next (Err s) →
+    First (Err s) ⊎ ((a : A) × First (Ok a) × Next a (Err s))
 stopped First Next s (inl early) = inl (subst (λ x. First (Err x)) (let e = early.2 in cc) early.1)
 stopped First Next s (inr late) = inr late
 
 -- if nothing follows, an edit is refused for its own rules or is too big
-pub refused_step : (schema : Schema) (keys : Keys) (db : Trees) (edit : Edit) (why : Option Refusal) → works schema keys 0 edit.table.tree (taken_by db edit) edit.news ≡ []
+pub refused_step : (schema : Schema) (keys : Keys) (db : Trees) (edit : Edit) (why : Option Refusal) →
+    works schema keys 0 edit.table.tree (taken_by db edit) edit.news ≡ []
     → Writes schema keys db edit (Err why) → ((r : Refusal) × IsRefused schema keys db edit r × (why ≡ Some r)) ⊎ (why ≡ None)
 refused_step schema keys db edit why none (inl refused) = inl (refused.0, refused.1, let e = refused.2 in cc)
 refused_step schema keys db edit why none (inr (inl big)) = inr (let e = big.3 in cc)

@@ -1,5 +1,6 @@
 -- What a put and a cut leave at each key.
-use Rattle.std.proofs.Common.{◌≡◌, ◌≢◌, inl, inr, List, [], ◌∷◌, Bool, true, false, not, cond, find, drop, filter, Option, Some, None, option_map, Ordering, Less, Equal, Greater, IsTrue, refl, sym, ap, subst, ◌∙◌, true≢false}
+use Rattle.std.proofs.Common.{◌≡◌, ◌≢◌, inl, inr, List, [], ◌∷◌, Bool, true, false, not, cond, find, drop, filter, Option, Some, None, option_map, Ordering}
+use Rattle.std.proofs.Common.{Less, Equal, Greater, IsTrue, refl, sym, ap, subst, ◌∙◌, true≢false}
 use Rattle.std.specs.List.{AllByRecursion}
 use Rattle.std.specs.Ordering.{is_eq, match_ordering}
 use Rattle.std.proofs.lemmas.Bool.{or_parts, both_ways, cases_Bool, false_from_ne_true}
@@ -27,7 +28,8 @@ no_value : {A B : Type 0} (f : A → B) (o : Option A) → option_map f o ≡ No
 no_value f None h = refl
 no_value f (Some x) h = absurd (cc)
 
-later : {A : Type 0} (a b : Bool) (x y : A) (o : Option A) → (b ≡ true → cond a (Some x) o ≡ None) → cond a (Some x) (cond b (Some y) o) ≡ cond b (Some y) (cond a (Some x) o)
+later : {A : Type 0} (a b : Bool) (x y : A) (o : Option A) → (b ≡ true → cond a (Some x) o ≡ None) → cond a (Some x) (cond b (Some y) o)
+    ≡ cond b (Some y) (cond a (Some x) o)
 later true true x y o none = absurd (let e = none refl in cc)
 later true false x y o none = refl
 later false true x y o none = refl
@@ -38,9 +40,11 @@ rest_none true x o h = absurd (cc)
 rest_none false x o h = h
 
 -- the row is found where it is put, and each other is found as before
-pub find_put : (p : Row → Bool) (row : Row) (rows : List Row) → is_taken rows row ≡ false → (p row ≡ true → find p rows ≡ None) → find p (put_row row rows) ≡ cond (p row) (Some row) (find p rows)
+pub find_put : (p : Row → Bool) (row : Row) (rows : List Row) → is_taken rows row ≡ false → (p row ≡ true → find p rows ≡ None) → find p (put_row row rows)
+    ≡ cond (p row) (Some row) (find p rows)
 find_put p row [] free none = refl
-find_put p row (r ∷ rows) free none = go (value_cmp (rowid r) (rowid row)) (or_parts _ _ free).0 (find_put p row rows (or_parts _ _ free).1 (λ h. rest_none (p r) r (find p rows) (none h)))
+find_put p row (r ∷ rows) free none = go (value_cmp (rowid r) (rowid row)) (or_parts _ _ free).0
+    (find_put p row rows (or_parts _ _ free).1 (λ h. rest_none (p r) r (find p rows) (none h)))
   where
     go : (o : Ordering) → is_eq o ≡ false → find p (put_row row rows) ≡ cond (p row) (Some row) (find p rows)
         → find p (match_ordering o (r ∷ put_row row rows) (row ∷ rows) (row ∷ r ∷ rows)) ≡ cond (p row) (Some row) (cond (p r) (Some r) (find p rows))
@@ -48,16 +52,22 @@ find_put p row (r ∷ rows) free none = go (value_cmp (rowid r) (rowid row)) (or
     go Equal other h = absurd (true≢false other)
     go Greater other h = refl
 
-pub ascending_put : (R : Row → Row → Type 0) → ((a b : Row) → R a b → R b a) → (row : Row) (rows : List Row) → AllByRecursion (R row) rows → IsAscending R rows → IsAscending R (put_row row rows)
+pub ascending_put : (R : Row → Row → Type 0) → ((a b : Row) → R a b → R b a) → (row : Row) (rows : List Row) → AllByRecursion (R row) rows → IsAscending R rows
+    → IsAscending R (put_row row rows)
 ascending_put R back row [] all up = (tt, tt)
 ascending_put R back row (r ∷ rows) all up = go (value_cmp (rowid r) (rowid row)) (ascending_put R back row rows all.1 up.1)
   where
     go : (o : Ordering) → IsAscending R (put_row row rows) → IsAscending R (match_ordering o (r ∷ put_row row rows) (row ∷ rows) (row ∷ r ∷ rows))
-    go Less h = (all_from (R r) (put_row row rows) (λ x there. elim (put_has row rows x there) [ inl same ↦ subst (R r) (sym same) (back row r all.0) | inr was ↦ all_has (R r) rows x up.0 was ]), h)
+    go Less h = (
+      all_from (R r) (put_row row rows) (λ x there. elim (put_has row rows x there)
+          [ inl same ↦ subst (R r) (sym same) (back row r all.0) | inr was ↦ all_has (R r) rows x up.0 was ]),
+      h,
+    )
     go Equal h = (all.1, up.1)
     go Greater h = (all, up)
 
-module _ {K : Type 0} (key : Row → K) (is_at : K → Row → Bool) (sound : (k : K) (r : Row) → is_at k r ≡ true → key r ≡ k) (self : (r : Row) → is_at (key r) r ≡ true) where
+module _ {K : Type 0} (key : Row → K) (is_at : K → Row → Bool) (sound : (k : K) (r : Row) → is_at k r ≡ true → key r ≡ k)
+    (self : (r : Row) → is_at (key r) r ≡ true) where
   -- each row is the one that is found at its key
   pub find_own : (rows : List Row) (r : Row) → IsAscending (λ a b. key a ≢ key b) rows → Has rows r → find (is_at (key r)) rows ≡ Some r
   find_own [] r apart h = absurd h
@@ -89,9 +99,15 @@ module _ {K : Type 0} (key : Row → K) (is_at : K → Row → Bool) (sound : (k
         → ((k : K) → now k ≡ cond (is_at k row) (Some (drop 1 row)) (cells k)) → HoldsByKey key is_at now (put_row row rows)
     holds_put row now free int none is = record {
       table = IsTable-put_row row rows holds.table;
-      keyed = all_from _ (put_row row rows) (λ x h. elim (put_has row rows x h) [ inl same ↦ subst (λ y. IsTrue (is_int (rowid y))) (sym same) int | inr was ↦ all_has _ rows x holds.keyed was ]);
-      apart = ascending_put (λ a b. key a ≢ key b) (λ a b other same. other (sym same)) row rows (all_from _ rows (λ x h same. let e = sym none ∙ ap cells same ∙ cells_of x h in absurd (cc))) holds.apart;
-      found = λ k. ap (option_map (drop 1)) (find_put (is_at k) row rows free (λ here. missing k (ap cells (sym (sound k row here)) ∙ none))) ∙ shown (is_at k row) (find (is_at k) rows) ∙ ap (cond (is_at k row) (Some (drop 1 row))) (holds.found k) ∙ sym (is k);
+      keyed = all_from _ (put_row row rows) (λ x h. elim (put_has row rows x h) [
+        | inl same ↦ subst (λ y. IsTrue (is_int (rowid y))) (sym same) int
+        | inr was ↦
+            all_has _ rows x holds.keyed was
+      ]);
+      apart = ascending_put (λ a b. key a ≢ key b) (λ a b other same. other (sym same)) row rows
+          (all_from _ rows (λ x h same. let e = sym none ∙ ap cells same ∙ cells_of x h in absurd (cc))) holds.apart;
+      found = λ k. ap (option_map (drop 1)) (find_put (is_at k) row rows free (λ here. missing k (ap cells (sym (sound k row here)) ∙ none)))
+          ∙ shown (is_at k row) (find (is_at k) rows) ∙ ap (cond (is_at k row) (Some (drop 1 row))) (holds.found k) ∙ sym (is k);
     }
       where
         shown : (b : Bool) (o : Option Row) → option_map (drop 1) (cond b (Some row) o) ≡ cond b (Some (drop 1 row)) (option_map (drop 1) o)
@@ -100,19 +116,23 @@ module _ {K : Type 0} (key : Row → K) (is_at : K → Row → Bool) (sound : (k
 
 pub filter_same : (f g : Row → Bool) (rows : List Row) → ((r : Row) → Has rows r → f r ≡ g r) → filter f rows ≡ filter g rows
 filter_same f g [] same = refl
-filter_same f g (r ∷ rows) same = λ i. cond (same r (inl refl) i) (r ∷ filter_same f g rows (λ x h. same x (inr h)) i) (filter_same f g rows (λ x h. same x (inr h)) i)
+filter_same f g (r ∷ rows) same = λ i. cond (same r (inl refl) i) (r ∷ filter_same f g rows (λ x h. same x (inr h)) i)
+    (filter_same f g rows (λ x h. same x (inr h)) i)
 
 -- if the first that is found decides
-pub find_kept : (p g : Row → Bool) (b : Bool) (rows : List Row) → ((x : Row) → Has rows x → p x ≡ true → g x ≡ b) → find p (filter g rows) ≡ cond b (find p rows) None
+pub find_kept : (p g : Row → Bool) (b : Bool) (rows : List Row) → ((x : Row) → Has rows x → p x ≡ true → g x ≡ b) → find p (filter g rows)
+    ≡ cond b (find p rows) None
 find_kept p g true [] each = refl
 find_kept p g false [] each = refl
 find_kept p g b (x ∷ rows) each = go (p x) refl (find_kept p g b rows (λ y h. each y (inr h)))
   where
-    skip : (c : Bool) → p x ≡ false → find p (filter g rows) ≡ cond b (find p rows) None → find p (cond c (x ∷ filter g rows) (filter g rows)) ≡ cond b (find p rows) None
+    skip : (c : Bool) → p x ≡ false → find p (filter g rows) ≡ cond b (find p rows) None → find p (cond c (x ∷ filter g rows) (filter g rows))
+        ≡ cond b (find p rows) None
     skip true off h = rw off h
     skip false off h = h
 
-    take : (c : Bool) → c ≡ b → p x ≡ true → find p (filter g rows) ≡ cond b (find p rows) None → find p (cond c (x ∷ filter g rows) (filter g rows)) ≡ cond b (Some x) None
+    take : (c : Bool) → c ≡ b → p x ≡ true → find p (filter g rows) ≡ cond b (find p rows) None → find p (cond c (x ∷ filter g rows) (filter g rows))
+        ≡ cond b (Some x) None
     take true same on h = rw (on, ← same) refl
     take false same on h = h ∙ (λ i. cond (sym same i) (find p rows) None) ∙ (λ i. cond (same i) (Some x) None)
 
@@ -125,14 +145,18 @@ pub same_row : (rows : List Row) (a b : Row) → IsTable rows → Has rows a →
 same_row [] a b up h k same = absurd h
 same_row (r ∷ rows) a b up (inl h) (inl k) same = h ∙ sym k
 same_row (r ∷ rows) a b up (inl h) (inr k) same = absurd (let e = sym (all_has _ rows b up.0 k) ∙ ap (λ x. value_cmp (rowid x) (rowid b)) (sym h) ∙ same in cc)
-same_row (r ∷ rows) a b up (inr h) (inl k) same = absurd (let e = sym (all_has _ rows a up.0 h) ∙ ap (λ x. value_cmp (rowid x) (rowid a)) (sym k) ∙ tied_back value_cmp_total (rowid a) (rowid b) same in cc)
+same_row (r ∷ rows) a b up (inr h) (inl k) same = absurd (let e = sym (all_has _ rows a up.0 h) ∙ ap (λ x. value_cmp (rowid x) (rowid a)) (sym k)
+    ∙ tied_back value_cmp_total (rowid a) (rowid b) same in cc)
 same_row (r ∷ rows) a b up (inr h) (inr k) same = same_row rows a b up.1 h k same
 
 -- other rows that are the same, for cells that are the same
-pub holds_same : {K : Type 0} (key : Row → K) (is_at : K → Row → Bool) (cells now : K → Option Row) (rows next : List Row) → next ≡ rows → ((k : K) → now k ≡ cells k) → HoldsByKey key is_at cells rows → HoldsByKey key is_at now next
-holds_same key is_at cells now rows next same is holds = subst (HoldsByKey key is_at now) (sym same) (record { table = holds.table; keyed = holds.keyed; apart = holds.apart; found = λ k. holds.found k ∙ sym (is k) })
+pub holds_same : {K : Type 0} (key : Row → K) (is_at : K → Row → Bool) (cells now : K → Option Row) (rows next : List Row) → next ≡ rows →
+    ((k : K) → now k ≡ cells k) → HoldsByKey key is_at cells rows → HoldsByKey key is_at now next
+holds_same key is_at cells now rows next same is holds = subst (HoldsByKey key is_at now) (sym same)
+    (record { table = holds.table; keyed = holds.keyed; apart = holds.apart; found = λ k. holds.found k ∙ sym (is k) })
 
-module _ {K : Type 0} (key : Row → K) (is_at : K → Row → Bool) (sound : (k : K) (r : Row) → is_at k r ≡ true → key r ≡ k) (self : (r : Row) → is_at (key r) r ≡ true) (cells : K → Option Row) (rows : List Row) (holds : HoldsByKey key is_at cells rows) where
+module _ {K : Type 0} (key : Row → K) (is_at : K → Row → Bool) (sound : (k : K) (r : Row) → is_at k r ≡ true → key r ≡ k)
+    (self : (r : Row) → is_at (key r) r ≡ true) (cells : K → Option Row) (rows : List Row) (holds : HoldsByKey key is_at cells rows) where
   -- what passes the test for a key is the row that is found
   pub filter_one : (k : K) → filter (is_at k) rows ≡ option_to_list (find (is_at k) rows)
   filter_one k = go rows holds.apart
@@ -148,14 +172,17 @@ module _ {K : Type 0} (key : Row → K) (is_at : K → Row → Bool) (sound : (k
         | inr other ↦ rw (other, go xs apart.1)
       ]
 
-  pub holds_cut : (row : Row) (now : K → Option Row) → Has rows row → ((k : K) → now k ≡ cond (is_at k row) None (cells k)) → HoldsByKey key is_at now (without_rowid (id_in (rowid row)) rows)
+  pub holds_cut : (row : Row) (now : K → Option Row) → Has rows row → ((k : K) → now k ≡ cond (is_at k row) None (cells k)) →
+      HoldsByKey key is_at now (without_rowid (id_in (rowid row)) rows)
   holds_cut row now there is = record {
     table = ascending_filter _ _ rows holds.table;
     keyed = all_from _ _ (λ x h. all_has _ rows x holds.keyed (has_filtered _ rows x h).0);
     apart = ascending_filter _ _ rows holds.apart;
     found = λ k. elim (cases_Bool (is_at k row)) [
-      | inl here ↦ ap (option_map (drop 1)) (find_kept (is_at k) keep false rows (λ x h at. gone x h (own k x h at ∙ sym (own k row there here)))) ∙ sym (is k ∙ ap (λ b. cond b None (cells k)) here)
-      | inr other ↦ ap (option_map (drop 1)) (find_kept (is_at k) keep true rows (λ x h at. stays x h (λ same. both_ways _ other (subst (λ y. is_at k y ≡ true) same at)))) ∙ holds.found k ∙ sym (is k ∙ ap (λ b. cond b None (cells k)) other)
+      | inl here ↦ ap (option_map (drop 1)) (find_kept (is_at k) keep false rows (λ x h at. gone x h (own k x h at ∙ sym (own k row there here))))
+          ∙ sym (is k ∙ ap (λ b. cond b None (cells k)) here)
+      | inr other ↦ ap (option_map (drop 1)) (find_kept (is_at k) keep true rows (λ x h at.
+          stays x h (λ same. both_ways _ other (subst (λ y. is_at k y ≡ true) same at)))) ∙ holds.found k ∙ sym (is k ∙ ap (λ b. cond b None (cells k)) other)
     ];
   }
     where

@@ -1,5 +1,6 @@
 -- What a query over one table shows in order of the texts in one column.
-use Rattle.std.proofs.Common.{nat_le, ◌^◌, ◌≡◌, ◌≢◌, inl, inr, ℕ, ◌+◌, ◌<◌, List, [], ◌∷◌, length, map, filter, Bool, true, false, T, ◌&&◌, cond, get_or, Option, Some, None, option_map, Ordering, Less, Equal, Greater, refl, sym, ap, ap₂, subst, ◌∙◌, arith}
+use Rattle.std.proofs.Common.{nat_le, ◌^◌, ◌≡◌, ◌≢◌, inl, inr, ℕ, ◌+◌, ◌<◌, List, [], ◌∷◌, length, map, filter, Bool, true, false, T, ◌&&◌, cond, get_or}
+use Rattle.std.proofs.Common.{Option, Some, None, option_map, Ordering, Less, Equal, Greater, refl, sym, ap, ap₂, subst, ◌∙◌, arith}
 use Rattle.std.specs.List.{AllByRecursion, list_all, IsDistinct}
 use Rattle.std.specs.Ordering.{is_lt, is_eq, ordering_reverse, ordering_then}
 use Rattle.std.specs.List.Sorted.{IsPermutation, IsSorted, IsStrictlySortedBy}
@@ -92,7 +93,8 @@ rising (e ∷ es) h = both _ _ (below e.0 es h.0) (rising es h.1)
 
 not_below : {V : Type 0} (k q : Text) (fs : List (Text × V)) (w : V) → T (below_all text_cmp k fs) → Has fs (q, w) → q ≡ k → ⊥
 not_below k q [] w all h is = absurd h
-not_below k q (f ∷ fs) w all (inl same) is = subst T (ap is_lt (ap₂ text_cmp (sym is) (sym (ap (λ x. x.0) same)) ∙ tied_itself nat_list_cmp_total q)) (first _ _ all)
+not_below k q (f ∷ fs) w all (inl same) is = subst T (ap is_lt (ap₂ text_cmp (sym is) (sym (ap (λ x. x.0) same)) ∙ tied_itself nat_list_cmp_total q))
+    (first _ _ all)
 not_below k q (f ∷ fs) w all (inr h) is = not_below k q fs w (second _ _ all) h is
 
 -- what is found in a list in order
@@ -160,11 +162,14 @@ module _ {V B : Type 0} (value_of : Text → Option V) (view : Text → V → B)
 
   -- it shows the entries whose values these are
   pub listed_is : (kept : List (Text × V)) → T (is_sorted text_cmp kept) → ((q : Text) → value_of q ≡ find text_cmp q kept) → es ≡ viewed view kept
-  listed_is kept up are = same_entries text_cmp nat_list_cmp_total one_text es (viewed view kept) it.in_order (sorted_viewed view kept up) (λ q. entry_of q ∙ ap (option_map (view q)) (are q) ∙ sym (find_viewed view kept q))
+  listed_is kept up are = same_entries text_cmp nat_list_cmp_total one_text es (viewed view kept) it.in_order (sorted_viewed view kept up)
+      (λ q. entry_of q ∙ ap (option_map (view q)) (are q) ∙ sym (find_viewed view kept q))
 
 -- distinct texts, none of which comes before the previous one, so each is below the next
-pub rises : (names : List Text) → ((k : ℕ) → k + 1 < length names → is_lt (text_cmp (get_or names (k + 1) []) (get_or names k [])) ≡ false) → IsDistinct same_text names → IsStrictlySortedBy text_cmp names
-rises names order distinct = sorted_from_all_adjacent nat_list_cmp_total names [] (λ k low. less (get_or names k []) (get_or names (k + 1) []) (apart_from_distinct same_text names k (k + 1) [] distinct (omega arith) low) (order k low))
+pub rises : (names : List Text) → ((k : ℕ) → k + 1 < length names → is_lt (text_cmp (get_or names (k + 1) []) (get_or names k [])) ≡ false) →
+    IsDistinct same_text names → IsStrictlySortedBy text_cmp names
+rises names order distinct = sorted_from_all_adjacent nat_list_cmp_total names [] (λ k low.
+    less (get_or names k []) (get_or names (k + 1) []) (apart_from_distinct same_text names k (k + 1) [] distinct (omega arith) low) (order k low))
   where
     less : (a b : Text) → same_text a b ≡ false → is_lt (text_cmp b a) ≡ false → text_cmp a b ≡ Less
     less a b other high = go (text_cmp a b) refl
@@ -239,7 +244,8 @@ module _ (tree : ℕ) (tests project : List Term) (at : ℕ) (params : Row) wher
           let one : get_or names k [] ≡ (get_or es k d).0 = get_or-map (λ (e : Keyed). e.0) es k d [] (omega arith) in
           let two : get_or names (k + 1) [] ≡ (get_or es (k + 1) d).0 = get_or-map (λ (e : Keyed). e.0) es (k + 1) d [] (omega arith) in
           let wide = length-map es unkey in
-          ap₂ (λ x y. is_lt (text_cmp x y)) two one ∙ ap is_lt (sym (by_text (get_or es (k + 1) d) (get_or es k d))) ∙ ap₂ (λ x y. is_lt (output_cmp query x y)) (sym after) (sym before) ∙ sorted k (unkey d) (omega arith) (omega arith)
+          ap₂ (λ x y. is_lt (text_cmp x y)) two one ∙ ap is_lt (sym (by_text (get_or es (k + 1) d) (get_or es k d)))
+          ∙ ap₂ (λ x y. is_lt (output_cmp query x y)) (sym after) (sym before) ∙ sorted k (unkey d) (omega arith) (omega arith)
 
   distinct : (rs : List Row) → IsAscending (λ a b. text_in at a ≢ text_in at b) rs → IsDistinct same_text (map (λ (e : Keyed). e.0) (map keyed_of rs))
   distinct rs apart = subst (IsDistinct same_text) (sym (names_of rs)) (apart_texts at rs apart)
@@ -248,7 +254,8 @@ module _ (tree : ℕ) (tests project : List Term) (at : ℕ) (params : Row) wher
       names_of [] = refl
       names_of (r ∷ rs) = ap (λ l. text_in at r ∷ l) (names_of rs)
 
-  module _ {V : Type 0} (value_of : Text → Option V) (view : Text → V → Row) (db : Trees) (low : nat_le (2 ^ 31) tree ≡ false) (of : AreRowsOf value_of view at shows (filter (keeps tests params) (db tree))) (shown : List Row)
+  module _ {V : Type 0} (value_of : Text → Option V) (view : Text → V → Row) (db : Trees) (low : nat_le (2 ^ 31) tree ≡ false)
+      (of : AreRowsOf value_of view at shows (filter (keeps tests params) (db tree))) (shown : List Row)
       (answer : IsAnswerAs Null query (overlay db []) params shown) where
     rows : List Row
     rows = filter (keeps tests params) (db tree)
@@ -267,7 +274,8 @@ module _ (tree : ℕ) (tests project : List Term) (at : ℕ) (params : Row) wher
     unfolding qs rows
     same =
         let found = answer.grouped ∙ staged db tree tests params low ∙ picked (keeps tests params) (λ r. params ∷ r ∷ []) (db tree) in
-        subst (λ k. IsPermutation k answer.ordered) (answer.distinct ∙ ap (map (output query)) found ∙ mapped (filter (keeps tests params) (db tree)) ∙ outputs_are (filter (keeps tests params) (db tree)) of.each) answer.same
+        subst (λ k. IsPermutation k answer.ordered) (answer.distinct ∙ ap (map (output query)) found ∙ mapped (filter (keeps tests params) (db tree))
+        ∙ outputs_are (filter (keeps tests params) (db tree)) of.each) answer.same
 
     keyed_move : IsPermutation qs es
     unfolding es
@@ -275,11 +283,14 @@ module _ (tree : ℕ) (tests project : List Term) (at : ℕ) (params : Row) wher
 
     ordered_is : map unkey es ≡ answer.ordered
     unfolding es
-    ordered_is = unkeyed_again answer.ordered (λ o h. let e = mapped_has unkey qs o (moved answer.ordered (map unkey qs) o (IsPermutation-sym _ _ same) h) in ap (λ x. unkey (key x)) e.2 ∙ sym e.2)
+    ordered_is = unkeyed_again answer.ordered (λ o h. let e = mapped_has unkey qs o (moved answer.ordered (map unkey qs) o (IsPermutation-sym _ _ same) h) in
+        ap (λ x. unkey (key x)) e.2 ∙ sym e.2)
 
     in_order : T (is_sorted text_cmp es)
     unfolding qs rows
-    in_order = strictly es (subst (IsSorted (output_cmp query)) (sym ordered_is) answer.sorted) (IsDistinct-IsPermutation same_text text_flips _ _ (IsPermutation-map (λ (e : Keyed). e.0) qs es keyed_move) (distinct (filter (keeps tests params) (db tree)) of.apart))
+    in_order = strictly es (subst (IsSorted (output_cmp query)) (sym ordered_is) answer.sorted)
+        (IsDistinct-IsPermutation same_text text_flips _ _ (IsPermutation-map (λ (e : Keyed). e.0) qs es keyed_move)
+        (distinct (filter (keeps tests params) (db tree)) of.apart))
 
     -- what is listed is what a row says
     said : (e : Keyed) → Has es e → (v : V) × (value_of e.0 ≡ Some v) × (e.1 ≡ view e.0 v)
@@ -301,10 +312,12 @@ module _ (tree : ℕ) (tests project : List Term) (at : ℕ) (params : Row) wher
     listed = record { in_order = in_order; said = said; all = is_listed }
 
     -- the query shows the entries whose values these are, in order of their texts
-    pub shows_entries : (kept : List (Text × V)) → T (is_sorted text_cmp kept) → ((q : Text) → value_of q ≡ find text_cmp q kept) → shown ≡ map (λ e. view e.0 e.1) kept
+    pub shows_entries : (kept : List (Text × V)) → T (is_sorted text_cmp kept) → ((q : Text) → value_of q ≡ find text_cmp q kept) → shown
+        ≡ map (λ e. view e.0 e.1) kept
     shows_entries kept up are =
         let all = listed_is value_of view es listed kept up are in
-        answer.shown ∙ ap (map (λ (o : Output). o.1)) (sym ordered_is) ∙ ap (λ l. map (λ (o : Output). o.1) (map unkey l)) all ∙ twice (viewed view kept) ∙ rows_viewed view kept
+        answer.shown ∙ ap (map (λ (o : Output). o.1)) (sym ordered_is) ∙ ap (λ l. map (λ (o : Output). o.1) (map unkey l)) all ∙ twice (viewed view kept)
+        ∙ rows_viewed view kept
       where
         twice : (xs : List Keyed) → map (λ (o : Output). o.1) (map unkey xs) ≡ map (λ (e : Keyed). e.1) xs
         twice [] = refl

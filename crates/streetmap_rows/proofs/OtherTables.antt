@@ -25,10 +25,12 @@ pub features_ours : is_our_name features_name ≡ true
 unfolding everything
 features_ours = refl
 
-pub same_elsewhere : (old new : Database) (keys : Keys) (edit : Edit) → IsAscending (λ a b. a.tree ≡ b.tree → ⊥) old.schema.tables → Has old.schema.tables edit.table → is_our_name edit.table.name ≡ true → new.schema ≡ old.schema
+pub same_elsewhere : (old new : Database) (keys : Keys) (edit : Edit) → IsAscending (λ a b. a.tree ≡ b.tree → ⊥) old.schema.tables →
+    Has old.schema.tables edit.table → is_our_name edit.table.name ≡ true → new.schema ≡ old.schema
     → Applies old.schema keys old.trees edit new.trees → IsSameElsewhere old new
 same_elsewhere old new keys edit apart there ours schema step = record {
   schema = schema;
-  tables = λ t had other. all_has _ old.schema.tables t step.tables had (λ same. both_ways _ other (ap (λ (x : Table). is_our_name x.name) (same_table old.schema.tables t edit.table apart had there same) ∙ ours));
+  tables = λ t had other. all_has _ old.schema.tables t step.tables had (λ same. both_ways _ other
+      (ap (λ (x : Table). is_our_name x.name) (same_table old.schema.tables t edit.table apart had there same) ∙ ours));
   others = λ tree none no_index. step.others tree (λ same. all_has _ old.schema.tables edit.table none there (sym same)) no_index;
 }

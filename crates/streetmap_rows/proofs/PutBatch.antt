@@ -1,5 +1,6 @@
 -- An accepted batch goes in.
-use Rattle.std.proofs.Common.{◌≡◌, inl, inr, [], ◌∷◌, true, false, ◌&&◌, cond, drop, Option, Some, None, option_map, refl, sym, ap, subst, ◌∙◌, eqb-true, eq-eqb, ◌≤◌, ◌+◌, ℤ, pos, int_cmp, arith}
+use Rattle.std.proofs.Common.{◌≡◌, inl, inr, [], ◌∷◌, true, false, ◌&&◌, cond, drop, Option, Some, None, option_map, refl, sym, ap, subst, ◌∙◌, eqb-true}
+use Rattle.std.proofs.Common.{eq-eqb, ◌≤◌, ◌+◌, ℤ, pos, int_cmp, arith}
 use Rattle.std.specs.FinMap.{get, insert, len, get-insert, int_cmp-IsAntisymmetric}
 use Rattle.std.specs.Ordering.{is_eq}
 use Rattle.sqlite_value.specs.declared.keys.Collation.TheVariants.{Binary}
@@ -56,7 +57,8 @@ reads s r (Some k) is h =
     let cells : batch_cells (first_key r) k ≡ drop 1 r = cc in
     record { kept = k; is = is; one = column_later r 0 ∙ ap (λ x. column x 0) (sym cells); seven = column_later r 6 ∙ ap (λ x. column x 6) (sym cells) }
 
-module _ (s : State) (schema : Schema) (roots : Roots) (ours : IsOurs roots schema) (db : Trees) (of : AreOf s roots db) (key : Text) (kept : AcceptedBatch) (new : get s.keys key ≡ None)
+module _ (s : State) (schema : Schema) (roots : Roots) (ours : IsOurs roots schema) (db : Trees) (of : AreOf s roots db) (key : Text) (kept : AcceptedBatch)
+    (new : get s.keys key ≡ None)
     (next_serial : kept.serial ≡ len s.keys + 1) (counted : (q : Text) (k : AcceptedBatch) → get s.keys q ≡ Some k → k.serial ≤ len s.keys) where
   abbrev pub row : Row
   row = Int (next_rowid (db roots.batches)) ∷ batch_cells key kept
@@ -71,12 +73,14 @@ module _ (s : State) (schema : Schema) (roots : Roots) (ours : IsOurs roots sche
   no_key r h it same =
       let clash = sym new ∙ ap (get s.keys) (sym (text_is (first_key r) key same)) ∙ it.is in absurd (cc)
 
-  pub new_key : (i : Index) → Has schema.indexes i → guards i (batches roots.batches) ≡ true → (r : Row) → Has (db roots.batches) r → agree i.order i.columns r i.columns row ≡ false
+  pub new_key : (i : Index) → Has schema.indexes i → guards i (batches roots.batches) ≡ true → (r : Row) → Has (db roots.batches) r →
+      agree i.order i.columns r i.columns row ≡ false
   new_key i known on r h =
       let it = reads s r (get s.keys (first_key r)) refl (cells_of first_key is_first first_is first_self _ (db roots.batches) of.batches r h) in
       elim (ours.on_batches i known (eqb-true i.table roots.batches (and_parts _ _ on).1)) [
         | inl mine ↦ rw (mine.0, mine.1) (agree_one r row (first_key r) key it.one refl ∙ ap (λ b. b && true) (false_from_ne_true _ (no_key r h it)))
-        | inr mine ↦ rw (mine.0, mine.1) (agree_serial r row (pos it.kept.serial) (pos kept.serial) it.seven refl ∙ ap (λ b. b && true) (false_from_ne_true _ (λ same.
+        | inr mine ↦ rw (mine.0, mine.1) (agree_serial r row (pos it.kept.serial) (pos kept.serial) it.seven refl
+            ∙ ap (λ b. b && true) (false_from_ne_true _ (λ same.
             let alike : pos it.kept.serial ≡ pos kept.serial = int_cmp-IsAntisymmetric _ _ (equal_is _ same) in
             let n : it.kept.serial ≡ kept.serial = cc in
             omega (arith, n, next_serial, counted (first_key r) it.kept it.is))))
@@ -91,7 +95,9 @@ module _ (s : State) (schema : Schema) (roots : Roots) (ours : IsOurs roots sche
   only_rowid keeps (Violates rule.Check) h = absurd (true≢false h)
   only_rowid keeps (Violates rule.PrimaryKey) h = absurd (both_ways _ (rw free at h) refl)
   only_rowid keeps (Violates rule.Unique) h =
-      absurd (h (keeps_unique schema db (batches roots.batches) row ours.apart is_table free (with_tree db roots.batches (put_row row (db roots.batches))) (record { rows = rw (eq-eqb roots.batches roots.batches refl) refl; others = λ t listed other. rw (ne_eqb t.tree roots.batches other) }) new_key keeps))
+      absurd (h (keeps_unique schema db (batches roots.batches) row ours.apart is_table free (with_tree db roots.batches (put_row row (db roots.batches)))
+      (record { rows = rw (eq-eqb roots.batches roots.batches refl) refl; others = λ t listed other. rw (ne_eqb t.tree roots.batches other) }) new_key
+      keeps))
   only_rowid keeps (Violates rule.ForeignKey) h = absurd h
   only_rowid keeps Mismatch h = absurd (true≢false h)
   only_rowid keeps NoRowid h = refl
@@ -99,21 +105,25 @@ module _ (s : State) (schema : Schema) (roots : Roots) (ours : IsOurs roots sche
   only_rowid keeps TooDeep h = absurd h
 
   pub refers : Refers All schema db → (next : Trees) → Applies schema Enforced db edit next → Refers All schema next
-  refers was next made = refers_after schema db (batches roots.batches) row ours.apart is_table free next (record { rows = made.rows; others = λ t listed other. all_has _ schema.tables t made.tables listed other }) was refl
+  refers was next made = refers_after schema db (batches roots.batches) row ours.apart is_table free next
+      (record { rows = made.rows; others = λ t listed other. all_has _ schema.tables t made.tables listed other }) was refl
 
   abbrev pub after : State
   after = record s { keys = insert s.keys key kept }
 
-  batches_after : (q : Text) → option_map (batch_cells q) (get after.keys q) ≡ cond (is_first q row) (Some (drop 1 row)) (option_map (batch_cells q) (get s.keys q))
+  batches_after : (q : Text) → option_map (batch_cells q) (get after.keys q) ≡ cond (is_first q row) (Some (drop 1 row))
+      (option_map (batch_cells q) (get s.keys q))
   batches_after q = ap (option_map (batch_cells q)) (get-insert nat_list_cmp_total s.keys key kept q) ∙ elim (cases_Bool (same_text q key)) [
     | inl here ↦ rw (here, text_is q key here)
     | inr other ↦ rw other
   ]
 
-  pub of_after : (next : Trees) → next roots.batches ≡ put_row row (db roots.batches) → next roots.collections ≡ db roots.collections → next roots.meta ≡ db roots.meta → next roots.features ≡ db roots.features → AreOf after roots next
+  pub of_after : (next : Trees) → next roots.batches ≡ put_row row (db roots.batches) → next roots.collections ≡ db roots.collections → next roots.meta
+      ≡ db roots.meta → next roots.features ≡ db roots.features → AreOf after roots next
   of_after next rows zero two seven = record {
     format = holds_same first_key is_first _ _ (db roots.meta) (next roots.meta) two (λ _. refl) of.format;
     collections = holds_same first_key is_first _ _ (db roots.collections) (next roots.collections) zero (λ _. refl) of.collections;
-    batches = subst (HoldsByKey first_key is_first (λ q. option_map (batch_cells q) (get after.keys q))) (sym rows) (holds_put first_key is_first first_is first_self _ (db roots.batches) of.batches row _ free refl (rw new refl) batches_after);
+    batches = subst (HoldsByKey first_key is_first (λ q. option_map (batch_cells q) (get after.keys q))) (sym rows)
+        (holds_put first_key is_first first_is first_self _ (db roots.batches) of.batches row _ free refl (rw new refl) batches_after);
     features = holds_same pair_key has_pair _ _ (db roots.features) (next roots.features) seven (λ _. refl) of.features;
   }

@@ -1,5 +1,6 @@
 -- A collection that is new goes in.
-use Rattle.std.proofs.Common.{◌≡◌, inl, inr, [], ◌∷◌, true, false, ◌&&◌, cond, drop, Option, Some, None, option_map, refl, sym, ap, subst, ◌∙◌, eqb-true, eq-eqb}
+use Rattle.std.proofs.Common.{◌≡◌, inl, inr, [], ◌∷◌, true, false, ◌&&◌, cond, drop, Option, Some, None, option_map, refl, sym, ap, subst, ◌∙◌, eqb-true}
+use Rattle.std.proofs.Common.{eq-eqb}
 use Rattle.std.specs.Prelude.{option_and_then}
 use Rattle.std.specs.List.{list_all}
 use Rattle.std.specs.FinMap.{get, empty, get-insert, get-empty}
@@ -34,13 +35,15 @@ use Rattle.streetmap_rows.proofs.TextKeys.{text_is, first_is, first_self, agree_
 use Rattle.streetmap_rows.proofs.TablesInSchema.{collections_there}
 use Rattle.streetmap_rows.proofs.RowPut.{keeps_unique, refers_after}
 
-pub name_cell : (name : Text) (o : Option Collection) (r : Row) → option_map (collection_cells name) o ≡ Some (drop 1 r) → column r 1 ≡ Words (bytes (column r 1))
+pub name_cell : (name : Text) (o : Option Collection) (r : Row) → option_map (collection_cells name) o ≡ Some (drop 1 r) → column r 1
+    ≡ Words (bytes (column r 1))
 name_cell name None r h = absurd (cc)
 name_cell name (Some c) r h =
     let cells : collection_cells name c ≡ drop 1 r = cc in
     let one : column r 1 ≡ Words name = column_later r 0 ∙ ap (λ x. column x 0) (sym cells) in one ∙ ap (λ v. Words (bytes v)) (sym one)
 
-module _ (s : State) (schema : Schema) (roots : Roots) (ours : IsOurs roots schema) (db : Trees) (of : AreOf s roots db) (name title : Text) (time : Option Text) (new : get s.collections name ≡ None) where
+module _ (s : State) (schema : Schema) (roots : Roots) (ours : IsOurs roots schema) (db : Trees) (of : AreOf s roots db) (name title : Text)
+    (time : Option Text) (new : get s.collections name ≡ None) where
   abbrev pub row : Row
   row = Int (next_rowid (db roots.collections)) ∷ Words name ∷ Words title ∷ or_null Words time ∷ []
 
@@ -50,12 +53,14 @@ module _ (s : State) (schema : Schema) (roots : Roots) (ours : IsOurs roots sche
   pub free : is_taken (db roots.collections) row ≡ false
   free = next_is_free Chosen (db roots.collections) (drop 1 row) of.collections.table of.collections.keyed
 
-  pub new_key : (i : Index) → Has schema.indexes i → guards i (collections roots.collections) ≡ true → (r : Row) → Has (db roots.collections) r → agree i.order i.columns r i.columns row ≡ false
+  pub new_key : (i : Index) → Has schema.indexes i → guards i (collections roots.collections) ≡ true → (r : Row) → Has (db roots.collections) r →
+      agree i.order i.columns r i.columns row ≡ false
   new_key i known on r h = false_from_ne_true _ (λ same.
       let mine = ours.on_collections i known (eqb-true i.table roots.collections (and_parts _ _ on).1) in
       let had = cells_of first_key is_first first_is first_self _ (db roots.collections) of.collections r h in
       let one = name_cell (first_key r) (get s.collections (first_key r)) r had in
-      let both : (same_text (bytes (column r 1)) name && true) ≡ true = sym (agree_one r row (bytes (column r 1)) name one refl) ∙ (rw (mine.0, mine.1) at same) in
+      let both : (same_text (bytes (column r 1)) name && true) ≡ true = sym (agree_one r row (bytes (column r 1)) name one refl)
+      ∙ (rw (mine.0, mine.1) at same) in
       let at = text_is (bytes (column r 1)) name (and_parts (same_text (bytes (column r 1)) name) true both).0 in
       let clash = sym (ap (option_map (collection_cells name)) new) ∙ ap (λ k. option_map (collection_cells k) (get s.collections k)) (sym at) ∙ had in
       absurd (cc))
@@ -72,7 +77,13 @@ module _ (s : State) (schema : Schema) (roots : Roots) (ours : IsOurs roots sche
   only_rowid keeps (Violates rule.Check) h = absurd (true≢false h)
   only_rowid keeps (Violates rule.PrimaryKey) h = absurd (both_ways _ (rw free at h) refl)
   only_rowid keeps (Violates rule.Unique) h =
-      absurd (h (keeps_unique schema db (collections roots.collections) row ours.apart is_table free (with_tree db roots.collections (put_row row (db roots.collections))) (record { rows = rw (eq-eqb roots.collections roots.collections refl) refl; others = λ t listed other. rw (ne_eqb t.tree roots.collections other) }) new_key keeps))
+      absurd (h (keeps_unique schema db (collections roots.collections) row ours.apart is_table free
+      (with_tree db roots.collections (put_row row (db roots.collections))) (record {
+        rows =
+            rw (eq-eqb roots.collections roots.collections refl) refl;
+        others = λ t listed other. rw (ne_eqb t.tree roots.collections other);
+      }) new_key
+      keeps))
   only_rowid keeps (Violates rule.ForeignKey) h = absurd h
   only_rowid keeps Mismatch h = absurd (true≢false h)
   only_rowid keeps NoRowid h = refl
@@ -80,28 +91,35 @@ module _ (s : State) (schema : Schema) (roots : Roots) (ours : IsOurs roots sche
   only_rowid keeps TooDeep h = absurd h
 
   pub refers : Refers All schema db → (next : Trees) → Applies schema Enforced db edit next → Refers All schema next
-  refers was next made = refers_after schema db (collections roots.collections) row ours.apart is_table free next (record { rows = made.rows; others = λ t listed other. all_has _ schema.tables t made.tables listed other }) was refl
+  refers was next made = refers_after schema db (collections roots.collections) row ours.apart is_table free next
+      (record { rows = made.rows; others = λ t listed other. all_has _ schema.tables t made.tables listed other }) was refl
 
   abbrev pub after : State
   after = opened s name title time
 
-  collections_after : (q : Text) → option_map (collection_cells q) (get after.collections q) ≡ cond (is_first q row) (Some (drop 1 row)) (option_map (collection_cells q) (get s.collections q))
-  collections_after q = ap (option_map (collection_cells q)) (get-insert nat_list_cmp_total s.collections name (record { title = title; time = time; features = empty }) q) ∙ elim (cases_Bool (same_text q name)) [
-    | inl here ↦ rw (here, text_is q name here)
-    | inr other ↦ rw other
-  ]
+  collections_after : (q : Text) → option_map (collection_cells q) (get after.collections q)
+      ≡ cond (is_first q row) (Some (drop 1 row)) (option_map (collection_cells q) (get s.collections q))
+  collections_after q = ap (option_map (collection_cells q)) (get-insert nat_list_cmp_total s.collections name
+      (record { title = title; time = time; features = empty }) q) ∙ elim (cases_Bool (same_text q name)) [
+        | inl here ↦ rw (here, text_is q name here)
+        | inr other ↦ rw other
+      ]
 
   pub features_same : (q : KeyPair) → feature_at after q ≡ feature_at s q
   features_same q =
-      ap (λ o. option_and_then (λ (x : Collection). get x.features q.1) o) (get-insert nat_list_cmp_total s.collections name (record { title = title; time = time; features = empty }) q.0) ∙ elim (cases_Bool (same_text q.0 name)) [
+      ap (λ o. option_and_then (λ (x : Collection). get x.features q.1) o) (get-insert nat_list_cmp_total s.collections name
+      (record { title = title; time = time; features = empty }) q.0) ∙ elim (cases_Bool (same_text q.0 name)) [
         | inl here ↦ rw (here, text_is q.0 name here, new, get-empty _ q.1)
         | inr other ↦ rw other
       ]
 
-  pub of_after : (next : Trees) → next roots.collections ≡ put_row row (db roots.collections) → next roots.meta ≡ db roots.meta → next roots.batches ≡ db roots.batches → next roots.features ≡ db roots.features → AreOf after roots next
+  pub of_after : (next : Trees) → next roots.collections ≡ put_row row (db roots.collections) → next roots.meta ≡ db roots.meta → next roots.batches
+      ≡ db roots.batches → next roots.features ≡ db roots.features → AreOf after roots next
   of_after next rows two four seven = record {
     format = holds_same first_key is_first _ _ (db roots.meta) (next roots.meta) two (λ _. refl) of.format;
-    collections = subst (HoldsByKey first_key is_first (λ q. option_map (collection_cells q) (get after.collections q))) (sym rows) (holds_put first_key is_first first_is first_self _ (db roots.collections) of.collections row _ free refl (rw new refl) collections_after);
+    collections = subst (HoldsByKey first_key is_first (λ q. option_map (collection_cells q) (get after.collections q))) (sym rows)
+        (holds_put first_key is_first first_is first_self _ (db roots.collections) of.collections row _ free refl (rw new refl) collections_after);
     batches = holds_same first_key is_first _ _ (db roots.batches) (next roots.batches) four (λ _. refl) of.batches;
-    features = holds_same pair_key has_pair _ _ (db roots.features) (next roots.features) seven (λ q. ap (option_map (feature_cells q)) (features_same q)) of.features;
+    features = holds_same pair_key has_pair _ _ (db roots.features) (next roots.features) seven (λ q. ap (option_map (feature_cells q)) (features_same q))
+        of.features;
   }

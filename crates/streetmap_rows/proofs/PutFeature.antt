@@ -1,5 +1,6 @@
 -- A feature that is new goes in, and no rule forbids it.
-use Rattle.std.proofs.Common.{◌≡◌, inl, inr, ℤ, [], ◌∷◌, true, false, ◌&&◌, cond, drop, Option, Some, None, option_map, option_and_then, refl, sym, ap, subst, ◌∙◌, eqb-true, eq-eqb}
+use Rattle.std.proofs.Common.{◌≡◌, inl, inr, ℤ, [], ◌∷◌, true, false, ◌&&◌, cond, drop, Option, Some, None, option_map, option_and_then, refl, sym, ap, subst}
+use Rattle.std.proofs.Common.{◌∙◌, eqb-true, eq-eqb}
 use Rattle.std.specs.List.{list_all}
 use Rattle.std.specs.FinMap.{get, insert, get-insert}
 use Rattle.std.specs.Cmp.Lexicographic.{nat_list_cmp_total}
@@ -39,7 +40,8 @@ pub parent_is : (roots : Roots) (schema : Schema) → IsOurs roots schema → pa
 unfolding everything
 parent_is roots schema ours = rw (ours.collections_is) refl
 
-pub text_cell : (p : KeyPair) (o : Option FeatureValue) (r : Row) → option_map (feature_cells p) o ≡ Some (drop 1 r) → (column r 1 ≡ Words (bytes (column r 1))) × (column r 2 ≡ Words (bytes (column r 2)))
+pub text_cell : (p : KeyPair) (o : Option FeatureValue) (r : Row) → option_map (feature_cells p) o ≡ Some (drop 1 r) → (column r 1 ≡ Words (bytes (column r 1)))
+    × (column r 2 ≡ Words (bytes (column r 2)))
 text_cell p None r h = absurd (cc)
 text_cell p (Some d) r h =
     let cells : feature_cells p d ≡ drop 1 r = cc in
@@ -47,7 +49,8 @@ text_cell p (Some d) r h =
     let two : column r 2 ≡ Words p.1 = column_later r 1 ∙ ap (λ c. column c 1) (sym cells) in
     (one ∙ ap (λ v. Words (bytes v)) (sym one), two ∙ ap (λ v. Words (bytes v)) (sym two))
 
-module _ (s : State) (schema : Schema) (roots : Roots) (ours : IsOurs roots schema) (db : Trees) (of : AreOf s roots db) (p : KeyPair) (c : Collection) (collected : get s.collections p.0 ≡ Some c) (d : FeatureValue) (new : get c.features p.1 ≡ None) where
+module _ (s : State) (schema : Schema) (roots : Roots) (ours : IsOurs roots schema) (db : Trees) (of : AreOf s roots db) (p : KeyPair) (c : Collection)
+    (collected : get s.collections p.0 ≡ Some c) (d : FeatureValue) (new : get c.features p.1 ≡ None) where
   abbrev pub row : Row
   row = Int (next_rowid (db roots.features)) ∷ feature_cells p d
 
@@ -60,7 +63,8 @@ module _ (s : State) (schema : Schema) (roots : Roots) (ours : IsOurs roots sche
   pub free : is_taken (db roots.features) row ≡ false
   free = next_is_free Chosen (db roots.features) (drop 1 row) of.features.table of.features.keyed
 
-  pub new_key : (i : Index) → Has schema.indexes i → guards i (features roots.features) ≡ true → (r : Row) → Has (db roots.features) r → agree i.order i.columns r i.columns row ≡ false
+  pub new_key : (i : Index) → Has schema.indexes i → guards i (features roots.features) ≡ true → (r : Row) → Has (db roots.features) r →
+      agree i.order i.columns r i.columns row ≡ false
   new_key i known on r h = false_from_ne_true _ (λ same.
       let mine = ours.on_features i known (eqb-true i.table roots.features (and_parts _ _ on).1) in
       let had = cells_of pair_key has_pair pair_is pair_self _ (db roots.features) of.features r h in
@@ -82,7 +86,8 @@ module _ (s : State) (schema : Schema) (roots : Roots) (ours : IsOurs roots sche
   own_parent =
       let at = there first_key is_first first_is first_self _ (db roots.collections) of.collections p.0 _ (ap (option_map (collection_cells p.0)) collected) in
       let name : column at.0 1 ≡ Words p.0 = column_later at.0 0 ∙ ap (λ x. column x 0) at.4 in
-      let held : is_held db (1 ∷ []) row (Some (to_key roots)) ≡ true = some_from _ (db roots.collections) at.0 at.1 (agree_one at.0 row p.0 p.0 name refl ∙ and_from _ _ (text_self p.0) refl) in
+      let held : is_held db (1 ∷ []) row (Some (to_key roots)) ≡ true = some_from _ (db roots.collections) at.0 at.1
+      (agree_one at.0 row p.0 p.0 name refl ∙ and_from _ _ (text_self p.0) refl) in
       and_from (has_parent schema.tables db row to_collections) true (or_right false _ (rw (parent_is roots schema ours) held)) refl
 
   pub fits_key : list_all (is_key_of schema) ((features roots.features).references) ≡ true
@@ -105,7 +110,9 @@ module _ (s : State) (schema : Schema) (roots : Roots) (ours : IsOurs roots sche
   only_rowid keeps (Violates rule.Check) h = absurd (true≢false h)
   only_rowid keeps (Violates rule.PrimaryKey) h = absurd (both_ways _ (rw free at h) refl)
   only_rowid keeps (Violates rule.Unique) h =
-      absurd (h (keeps_unique schema db (features roots.features) row ours.apart is_table free (with_tree db roots.features (put_row row (db roots.features))) (record { rows = rw (eq-eqb roots.features roots.features refl) refl; others = λ t listed other. rw (ne_eqb t.tree roots.features other) }) new_key keeps))
+      absurd (h (keeps_unique schema db (features roots.features) row ours.apart is_table free (with_tree db roots.features (put_row row (db roots.features)))
+      (record { rows = rw (eq-eqb roots.features roots.features refl) refl; others = λ t listed other. rw (ne_eqb t.tree roots.features other) }) new_key
+      keeps))
   only_rowid keeps (Violates rule.ForeignKey) h = absurd h
   only_rowid keeps Mismatch h = absurd (true≢false h)
   only_rowid keeps NoRowid h = refl
@@ -121,15 +128,19 @@ module _ (s : State) (schema : Schema) (roots : Roots) (ours : IsOurs roots sche
   abbrev pub after : State
   after = with_features s p.0 c (insert c.features p.1 d)
 
-  collections_after : (name : Text) → option_map (collection_cells name) (get after.collections name) ≡ option_map (collection_cells name) (get s.collections name)
-  collections_after name = ap (option_map (collection_cells name)) (get-insert nat_list_cmp_total s.collections p.0 (record c { features = insert c.features p.1 d }) name) ∙ elim (cases_Bool (same_text name p.0)) [
-    | inl here ↦ rw (here, text_is name p.0 here, collected)
-    | inr other ↦ rw other
-  ]
+  collections_after : (name : Text) → option_map (collection_cells name) (get after.collections name)
+      ≡ option_map (collection_cells name) (get s.collections name)
+  collections_after name = ap (option_map (collection_cells name)) (get-insert nat_list_cmp_total s.collections p.0
+      (record c { features = insert c.features p.1 d }) name) ∙ elim (cases_Bool (same_text name p.0)) [
+        | inl here ↦ rw (here, text_is name p.0 here, collected)
+        | inr other ↦ rw other
+      ]
 
-  features_after : (q : KeyPair) → option_map (feature_cells q) (feature_at after q) ≡ cond (has_pair q row) (Some (drop 1 row)) (option_map (feature_cells q) (feature_at s q))
+  features_after : (q : KeyPair) → option_map (feature_cells q) (feature_at after q) ≡ cond (has_pair q row) (Some (drop 1 row))
+      (option_map (feature_cells q) (feature_at s q))
   features_after q =
-      ap (λ o. option_map (feature_cells q) (option_and_then (λ (x : Collection). get x.features q.1) o)) (get-insert nat_list_cmp_total s.collections p.0 (record c { features = insert c.features p.1 d }) q.0) ∙ elim (cases_Bool (same_text q.0 p.0)) [
+      ap (λ o. option_map (feature_cells q) (option_and_then (λ (x : Collection). get x.features q.1) o))
+      (get-insert nat_list_cmp_total s.collections p.0 (record c { features = insert c.features p.1 d }) q.0) ∙ elim (cases_Bool (same_text q.0 p.0)) [
         | inl here ↦ rw here (ap (option_map (feature_cells q)) (get-insert nat_list_cmp_total c.features p.1 d q.1) ∙ elim (cases_Bool (same_text q.1 p.1)) [
           | inl also ↦ rw (also, text_is q.0 p.0 here, text_is q.1 p.1 also)
           | inr other ↦ rw (other, text_is q.0 p.0 here, collected)
@@ -138,10 +149,12 @@ module _ (s : State) (schema : Schema) (roots : Roots) (ours : IsOurs roots sche
       ]
 
   -- what the INSERT leaves is the state with the feature
-  pub of_after : (next : Trees) → next roots.features ≡ put_row row (db roots.features) → next roots.collections ≡ db roots.collections → next roots.meta ≡ db roots.meta → next roots.batches ≡ db roots.batches → AreOf after roots next
+  pub of_after : (next : Trees) → next roots.features ≡ put_row row (db roots.features) → next roots.collections ≡ db roots.collections → next roots.meta
+      ≡ db roots.meta → next roots.batches ≡ db roots.batches → AreOf after roots next
   of_after next rows zero two four = record {
     format = holds_same first_key is_first _ _ (db roots.meta) (next roots.meta) two (λ _. refl) of.format;
     collections = holds_same first_key is_first _ _ (db roots.collections) (next roots.collections) zero collections_after of.collections;
     batches = holds_same first_key is_first _ _ (db roots.batches) (next roots.batches) four (λ _. refl) of.batches;
-    features = subst (HoldsByKey pair_key has_pair (λ q. option_map (feature_cells q) (feature_at after q))) (sym rows) (holds_put pair_key has_pair pair_is pair_self _ (db roots.features) of.features row _ free refl none_there features_after);
+    features = subst (HoldsByKey pair_key has_pair (λ q. option_map (feature_cells q) (feature_at after q))) (sym rows)
+        (holds_put pair_key has_pair pair_is pair_self _ (db roots.features) of.features row _ free refl none_there features_after);
   }

@@ -1,6 +1,7 @@
 -- Features that one statement puts in: if it did, each was new, and their rows are one after the
 -- other.
-use Rattle.std.proofs.Common.{◌≡◌, List, [], ◌∷◌, true, false, ◌&&◌, cond, not, map, Option, Some, None, option_map, refl, sym, ap, subst, ◌∙◌, eq-eqb, Ordering, Less, Equal, Greater, true≢false}
+use Rattle.std.proofs.Common.{◌≡◌, List, [], ◌∷◌, true, false, ◌&&◌, cond, not, map, Option, Some, None, option_map, refl, sym, ap, subst, ◌∙◌, eq-eqb}
+use Rattle.std.proofs.Common.{Ordering, Less, Equal, Greater, true≢false}
 use Rattle.std.specs.List.{AllByRecursion}
 use Rattle.std.specs.Ordering.{is_eq, is_ne}
 use Rattle.std.specs.FinMap.{get, insert, get-insert}
@@ -64,8 +65,10 @@ module _ (roots : Roots) (schema : Schema) (ours : IsOurs roots schema) (name : 
       let on : guards i (features roots.features) ≡ true = eq-eqb roots.features roots.features refl in
       let passed = all_has _ (db roots.features) b (all_has _ schema.tables (features roots.features) (sound.obeys.rules Unique) listed) has_b in
       let alone : clashes plain (1 ∷ 2 ∷ []) (db roots.features) b ≡ false =
-      (let at = test_has (λ x. not (guards x (features roots.features) && clashes x.order x.columns (db roots.features) b)) schema.indexes i passed index.1 in not-true _ (rw on at at)) in
-      false_from_ne_true _ (λ differs. both_ways _ alone (some_from (λ other. agree plain (1 ∷ 2 ∷ []) other (1 ∷ 2 ∷ []) b && differ (rowid other) (rowid b)) (db roots.features) a has_a (and_from _ _ same differs)))
+      (let at = test_has (λ x. not (guards x (features roots.features) && clashes x.order x.columns (db roots.features) b)) schema.indexes i passed index.1 in
+      not-true _ (rw on at at)) in
+      false_from_ne_true _ (λ differs. both_ways _ alone (some_from (λ other. agree plain (1 ∷ 2 ∷ []) other (1 ∷ 2 ∷ []) b && differ (rowid other) (rowid b))
+      (db roots.features) a has_a (and_from _ _ same differs)))
 
   module _ (s : State) (db : Trees) (of : AreOf s roots db) (c : Collection) (collected : get s.collections name ≡ Some c) (e : Entry) where
     abbrev row : Row
@@ -76,11 +79,13 @@ module _ (roots : Roots) (schema : Schema) (ours : IsOurs roots schema) (name : 
     unfolding binary
     differs r h free =
         let id = int_is (rowid r) (all_has _ (db roots.features) r of.features.keyed h) in
-        let apart : is_eq (value_cmp (rowid r) (rowid row)) ≡ false = false_from_ne_true _ (λ same. both_ways _ free (some_from (λ x. is_eq (value_cmp (rowid x) (rowid row))) (db roots.features) r h same)) in
+        let apart : is_eq (value_cmp (rowid r) (rowid row)) ≡ false = false_from_ne_true _
+        (λ same. both_ways _ free (some_from (λ x. is_eq (value_cmp (rowid x) (rowid row))) (db roots.features) r h same)) in
         rw id (truth_is _ ∙ other_is _ (rw id at apart))
 
     -- what the final rows have at no other key is new
-    pub was_new : (final : List Row) → AreApart final → ((r : Row) → Has (put_row row (db roots.features)) r → Has final r) → is_taken (db roots.features) row ≡ false → get c.features e.0 ≡ None
+    pub was_new : (final : List Row) → AreApart final → ((r : Row) → Has (put_row row (db roots.features)) r → Has final r) → is_taken (db roots.features) row
+        ≡ false → get c.features e.0 ≡ None
     was_new final apart kept free = go (get c.features e.0) refl
       where
         go : (o : Option FeatureValue) → get c.features e.0 ≡ o → get c.features e.0 ≡ None
@@ -90,8 +95,10 @@ module _ (roots : Roots) (schema : Schema) (ours : IsOurs roots schema) (name : 
             let at = there pair_key has_pair pair_is pair_self _ (db roots.features) of.features (name, e.0) _ found in
             let one : column at.0 1 ≡ Words name = column_later at.0 0 ∙ ap (λ x. column x 0) at.4 in
             let two : column at.0 2 ≡ Words e.0 = column_later at.0 1 ∙ ap (λ x. column x 1) at.4 in
-            let same : agree plain (1 ∷ 2 ∷ []) at.0 (1 ∷ 2 ∷ []) row ≡ true = agree_two at.0 row name e.0 name e.0 one two refl refl ∙ and_from _ _ (text_self name) (and_from _ _ (text_self e.0) refl) in
-            let held = apart at.0 row (kept at.0 (put_all_keeps (row ∷ []) (db roots.features) at.0 (and_from _ _ (not_from_false _ free) refl) at.1)) (kept row (has_put row (db roots.features))) same in
+            let same : agree plain (1 ∷ 2 ∷ []) at.0 (1 ∷ 2 ∷ []) row ≡ true = agree_two at.0 row name e.0 name e.0 one two refl refl
+            ∙ and_from _ _ (text_self name) (and_from _ _ (text_self e.0) refl) in
+            let held = apart at.0 row (kept at.0 (put_all_keeps (row ∷ []) (db roots.features) at.0 (and_from _ _ (not_from_false _ free) refl) at.1))
+            (kept row (has_put row (db roots.features))) same in
             absurd (both_ways _ held (differs at.0 at.1 free))
 
   -- what the statement leaves
@@ -108,7 +115,8 @@ module _ (roots : Roots) (schema : Schema) (ours : IsOurs roots schema) (name : 
     pub of : AreOf state roots next
     pub readable : CanBeRead state
 
-  pub leads : (es : List Entry) (s : State) (db next : Trees) → AreOf s roots db → CanBeRead s → (c : Collection) → get s.collections name ≡ Some c → AllByRecursion (λ (e : Entry). IsFeature e.1) es
+  pub leads : (es : List Entry) (s : State) (db next : Trees) → AreOf s roots db → CanBeRead s → (c : Collection) → get s.collections name ≡ Some c →
+      AllByRecursion (λ (e : Entry). IsFeature e.1) es
       → ArePut db next es → AreApart (next roots.features) → Leads s next es
   leads [] s db next of read c collected fine put apart = record {
     state = s;
@@ -128,14 +136,18 @@ module _ (roots : Roots) (schema : Schema) (ours : IsOurs roots schema) (name : 
       let between = put_row new (db roots.features) in
       let mid = with_tree db roots.features between in
       let at : mid roots.features ≡ between = rw (eq-eqb roots.features roots.features refl) refl in
-      let zero : mid roots.collections ≡ db roots.collections = rw (ne_eqb roots.collections roots.features (placing.collections_features roots schema ours)) refl in
+      let zero : mid roots.collections ≡ db roots.collections = rw (ne_eqb roots.collections roots.features (placing.collections_features roots schema ours))
+      refl in
       let two : mid roots.meta ≡ db roots.meta = rw (ne_eqb roots.meta roots.features (placing.meta_features roots schema ours)) refl in
       let four : mid roots.batches ≡ db roots.batches = rw (ne_eqb roots.batches roots.features (placing.batches_features roots schema ours)) refl in
-      let absent = was_new s db of c collected e (next roots.features) apart (λ r h. subst (λ l. Has l r) (sym put.rows) (put_all_keeps (news_of name es between) between r parts.1 h)) free in
+      let absent = was_new s db of c collected e (next roots.features) apart (λ r h. subst (λ l. Has l r) (sym put.rows)
+      (put_all_keeps (news_of name es between) between r parts.1 h)) free in
       let after = with_features s name c (insert c.features e.0 e.1) in
       let now = record c { features = insert c.features e.0 e.1 } in
-      let has : get after.collections name ≡ Some now = get-insert nat_list_cmp_total s.collections name now name ∙ ap (λ t. cond t (Some now) (get s.collections name)) (text_self name) in
-      let more = leads es after mid next (feature.of_after s schema roots ours db of (name, e.0) c collected e.1 absent mid at zero two four) (insert_read s read name c collected e.0 e.1 fine.0) now has fine.1 (record {
+      let has : get after.collections name ≡ Some now = get-insert nat_list_cmp_total s.collections name now name
+      ∙ ap (λ t. cond t (Some now) (get s.collections name)) (text_self name) in
+      let more = leads es after mid next (feature.of_after s schema roots ours db of (name, e.0) c collected e.1 absent mid at zero two four)
+      (insert_read s read name c collected e.0 e.1 fine.0) now has fine.1 (record {
         fresh = subst (λ l. are_fresh l (news_of name es l) ≡ true) (sym at) parts.1;
         rows = put.rows ∙ ap (λ l. put_all l (news_of name es l)) (sym at);
         collections = put.collections ∙ sym zero;

@@ -66,7 +66,8 @@ query_inside {g = g} {old = old} {new = new} {r = r} sql params same ok err surv
       same_reference = same;
       does = means;
       inside = λ clean inside. on_ok r _ _ (ok clean) (λ rows shown. inside_shown sql params a b inside rows.items shown);
-      kept = λ clean inside. by_either r _ _ _ (ok clean) (err clean) (λ rows shown. keeps_shown sql params a b inside rows.items shown) (λ e failed. keeps_failed sql params a b inside e failed);
+      kept = λ clean inside. by_either r _ _ _ (ok clean) (err clean) (λ rows shown. keeps_shown sql params a b inside rows.items shown)
+          (λ e failed. keeps_failed sql params a b inside e failed);
       reason = λ clean. if_queried_inside a b sql params r (err clean);
       survives = survives;
     }

@@ -15,8 +15,10 @@ use Rattle.streetmap_rows.specs.Failures.{IsOfStore}
 use Rattle.streetmap_rows.proofs.StoreErrors.{failure_is}
 use Rattle.streetmap_rows.proofs.Resolving.{IsWhole}
 
-module _ (sql : List ℕ) (params : Row) (old new : Seen) (schema : Schema) (has : old.now.schema ≡ schema) (p : Program) (names : List (List ℕ)) (is : command_of (understood schema sql) ≡ Select p names)
-    (plain : IsPlain (understood schema sql)) (whole : IsWhole sql (length params) (understood schema sql)) (listed : reads_listing schema sql ≡ false) (limit : old.step_limit ≡ None)
+module _ (sql : List ℕ) (params : Row) (old new : Seen) (schema : Schema) (has : old.now.schema ≡ schema) (p : Program) (names : List (List ℕ))
+    (is : command_of (understood schema sql) ≡ Select p names)
+    (plain : IsPlain (understood schema sql)) (whole : IsWhole sql (length params) (understood schema sql)) (listed : reads_listing schema sql ≡ false)
+    (limit : old.step_limit ≡ None)
     (never : (e : Error) → RefusesQuery None (record { schema = schema; trees = old.now.trees }) p params e → ⊥) where
   known : (c : Compiled) → understood old.now.schema sql ≡ Ok c → understood schema sql ≡ Ok c
   known c at = sym (ap (λ s. understood s sql) has) ∙ at
@@ -38,7 +40,8 @@ module _ (sql : List ℕ) (params : Row) (old new : Seen) (schema : Schema) (has
       let same : h.0.command ≡ Select p names = sym (ap command_of at) ∙ is in
       let base : it.0 ≡ record { schema = schema; trees = old.now.trees } = db ∙ ap (λ x. record { schema = x; trees = old.now.trees }) has in
       let full : timed params h.0.formats h.1.now ≡ params = rw (bare.1, append-nil params) in
-      let one : RefusesQuery old.step_limit it.0 p (timed params h.0.formats h.1.now) e = subst (λ k. RefusesToRead old.step_limit k it.0 (timed params h.0.formats h.1.now) e) same it.2 in
+      let one : RefusesQuery old.step_limit it.0 p (timed params h.0.formats h.1.now) e =
+      subst (λ k. RefusesToRead old.step_limit k it.0 (timed params h.0.formats h.1.now) e) same it.2 in
       let two = subst (λ d. RefusesQuery old.step_limit d p (timed params h.0.formats h.1.now) e) base one in
       let three = subst (λ q. RefusesQuery old.step_limit (record { schema = schema; trees = old.now.trees }) p q e) full two in
       absurd (never e (subst (λ l. RefusesQuery l (record { schema = schema; trees = old.now.trees }) p params e) limit three))

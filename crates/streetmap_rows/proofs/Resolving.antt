@@ -30,35 +30,41 @@ use Rattle.sqlite.specs.Command.TheVariants.{Insert, Select, Delete}
 use Rattle.sqlite_resolve.specs.declared.compiled.Compiled.{Compiled}
 use Rattle.sqlite_resolve.specs.declared.error.CompileError.{CompileError}
 use Rattle.sqlite_resolve.specs.Lowering.{Checked, and_then}
-use Rattle.sqlite_resolve.specs.Compile.{first, planned, compiled, meaning, returning, timed, command, insert, insert_or_abort, delete, read, on_table, formats_of, new_rows, shows, small, with_command}
+use Rattle.sqlite_resolve.specs.Compile.{first, planned, compiled, meaning, returning, timed, command, insert, insert_or_abort, delete, read, on_table}
+use Rattle.sqlite_resolve.specs.Compile.{formats_of, new_rows, shows, small, with_command}
 use Rattle.sqlite_resolve.specs.Write.{deleted}
 use Rattle.sqlite_resolve.specs.Select.{named, paging, constant_or}
 use Rattle.sqlite_resolve.specs.Terms.{number}
 use Rattle.sqlite_resolve.specs.Program.{Shown, Building, query, query_to, level, with, whole, alone, single, sources, source, viewing, program}
 
-module _ (schema : Schema) (name : List ℕ) (at : ℕ) (table : Table) (named_at : table_named schema name ≡ Some at) (listed : slice_get schema.tables at ≡ Some table) where
+module _ (schema : Schema) (name : List ℕ) (at : ℕ) (table : Table) (named_at : table_named schema name ≡ Some at)
+    (listed : slice_get schema.tables at ≡ Some table) where
   on_it : (f : ℕ → Table → Checked Command) → on_table schema name f ≡ f at table
   on_it f = rw (named_at, listed) refl
 
   formats_are : formats_of schema name ≡ table.stamps.formats
   formats_are = rw (named_at, listed) refl
 
-  insert_command : (base : ℕ) (columns : List (List ℕ)) (rows : Rows) → command schema [] base (written.Insert conflict.Abort name columns rows [] []) ≡ and_then (new_rows schema table base columns rows) (λ s. Ok (Insert at s))
+  insert_command : (base : ℕ) (columns : List (List ℕ)) (rows : Rows) → command schema [] base (written.Insert conflict.Abort name columns rows [] [])
+      ≡ and_then (new_rows schema table base columns rows) (λ s. Ok (Insert at s))
   unfolding command insert_or_abort insert
   insert_command base columns rows = on_it (λ n t. and_then (new_rows schema t base columns rows) (λ s. Ok (Insert n s)))
 
-  delete_command : (base : ℕ) (test : Option Expr) → command schema [] base (written.Delete name test []) ≡ and_then (deleted schema at table test) (λ d. and_then (program schema [] d) (λ p. Ok (Delete at p)))
+  delete_command : (base : ℕ) (test : Option Expr) → command schema [] base (written.Delete name test [])
+      ≡ and_then (deleted schema at table test) (λ d. and_then (program schema [] d) (λ p. Ok (Delete at p)))
   unfolding command delete
   delete_command base test = on_it (λ n t. and_then (deleted schema n t test) (λ d. and_then (program schema [] d) (λ p. Ok (Delete n p))))
 
   -- an INSERT of values, by what its rows mean
-  pub insert_planned : (p : Parsed) (columns : List (List ℕ)) (rows : Rows) (s : Source) → p.statement ≡ written.Insert conflict.Abort name columns rows [] [] → p.formats ≡ [] → table.stamps.formats ≡ []
+  pub insert_planned : (p : Parsed) (columns : List (List ℕ)) (rows : Rows) (s : Source) → p.statement ≡ written.Insert conflict.Abort name columns rows [] [] →
+      p.formats ≡ [] → table.stamps.formats ≡ []
       → new_rows schema table (small p.names + 0) columns rows ≡ Ok s → planned schema p ≡ Ok ([], (Insert at s, None))
   unfolding planned meaning timed returning shows
   insert_planned p columns rows s is plain unstamped h = rw (is, plain, formats_are, unstamped, insert_command (small p.names + 0) columns rows, h) refl
 
   -- a DELETE, by the query of its rows
-  pub delete_planned : (p : Parsed) (test : Option Expr) (d : Draft) (q : Program) → p.statement ≡ written.Delete name test [] → p.formats ≡ [] → deleted schema at table test ≡ Ok d → program schema [] d ≡ Ok q → planned schema p ≡ Ok ([], (Delete at q, None))
+  pub delete_planned : (p : Parsed) (test : Option Expr) (d : Draft) (q : Program) → p.statement ≡ written.Delete name test [] → p.formats ≡ [] →
+      deleted schema at table test ≡ Ok d → program schema [] d ≡ Ok q → planned schema p ≡ Ok ([], (Delete at q, None))
   unfolding planned meaning timed returning shows
   delete_planned p test d q is plain h k = rw (is, plain, delete_command (small p.names + 0) test, h, k) refl
 
@@ -80,33 +86,47 @@ pub record IsOne (s : Selects) (core : Core) (order : List Sort) (from : From) (
   pub origin_is : (out-Source from).origin ≡ Stored name
 
 module _ (again : Schema → Selects → Building Shown) where
-  viewing_is : (outer schema : Schema) (core : Core) (order : List Sort) (page : Term × Term) (n : ℕ) (lets : List Let) (shown : Shown) → named schema core order page ≡ Ok shown → viewing again outer core order page (suc n) schema lets ≡ Ok ((shown, schema), lets)
+  viewing_is : (outer schema : Schema) (core : Core) (order : List Sort) (page : Term × Term) (n : ℕ) (lets : List Let) (shown : Shown) →
+      named schema core order page ≡ Ok shown → viewing again outer core order page (suc n) schema lets ≡ Ok ((shown, schema), lets)
   unfolding viewing
   viewing_is outer schema core order page n lets shown h = rw h refl
 
   single_is : (schema : Schema) (core : Core) (order : List Sort) (page : Term × Term) (lets : List Let) (shown : Shown) (from : From) (name : List ℕ)
-      → (out-Core core).from ≡ from ∷ [] → (out-Source from).origin ≡ Stored name → named schema core order page ≡ Ok shown → single again schema core order page lets ≡ Ok ((shown, schema), lets)
+      → (out-Core core).from ≡ from ∷ [] → (out-Source from).origin ≡ Stored name → named schema core order page ≡ Ok shown →
+      single again schema core order page lets ≡ Ok ((shown, schema), lets)
   unfolding single sources source
   single_is schema core order page lets shown from name one origin h = rw (one, origin) (viewing_is schema schema core order page 63 lets shown h)
 
-  level_is : (schema : Schema) (s : Selects) (core : Core) (order : List Sort) (from : From) (name : List ℕ) (lets : List Let) (shown : Shown) → IsOne s core order from name → named schema core order whole_page ≡ Ok shown → level again schema s lets ≡ Ok (shown, lets)
+  level_is : (schema : Schema) (s : Selects) (core : Core) (order : List Sort) (from : From) (name : List ℕ) (lets : List Let) (shown : Shown) →
+      IsOne s core order from name → named schema core order whole_page ≡ Ok shown → level again schema s lets ≡ Ok (shown, lets)
   unfolding level with whole paging constant_or alone
-  level_is schema s core order from name lets shown it h = rw (it.with_is, it.limit_is, it.offset_is, it.others_are, it.order_is, it.first_is, single_is schema core order whole_page lets shown from name it.from_is it.origin_is h) refl
+  level_is schema s core order from name lets shown it h = rw (
+    it.with_is,
+    it.limit_is,
+    it.offset_is,
+    it.others_are,
+    it.order_is,
+    it.first_is,
+    single_is schema core order whole_page lets shown from name it.from_is it.origin_is h,
+  ) refl
 
-module _ (schema : Schema) (s : Selects) (core : Core) (order : List Sort) (from : From) (name : List ℕ) (it : IsOne s core order from name) (shown : Shown) (h : named schema core order whole_page ≡ Ok shown) where
+module _ (schema : Schema) (s : Selects) (core : Core) (order : List Sort) (from : From) (name : List ℕ) (it : IsOne s core order from name) (shown : Shown)
+    (h : named schema core order whole_page ≡ Ok shown) where
   query_is : query schema s ≡ Ok (shown, [])
   unfolding query query_to
   query_is = level_is (query_to 15) schema s core order from name [] shown it h
 
   -- a SELECT, by its columns and its conditions
-  pub select_planned : (p : Parsed) (q : Program) → p.statement ≡ written.Select s → p.formats ≡ [] → program schema [] shown.0 ≡ Ok q → planned schema p ≡ Ok ([], (Select q shown.1, None))
+  pub select_planned : (p : Parsed) (q : Program) → p.statement ≡ written.Select s → p.formats ≡ [] → program schema [] shown.0 ≡ Ok q → planned schema p
+      ≡ Ok ([], (Select q shown.1, None))
   unfolding planned meaning timed returning command read
   select_planned p q is plain k = rw (is, plain, query_is, k) refl
 
 -- ---- a text
 
 -- the program of a draft that the types accept
-pub program_is : (schema : Schema) (d : Draft) → accepts_program schema [] (query_of d) [] ≡ true → program schema [] d ≡ Ok (record { lets = []; body = query_of d })
+pub program_is : (schema : Schema) (d : Draft) → accepts_program schema [] (query_of d) [] ≡ true → program schema [] d
+    ≡ Ok (record { lets = []; body = query_of d })
 unfolding program
 program_is schema d h = rw h refl
 
@@ -119,9 +139,18 @@ pub record Means (schema : Schema) (sql : List ℕ) (count : ℕ) (k : Command) 
   pub whole_is : length sql ≤ compiled_as.tail
   pub count_is : count ≡ length compiled_as.names
 
-pub means : (schema : Schema) (sql : List ℕ) (p : Parsed) (count : ℕ) (k : Command) → first sql ≡ Ok p → length sql ≤ p.tail → count ≡ length p.names → planned schema p ≡ Ok ([], (k, None)) → Means schema sql count k
+pub means : (schema : Schema) (sql : List ℕ) (p : Parsed) (count : ℕ) (k : Command) → first sql ≡ Ok p → length sql ≤ p.tail → count ≡ length p.names →
+    planned schema p ≡ Ok ([], (k, None)) → Means schema sql count k
 unfolding compiled
-means schema sql p count k read whole counted h = record { compiled_as = with_command p ([], (k, None)); is = rw (read, h) refl; command_is = refl; plain_is = (refl, refl); whole_is = whole; count_is = counted }
+means schema sql p count k read whole counted h = record {
+  compiled_as = with_command p ([], (k, None));
+  is = rw (read, h) refl;
+  command_is = refl;
+  plain_is =
+      (refl, refl);
+  whole_is = whole;
+  count_is = counted;
+}
 
 module _ (schema : Schema) (sql : List ℕ) (count : ℕ) (k : Command) (it : Means schema sql count k) where
   pub unlisted : reads_listing schema sql ≡ false

@@ -26,9 +26,11 @@ use Rattle.sqlite_rules.proofs.RuleLemmas.{Turns, unique_kept, origin, refers_at
 -- no value differs from itself
 pub same_self : (v : Value) → differ v v ≡ false
 unfolding binary
-same_self v = elim (is_null v || is_null v) as (λ b. is_true (cond b Null (from_truth (Some (is_ne (value_cmp v v))))) ≡ false) [ true ↦ refl | false ↦ rw (tied_itself value_cmp_total v) ]
+same_self v = elim (is_null v || is_null v) as (λ b. is_true (cond b Null (from_truth (Some (is_ne (value_cmp v v))))) ≡ false)
+    [ true ↦ refl | false ↦ rw (tied_itself value_cmp_total v) ]
 
-module _ (schema : Schema) (db : Trees) (table : Table) (row : Row) (apart : IsAscending (λ a b. a.tree ≡ b.tree → ⊥) schema.tables) (listed : Has schema.tables table)
+module _ (schema : Schema) (db : Trees) (table : Table) (row : Row) (apart : IsAscending (λ a b. a.tree ≡ b.tree → ⊥) schema.tables)
+    (listed : Has schema.tables table)
     (free : is_taken (db table.tree) row ≡ false) where
   pub record Put (next : Trees) : Type 0 where
     pub rows : next table.tree ≡ put_row row (db table.tree)
@@ -59,7 +61,8 @@ module _ (schema : Schema) (db : Trees) (table : Table) (row : Row) (apart : IsA
         let it = some_has (clashes i.order i.columns (next table.tree)) (row ∷ []) any in
         elim it.1 [
           | inl same ↦
-              let other = some_has (λ o. agree i.order i.columns o i.columns row && differ (rowid o) (rowid row)) (next table.tree) (subst (λ x. clashes i.order i.columns (next table.tree) x ≡ true) same it.2) in
+              let other = some_has (λ o. agree i.order i.columns o i.columns row && differ (rowid o) (rowid row)) (next table.tree)
+              (subst (λ x. clashes i.order i.columns (next table.tree) x ≡ true) same it.2) in
               let parts = and_parts _ _ other.2 in
               elim (put_has row (db table.tree) other.0 (subst (λ l. Has l other.0) put.rows other.1)) [
                 | inl own ↦ both_ways _ (same_self (rowid row)) (subst (λ x. differ (rowid x) (rowid row) ≡ true) own parts.1)
@@ -70,7 +73,8 @@ module _ (schema : Schema) (db : Trees) (table : Table) (row : Row) (apart : IsA
 
     pub keeps_unique : IsNewKey → Keeps Unique schema db → Keeps Unique schema next
     keeps_unique new = unique_kept schema db next table (db table.tree) [] (row ∷ []) (turn next put)
-        (test_from _ schema.indexes (λ i known. not_from_false _ (false_from_ne_true _ (λ both. let parts = and_parts _ _ both in both_ways _ (clear new i known parts.0) parts.1))))
+        (test_from _ schema.indexes (λ i known. not_from_false _ (false_from_ne_true _ (λ both. let parts = and_parts _ _ both in
+        both_ways _ (clear new i known parts.0) parts.1))))
 
     -- a parent is still there
     pub still_held : (ref : Reference) (r : Row) → has_parent schema.tables db r ref ≡ true → has_parent schema.tables next r ref ≡ true
@@ -89,7 +93,12 @@ module _ (schema : Schema) (db : Trees) (table : Table) (row : Row) (apart : IsA
             some_from _ (next key.0) parent.0 (subst (λ n. Has (next n) parent.0) t.2 now) parent.2
 
     pub refers_after : Refers All schema db → list_all (has_parent schema.tables db row) table.references ≡ true → Refers All schema next
-    refers_after refers own = refers_from All schema next (λ t ref r at known is there. still_held ref r (elim (origin schema db next table (db table.tree) [] (row ∷ []) (turn next put) t r at there) [
-      | inl new ↦ elim new.1 [ inl same ↦ subst (λ x. has_parent schema.tables db x ref ≡ true) (sym same) (test_has _ table.references ref own (subst (λ (x : Table). Has x.references ref) new.0 known)) | inr none ↦ absurd none ]
-      | inr was ↦ refers_at All schema db t r ref refers at was known is
-    ]))
+    refers_after refers own = refers_from All schema next (λ t ref r at known is there. still_held ref r
+        (elim (origin schema db next table (db table.tree) [] (row ∷ []) (turn next put) t r at there) [
+          | inl new ↦ elim new.1 [
+            | inl same ↦ subst (λ x. has_parent schema.tables db x ref ≡ true) (sym same)
+                (test_has _ table.references ref own (subst (λ (x : Table). Has x.references ref) new.0 known))
+            | inr none ↦ absurd none
+          ]
+          | inr was ↦ refers_at All schema db t r ref refers at was known is
+        ]))

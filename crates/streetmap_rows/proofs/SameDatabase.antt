@@ -1,5 +1,6 @@
 -- What a query that leaves a connection as it is shows of another with the same database.
-use Rattle.std.proofs.Common.{◌≡◌, inl, inr, ℕ, ◌+◌, List, [], Bool, true, false, if◌then◌else◌, Ok, Err, Option, None, Result, IsTrue, IsSome, refl, sym, ap, subst, ◌∙◌}
+use Rattle.std.proofs.Common.{◌≡◌, inl, inr, ℕ, ◌+◌, List, [], Bool, true, false, if◌then◌else◌, Ok, Err, Option, None, Result, IsTrue, IsSome, refl, sym, ap}
+use Rattle.std.proofs.Common.{subst, ◌∙◌}
 use Rattle.std.proofs.lemmas.Bool.{cases_Bool}
 use Rattle.sqlite.specs.Schema.{Schema}
 use Rattle.sqlite.specs.Command.{Command}
@@ -92,7 +93,11 @@ module _ (text : List ℕ) (it : IsBare text) where
 
   module _ (mid end old : Seen) (same : mid.now ≡ old.now) where
     still : IsTrue old.is_open → IsUnchanged old old
-    still live = (record { was_open = live; is_open = live; now_is = refl; committed_is = refl; mode = refl }, record { changes = refl; last_rowid = refl }, refl)
+    still live = (
+      record { was_open = live; is_open = live; now_is = refl; committed_is = refl; mode = refl },
+      record { changes = refl; last_rowid = refl },
+      refl,
+    )
 
     here : (c : Compiled) → IsStatement mid text [] c → IsStatement old text [] c
     here c h = record { is = subst (λ (d : Database). understood d.schema text ≡ Ok c) same h.is; whole = h.whole; given = h.given; now = h.now }
@@ -121,7 +126,12 @@ module _ (text : List ℕ) (it : IsBare text) where
           let none = (query_plain mid.now.schema h.0 h.1.is).0 in
           let full = timed_with [] h.0.formats h.1.now in
           let was = subst (FailsToShow mid end text h.0 full e) none h.2 in
-          inr (h.0, here h.0 h.1, subst (FailsToShow old old text h.0 full e) (sym none) (was.0, source was.0 was.1, subst (λ l. RefusesToRead l h.0.command was.0 full e) limit was.2, still (live was.3.0.was_open)))
+          inr (
+            h.0,
+            here h.0 h.1,
+            subst (FailsToShow old old text h.0 full e) (sym none)
+                (was.0, source was.0 was.1, subst (λ l. RefusesToRead l h.0.command was.0 full e) limit was.2, still (live was.3.0.was_open)),
+          )
 
       pub not_too_late : IsTooLate text [] mid end e → ⊥
       not_too_late h = absurd (let some = subst IsSome (query_plain mid.now.schema h.0 h.1.is).0 h.2 in cc)

@@ -19,7 +19,18 @@ use Rattle.streetmap_rows.specs.Stored.{IsStored}
 pub body_reads : (property : Option Text) (f : FeatureValue) → IsStored property f → ReadsAs property (feature_data f) f
 body_reads property f h =
     let r = feature_again f h.kept in
-    record { typed = r.typed; flat = r.flat; named = r.named; placed = r.placed; few = r.few; reported = r.reported; kept = r.kept; whole = r.whole; timed = time_found property f.properties f.time (ap as_fault h.timed) }
+    record {
+      typed = r.typed;
+      flat = r.flat;
+      named = r.named;
+      placed = r.placed;
+      few = r.few;
+      reported = r.reported;
+      kept = r.kept;
+      whole = r.whole;
+      timed =
+          time_found property f.properties f.time (ap as_fault h.timed);
+    }
 
 pub body_is_json : (f : FeatureValue) (body : Text) (property : Option Text) → IsStored property f → body ≡ feature_text f → json_of body ≡ Ok (feature_data f)
 unfolding feature_text

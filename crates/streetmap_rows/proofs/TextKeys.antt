@@ -34,7 +34,8 @@ pub first_self : (r : Row) → is_first (first_key r) r ≡ true
 first_self r = text_self (first_key r)
 
 pub pair_is : (p : KeyPair) (r : Row) → has_pair p r ≡ true → pair_key r ≡ p
-pair_is p r h = let parts = and_parts (same_text p.0 (bytes (column r 1))) (same_text p.1 (bytes (column r 2))) h in λ i. (sym (text_is p.0 _ parts.0) i, sym (text_is p.1 _ parts.1) i)
+pair_is p r h = let parts = and_parts (same_text p.0 (bytes (column r 1))) (same_text p.1 (bytes (column r 2))) h in λ i.
+    (sym (text_is p.0 _ parts.0) i, sym (text_is p.1 _ parts.1) i)
 
 pub pair_self : (r : Row) → has_pair (pair_key r) r ≡ true
 pair_self r = and_from _ _ (text_self (bytes (column r 1))) (text_self (bytes (column r 2)))

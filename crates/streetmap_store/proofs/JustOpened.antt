@@ -26,23 +26,36 @@ module _ {D : Type 0} {g : disk.Ghosts D} (image : Image) (c : Held (FileStore D
   rests s held =
       let it = on.opened clean in
       let same : (file_state c).committed.trees ≡ held.0 = (on.found clean).holds held.0 held.1 in
-      let kept : Keeps s (file_state c).committed = keeps_too s held.2.0 (file_state c).committed.schema (file_state c).committed.trees sound (subst (λ trees. Keeps s (record { schema = held.2.0; trees = trees })) (sym same) held.2.1) in
+      let kept : Keeps s (file_state c).committed = keeps_too s held.2.0 (file_state c).committed.schema (file_state c).committed.trees sound
+      (subst (λ trees. Keeps s (record { schema = held.2.0; trees = trees })) (sym same) held.2.1) in
       record { kept = subst (Keeps s) (sym it.0.clean) kept; settled = it.0.clean; live = it.0.is_open; unlimited = on.fresh.unlimited }
 
   pub rests_old : (s : State) → HoldsOldState image s → RestsOld (file_state c) s
   rests_old s held =
       let it = on.opened clean in
       let same : (file_state c).committed.trees ≡ held.0 = (on.found clean).holds held.0 held.1 in
-      let kept : KeepsOld s (file_state c).committed = old_too s held.2.0 (file_state c).committed.schema (file_state c).committed.trees sound (subst (λ trees. KeepsOld s (record { schema = held.2.0; trees = trees })) (sym same) held.2.1) in
+      let kept : KeepsOld s (file_state c).committed = old_too s held.2.0 (file_state c).committed.schema (file_state c).committed.trees sound
+      (subst (λ trees. KeepsOld s (record { schema = held.2.0; trees = trees })) (sym same) held.2.1) in
       record { kept = subst (KeepsOld s) (sym it.0.clean) kept; settled = it.0.clean; live = it.0.is_open; unlimited = on.fresh.unlimited }
 
   pub ready : LeavesRoom image → IsReady (file_state c)
   ready room =
       let it = on.opened clean in
       let has = room (file_state c).committed.trees (file_state c).committed.schema (on.found clean).reads sound in
-      record { settled = it.0.clean; live = it.0.is_open; unlimited = on.fresh.unlimited; room = subst (λ (db : Database). HasRoom db.schema) (sym it.0.clean) has }
+      record {
+        settled = it.0.clean;
+        live = it.0.is_open;
+        unlimited = on.fresh.unlimited;
+        room =
+            subst (λ (db : Database). HasRoom db.schema) (sym it.0.clean) has;
+      }
 
   pub taken : IsTrue (is_taken (file_state c).now.schema) → RefusesToCreate image Taken
   taken is =
-      let it = on.opened clean in
-      ((file_state c).committed.trees, (file_state c).committed.schema, (on.found clean).reads, sound, subst (λ (db : Database). IsTrue (is_taken db.schema)) it.0.clean is)
+      let it = on.opened clean in (
+        (file_state c).committed.trees,
+        (file_state c).committed.schema,
+        (on.found clean).reads,
+        sound,
+        subst (λ (db : Database). IsTrue (is_taken db.schema)) it.0.clean is,
+      )

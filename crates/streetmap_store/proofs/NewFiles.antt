@@ -1,5 +1,6 @@
 -- Files that hold no database yet have no table, index or view.
-use Rattle.std.proofs.Common.{Option, unwrap_or, ◌≡◌, inl, inr, ℕ, ◌<◌, ◌≤◌, List, [], ◌∷◌, length, take, slice_index, get_or-take, Some, true, false, refl, sym, ap, subst, ◌∙◌, arith}
+use Rattle.std.proofs.Common.{Option, unwrap_or, ◌≡◌, inl, inr, ℕ, ◌<◌, ◌≤◌, List, [], ◌∷◌, length, take, slice_index, get_or-take, Some, true, false, refl}
+use Rattle.std.proofs.Common.{sym, ap, subst, ◌∙◌, arith}
 use Rattle.std.proofs.lemmas.List.{length-take}
 use Rattle.std.proofs.Math.Logic.{∥∥₁_elim}
 use mathlib.Core.HLevel.{⊥_prop}
@@ -38,7 +39,8 @@ sound_is_something size image pages found sound nothing =
     ∙ sym (get_or-take 16 (header_in pages) 0 0 (omega arith)) ∙ ap (λ (b : List ℕ). slice_index b 0) magic in
     let never = λ (other : ℕ) (some : 0 < other).
     let gate = first_byte other some in
-    begun_is_not_blank (sealed (first_page other)) page (stored_size size) image found.stored found.found is (found.whole.sized 1 page is) (omega arith) (begins ∙ sym gate) (λ none. let never = sym gate ∙ none in omega arith) in
+    begun_is_not_blank (sealed (first_page other)) page (stored_size size) image found.stored found.found is (found.whole.sized 1 page is) (omega arith)
+    (begins ∙ sym gate) (λ none. let never = sym gate ∙ none in omega arith) in
     elim nothing [ inl plain ↦ never (used_size 4096 false) (omega arith) plain | inr summed ↦ never (used_size 4096 true) (omega arith) summed ]
 
 -- what is found in blank files is empty

@@ -7,7 +7,9 @@ use Rattle.sqlite_wal.specs.Recovery.{Image}
 use Rattle.sqlite_trees.specs.declared.error.StoreError.{StoreError}
 use Rattle.sqlite_trees.specs.declared.error.StoreError.TheVariants as stored
 use Rattle.sqlite.specs.declared.error.Error.{Error}
-use Rattle.sqlite.specs.declared.error.Error.TheVariants.{SqliteFailure, SqlInputError, InvalidParameterCount, ExecuteReturnedResults, InvalidQuery, MultipleStatement, QueryReturnedNoRows, InvalidColumnIndex, InvalidColumnType, IntegralValueOutOfRange, Utf8Error}
+use Rattle.sqlite.specs.declared.error.Error.TheVariants.{SqliteFailure, SqlInputError, InvalidParameterCount, ExecuteReturnedResults, InvalidQuery}
+use Rattle.sqlite.specs.declared.error.Error.TheVariants.{MultipleStatement, QueryReturnedNoRows, InvalidColumnIndex, InvalidColumnType}
+use Rattle.sqlite.specs.declared.error.Error.TheVariants.{IntegralValueOutOfRange, Utf8Error}
 use Rattle.sqlite.specs.declared.error.ErrorCode.TheVariants as code
 use Rattle.sqlite.specs.declared.file.Leftover.{Leftover}
 use Rattle.sqlite.specs.State.{State as Seen, store_error}
@@ -21,7 +23,8 @@ use Rattle.streetmap_tables.specs.Migration.{IsOld, Carries, OpensBy}
 use Rattle.streetmap_tables.specs.declared.openings.OpenFault.{OpenFault}
 use Rattle.streetmap_store.specs.RefusalCauses.{refused_to_open, refused_to_create}
 use Rattle.streetmap_store.specs.Reasons.{IsUnopened, OpensNothing, CreatesNothing}
-use Rattle.streetmap_store.specs.Reasons.{IsForeign, OpenBlamesNoFile, CreateBlamesNoFile, Showed, RefusesToOpen, RefusesToCreate, FailsToConnect, StaysAsItWas, HoldsStill}
+use Rattle.streetmap_store.specs.Reasons.{IsForeign, OpenBlamesNoFile, CreateBlamesNoFile, Showed, RefusesToOpen, RefusesToCreate, FailsToConnect, StaysAsItWas}
+use Rattle.streetmap_store.specs.Reasons.{HoldsStill}
 use Rattle.streetmap_tables.specs.declared.openings.OpenFault.TheVariants as opened
 use Rattle.streetmap_tables.specs.declared.creation.CreateFault.{CreateFault}
 use Rattle.streetmap_tables.specs.declared.creation.CreateFault.TheVariants as created
@@ -46,7 +49,8 @@ no_kind stored.Broken is = let e : false ≡ true = ap is_foreign_error is in cc
 no_kind stored.Unstorable is = let e : false ≡ true = ap is_foreign_error is in cc
 
 -- files that are called no database hold none
-pub foreign : {D : Type 0} {g : disk.Ghosts D} (image : Image) (files : Files D) (rest : Leftover D g) (e : Error) → image_of g files ≡ image → FailsToOpenFiles files rest e
+pub foreign : {D : Type 0} {g : disk.Ghosts D} (image : Image) (files : Files D) (rest : Leftover D g) (e : Error) → image_of g files ≡ image →
+    FailsToOpenFiles files rest e
     → e ≡ SqliteFailure code.NotADatabase → IsForeign image
 foreign image files rest e same (inl memory) is = absurd (no_kind stored.OutOfMemory (sym memory ∙ is))
 foreign image files rest e same (inr (inl refused)) is = subst IsForeign same refused.1
@@ -54,7 +58,8 @@ foreign image files rest e same (inr (inr (inl fault))) is = absurd (no_kind _ (
 foreign image files rest e same (inr (inr (inr full))) is = absurd (no_kind stored.Full (sym full.0 ∙ is))
 
 -- nor are those that were not opened called so
-pub not_opened : (image : Image) (e : Error) → (e ≡ SqliteFailure code.CannotOpen) ⊎ ((e ≡ SqliteFailure code.OutOfMemory) ⊎ (e ≡ SqliteFailure code.DatabaseBusy))
+pub not_opened : (image : Image) (e : Error) → (e ≡ SqliteFailure code.CannotOpen) ⊎ ((e ≡ SqliteFailure code.OutOfMemory) ⊎
+    (e ≡ SqliteFailure code.DatabaseBusy))
     → e ≡ SqliteFailure code.NotADatabase → IsForeign image
 unfolding is_foreign_error
 not_opened image e (inl h) is = let wrong : false ≡ true = ap is_foreign_error (sym h ∙ is) in cc
@@ -63,7 +68,8 @@ not_opened image e (inr (inr h)) is = let wrong : false ≡ true = ap is_foreign
 
 -- an error of opening is reported as no database, as out of memory, or as it is
 abbrev IsReturned : Error → Type 0
-IsReturned e = (e ≡ SqliteFailure code.NotADatabase) ⊎ ((e ≡ SqliteFailure code.OutOfMemory) ⊎ ((refused_to_open e ≡ opened.Device e) × (refused_to_create e ≡ created.Device e)))
+IsReturned e = (e ≡ SqliteFailure code.NotADatabase) ⊎ ((e ≡ SqliteFailure code.OutOfMemory) ⊎
+    ((refused_to_open e ≡ opened.Device e) × (refused_to_create e ≡ created.Device e)))
 
 reported : (e : Error) → IsReturned e
 reported (SqliteFailure code.NotADatabase) = inl refl
@@ -101,21 +107,26 @@ reported (InvalidColumnType n t) = inr (inr (refl, refl))
 reported (IntegralValueOutOfRange n) = inr (inr (refl, refl))
 reported (Utf8Error n) = inr (inr (refl, refl))
 
-module _ {D : Type 0} {g : disk.Ghosts D} (image : Image) (e : Error) (rest : Left (Leftover D g) (Held (FileStore D g))) (fails : FailsToConnect image e rest) where
-  pub not_connected : RefusesToOpen image (refused_to_open e) rest
-  not_connected = elim (reported e) [
-    | inl is ↦ subst (λ x. RefusesToOpen image (refused_to_open x) rest) (sym is) (inl (fails.foreign is))
-    | inr more ↦ elim more [
-      | inl is ↦ subst (λ x. RefusesToOpen image (refused_to_open x) rest) (sym is) tt
-      | inr is ↦ subst (λ x. RefusesToOpen image x rest) (sym is.0) (inl fails.named)
+module _ {D : Type 0} {g : disk.Ghosts D} (image : Image) (e : Error) (rest : Left (Leftover D g) (Held (FileStore D g))) (fails : FailsToConnect image e rest)
+  where
+    pub not_connected : RefusesToOpen image (refused_to_open e) rest
+    not_connected = elim (reported e) [
+      | inl is ↦ subst (λ x. RefusesToOpen image (refused_to_open x) rest) (sym is) (inl (fails.foreign is))
+      | inr more ↦ elim more [
+        | inl is ↦ subst (λ x. RefusesToOpen image (refused_to_open x) rest) (sym is) tt
+        | inr is ↦ subst (λ x. RefusesToOpen image x rest) (sym is.0) (inl fails.named)
+      ]
     ]
-  ]
 
-  pub not_connected_to_create : RefusesToCreate image (refused_to_create e)
-  not_connected_to_create = elim (reported e) [
-    | inl is ↦ subst (λ x. RefusesToCreate image (refused_to_create x)) (sym is) (fails.foreign is)
-    | inr more ↦ elim more [ inl is ↦ subst (λ x. RefusesToCreate image (refused_to_create x)) (sym is) tt | inr is ↦ subst (RefusesToCreate image) (sym is.1) tt ]
-  ]
+    pub not_connected_to_create : RefusesToCreate image (refused_to_create e)
+    not_connected_to_create = elim (reported e) [
+      | inl is ↦ subst (λ x. RefusesToCreate image (refused_to_create x)) (sym is) (fails.foreign is)
+      | inr more ↦ elim more [
+        | inl is ↦ subst (λ x. RefusesToCreate image (refused_to_create x)) (sym is) tt
+        | inr is ↦ subst (RefusesToCreate image) (sym is.1)
+            tt
+      ]
+    ]
 
 -- if nothing was opened
 pub unopened_to_open : (e : Error) → IsUnopened e → OpensNothing (refused_to_open e)
@@ -130,7 +141,8 @@ unopened_to_create e (inr (inl is)) = subst (λ x. CreatesNothing (refused_to_cr
 unopened_to_create e (inr (inr is)) =
     subst (λ x. CreatesNothing (refused_to_create x)) (sym is) (inr (inr refl))
 
-pub still_held : {D : Type 0} {g : disk.Ghosts D} (image : Image) (rest : Left (Leftover D g) (Held (FileStore D g))) → StaysAsItWas image rest → HoldsStill image rest
+pub still_held : {D : Type 0} {g : disk.Ghosts D} (image : Image) (rest : Left (Leftover D g) (Held (FileStore D g))) → StaysAsItWas image rest →
+    HoldsStill image rest
 still_held image left.Nothing h = tt
 still_held image (left.Files files) h = h
 still_held image (left.Connection c) h = record { first = h.first; on = h.on; clean = h.clean; showed = h.showed.0 }
@@ -138,7 +150,8 @@ still_held image (left.Connection c) h = record { first = h.first; on = h.on; cl
 -- ---- a connection
 
 -- tables that are not opened
-pub not_adopted_for : {D : Type 0} {g : disk.Ghosts D} (image : Image) (rest : Left (Leftover D g) (Held (FileStore D g))) (seen : Seen) → ((P : Seen → Type 0) → P seen → Showed image P rest) → (fault : OpenFault)
+pub not_adopted_for : {D : Type 0} {g : disk.Ghosts D} (image : Image) (rest : Left (Leftover D g) (Held (FileStore D g))) (seen : Seen) →
+    ((P : Seen → Type 0) → P seen → Showed image P rest) → (fault : OpenFault)
     → OpensBy seen (Err fault) → RefusesToOpen image fault rest
 not_adopted_for image rest seen show opened.NotOurs by = inr (show (λ x. ShowsFault x opened.NotOurs ⊎ ShowsNothing x) by)
 not_adopted_for image rest seen show opened.NewFormat by = show (λ x. ShowsFault x opened.NewFormat) by
@@ -162,7 +175,8 @@ old_blame_no_file s old new (opened.Device e) h = tt
 old_blame_no_file s old new opened.Memory h = tt
 
 -- tables that are not made
-pub not_made_for : (image : Image) (fault : CreateFault) → (fault ≡ created.NotOurs → ⊥) → (fault ≡ created.Taken → RefusesToCreate image created.Taken) → RefusesToCreate image fault
+pub not_made_for : (image : Image) (fault : CreateFault) → (fault ≡ created.NotOurs → ⊥) → (fault ≡ created.Taken → RefusesToCreate image created.Taken) →
+    RefusesToCreate image fault
 not_made_for image created.NotOurs of_tables taken = absurd (of_tables refl)
 not_made_for image created.Taken of_tables taken = taken refl
 not_made_for image (created.Device e) of_tables taken = tt
@@ -171,6 +185,7 @@ not_made_for image created.Memory of_tables taken = tt
 -- new files are not to blame
 pub new_blame_no_file : (image : Image) → IsNothing image → (fault : CreateFault) → RefusesToCreate image fault → CreateBlamesNoFile fault
 new_blame_no_file image nothing created.NotOurs h = h (inr nothing)
-new_blame_no_file image nothing created.Taken h = let none = new_takes_none image nothing h.0 h.1 h.2 h.3 in let wrong : false ≡ true = subst IsTrue none h.4 in cc
+new_blame_no_file image nothing created.Taken h = let none = new_takes_none image nothing h.0 h.1 h.2 h.3 in let wrong : false ≡ true = subst IsTrue none h.4 in
+    cc
 new_blame_no_file image nothing (created.Device e) h = tt
 new_blame_no_file image nothing created.Memory h = tt

@@ -25,7 +25,8 @@ module _ (s : State) (b : BatchValue) (count : ℕ) (awaits : Awaits s b count) 
   pub act_is : (r : Result State (ℕ × Refusal)) → edited 1 s b.edits ≡ r → act s b ≡ fresh s b (len s.keys + 1) r
   act_is r is =
       ap (by_key s b) awaits.absent
-      ∙ ap (λ t. cond {A = Outcome} t (fresh s b (len s.keys + 1) (edited 1 s b.edits)) (record { reply = Refused Full None; state = s })) (room (len s.keys) (subst (λ n. n < 2 ^ 63 - 1) (sym awaits.counted) awaits.room))
+      ∙ ap (λ t. cond {A = Outcome} t (fresh s b (len s.keys + 1) (edited 1 s b.edits)) (record { reply = Refused Full None; state = s }))
+      (room (len s.keys) (subst (λ n. n < 2 ^ 63 - 1) (sym awaits.counted) awaits.room))
       ∙ ap (fresh s b (len s.keys + 1)) is
 
   pub same_keys : (t : State) → edited 1 s b.edits ≡ Ok t → t.keys ≡ s.keys

@@ -18,7 +18,8 @@ use Rattle.sqlite_trees.specs.Sound.{fits_kind, is_free_name, begins, same_name}
 use Rattle.sqlite_resolve.specs.Compile.{first}
 use Rattle.sqlite_resolve.specs.Lowering.{Checked}
 use Rattle.sqlite_tied.specs.Compute.{everything}
-use Rattle.streetmap_rows.specs.Tables.{meta, meta_text, meta_name, collections, collections_text, collections_name, batches, batches_text, batches_name, features, features_text, features_name}
+use Rattle.streetmap_rows.specs.Tables.{meta, meta_text, meta_name, collections, collections_text, collections_name, batches, batches_text, batches_name}
+use Rattle.streetmap_rows.specs.Tables.{features, features_text, features_name}
 use Rattle.streetmap_tables.specs.Made.{IsTableText}
 use Rattle.streetmap_tables.proofs.TableTexts.{meta_is, collections_is, batches_is, features_is}
 use Rattle.streetmap_tables.proofs.CreateRefused.{IsAllowed}
@@ -65,7 +66,8 @@ record Says (text name : List ℕ) : Type 0 where
   reserved_is : is_reserved name ≡ false
   fit_is : is_fit (Text (codes "table")) (Text name) (Text name) (Text text) ≡ true
 
-allowed : (text : List ℕ) (table : Table) → IsTableText text table → Says text table.name → (length table.computed == length table.stamps.places) ≡ true → is_formed table ≡ true → table_reals table < 2 ^ 64
+allowed : (text : List ℕ) (table : Table) → IsTableText text table → Says text table.name → (length table.computed == length table.stamps.places) ≡ true →
+    is_formed table ≡ true → table_reals table < 2 ^ 64
     → AllByRecursion (λ key. index_reals (table_reals table) key < 2 ^ 64) table.uniques → IsAllowed text table
 unfolding name_in name_of resolves_in resolves_of count_in tail_in
 allowed text table it says uncomputed formed few keys_few = record {
@@ -86,28 +88,68 @@ allowed text table it says uncomputed formed few keys_few = record {
 
 meta_says : Says meta_text meta_name
 unfolding everything name_in name_of resolves_in resolves_of count_in tail_in fits_kind is_free_name begins same_name value_cmp lib.Ieee.is_nan lib.Ieee.lt
-meta_says = record { name_is = refl; resolves_is = refl; count_is = refl; tail_is = omega arith; ascii_is = refl; name_ascii_is = refl; reserved_is = refl; fit_is = refl }
+meta_says = record {
+  name_is = refl;
+  resolves_is = refl;
+  count_is = refl;
+  tail_is = omega arith;
+  ascii_is = refl;
+  name_ascii_is = refl;
+  reserved_is =
+      refl;
+  fit_is = refl;
+}
 
 pub meta_allowed : IsAllowed meta_text (meta 0)
 meta_allowed = allowed meta_text (meta 0) meta_is meta_says refl refl (omega arith) (omega arith, tt)
 
 collections_says : Says collections_text collections_name
 unfolding everything name_in name_of resolves_in resolves_of count_in tail_in fits_kind is_free_name begins same_name value_cmp lib.Ieee.is_nan lib.Ieee.lt
-collections_says = record { name_is = refl; resolves_is = refl; count_is = refl; tail_is = omega arith; ascii_is = refl; name_ascii_is = refl; reserved_is = refl; fit_is = refl }
+collections_says = record {
+  name_is = refl;
+  resolves_is = refl;
+  count_is = refl;
+  tail_is = omega arith;
+  ascii_is = refl;
+  name_ascii_is = refl;
+  reserved_is =
+      refl;
+  fit_is = refl;
+}
 
 pub collections_allowed : IsAllowed collections_text (collections 0)
 collections_allowed = allowed collections_text (collections 0) collections_is collections_says refl refl (omega arith) (omega arith, tt)
 
 batches_says : Says batches_text batches_name
 unfolding everything name_in name_of resolves_in resolves_of count_in tail_in fits_kind is_free_name begins same_name value_cmp lib.Ieee.is_nan lib.Ieee.lt
-batches_says = record { name_is = refl; resolves_is = refl; count_is = refl; tail_is = omega arith; ascii_is = refl; name_ascii_is = refl; reserved_is = refl; fit_is = refl }
+batches_says = record {
+  name_is = refl;
+  resolves_is = refl;
+  count_is = refl;
+  tail_is = omega arith;
+  ascii_is = refl;
+  name_ascii_is = refl;
+  reserved_is =
+      refl;
+  fit_is = refl;
+}
 
 pub batches_allowed : IsAllowed batches_text (batches 0)
 batches_allowed = allowed batches_text (batches 0) batches_is batches_says refl refl (omega arith) (omega arith, (omega arith, tt))
 
 features_says : Says features_text features_name
 unfolding everything name_in name_of resolves_in resolves_of count_in tail_in fits_kind is_free_name begins same_name value_cmp lib.Ieee.is_nan lib.Ieee.lt
-features_says = record { name_is = refl; resolves_is = refl; count_is = refl; tail_is = omega arith; ascii_is = refl; name_ascii_is = refl; reserved_is = refl; fit_is = refl }
+features_says = record {
+  name_is = refl;
+  resolves_is = refl;
+  count_is = refl;
+  tail_is = omega arith;
+  ascii_is = refl;
+  name_ascii_is = refl;
+  reserved_is =
+      refl;
+  fit_is = refl;
+}
 
 pub features_allowed : IsAllowed features_text (features 0)
 features_allowed = allowed features_text (features 0) features_is features_says refl refl (omega arith) (omega arith, tt)

@@ -25,7 +25,12 @@ same_all a b same = subst (IsSameElsewhere a) (sym same) (record { schema = refl
 pub elsewhere_then : (a b c : Database) → IsSameElsewhere a b → IsSameElsewhere b c → IsSameElsewhere a c
 elsewhere_then a b c p q =
     let on = subst (λ s. IsSameElsewhere (record { schema = s; trees = b.trees }) c) p.schema q in
-    record { schema = on.schema; tables = λ t had other. on.tables t had other ∙ p.tables t had other; others = λ tree none no_index. on.others tree none no_index ∙ p.others tree none no_index }
+    record {
+      schema = on.schema;
+      tables = λ t had other. on.tables t had other ∙ p.tables t had other;
+      others = λ tree none no_index.
+          on.others tree none no_index ∙ p.others tree none no_index;
+    }
 
 pub keeps_rest : (a b : Seen) → IsUnchanged a b → KeepsRest a b
 keeps_rest a b u = (keeps a b u, same_all a.now b.now u.0.now_is)
@@ -39,7 +44,8 @@ pub still_represented : (a b : Seen) (s : State) → IsUnchanged a b → StandsF
 still_represented a b s u h = subst (StandsFor s) (sym u.0.now_is) h
 
 -- what a call inside answers, after others that kept the commit
-pub answered_on : (old mid new : Seen) (P Q : Option Refusal → Type 0) (r : Result (Option Refusal) Error) → ((o : Option Refusal) → P o → Q o) → KeepsRest old mid
+pub answered_on : (old mid new : Seen) (P Q : Option Refusal → Type 0) (r : Result (Option Refusal) Error) → ((o : Option Refusal) → P o → Q o) →
+    KeepsRest old mid
     → MatchResult r (λ o. P o × IsTrue new.in_transaction × KeepsRest mid new) (λ e. IsOfStore e × KeepsCommit mid new)
     → MatchResult r (λ o. Q o × IsTrue new.in_transaction × KeepsRest old new) (λ e. IsOfStore e × KeepsCommit old new)
 answered_on old mid new P Q (Ok o) turn kept h = (turn o h.0, h.1, rest_then old mid new kept h.2)

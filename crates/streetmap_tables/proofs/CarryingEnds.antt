@@ -31,14 +31,16 @@ old_same old new s rests same limit live = record {
 }
 
 -- a transaction that was undone leaves an open connection with the database that it had before it
-pub same_after_rollback : (old begun mid new : Seen) → begun.committed ≡ old.committed → KeepsCommit begun mid → IsRolledBack mid new → old.now ≡ old.committed → IsTrue new.is_open → HasSame old new
+pub same_after_rollback : (old begun mid new : Seen) → begun.committed ≡ old.committed → KeepsCommit begun mid → IsRolledBack mid new → old.now ≡ old.committed
+    → IsTrue new.is_open → HasSame old new
 same_after_rollback old begun mid new same kept back settled live =
     let was = kept.committed (back.was_open live) ∙ same in
     let undone = back.undone live in
     (undone.0 ∙ was ∙ sym settled, undone.1 ∙ was)
 
 -- a refusal, by what it reports
-pub refused_old : (s : State) (old new : Seen) (fault : OpenFault) → IsRefusedOld old.now.schema fault → (IsTrue new.is_open → RestsOld new s) → (fault ≡ Memory → IsTrue new.is_open × LeavesTheSame old new) → Carries s old new (Err fault)
+pub refused_old : (s : State) (old new : Seen) (fault : OpenFault) → IsRefusedOld old.now.schema fault → (IsTrue new.is_open → RestsOld new s) →
+    (fault ≡ Memory → IsTrue new.is_open × LeavesTheSame old new) → Carries s old new (Err fault)
 refused_old s old new NotOurs reported rests memory = reported
 refused_old s old new NewFormat reported rests memory = reported
 refused_old s old new Damaged reported rests memory = reported
@@ -52,7 +54,8 @@ held_back schema (read.Store e) not_of_disk = inl not_of_disk
 held_back schema read.Unread not_of_disk = not_of_disk
 
 -- after a read that left the same
-pub carries_on : (s : State) (old mid new : Seen) (r : Result ℕ OpenFault) → mid.now ≡ old.now → LeavesTheSame old mid → Carries s mid new r → Carries s old new r
+pub carries_on : (s : State) (old mid new : Seen) (r : Result ℕ OpenFault) → mid.now ≡ old.now → LeavesTheSame old mid → Carries s mid new r →
+    Carries s old new r
 carries_on s old mid new (Ok count) now same h = h
 carries_on s old mid new (Err NotOurs) now same h = h
 carries_on s old mid new (Err NewFormat) now same h = h
@@ -67,7 +70,8 @@ module _ (seen : Seen) (s : State) (rests : RestsOld seen s) where
   in_meta = is_found seen.now meta_name (meta rests.kept.roots.meta) rests.kept.sound rests.kept.ours.room.apart rests.kept.ours.meta_is
 
   pub old_format : (format : Option ℤ) → ShowsFormat seen format → format ≡ Some (pos 1)
-  old_format format reported = sym reported.2 ∙ ap format_in (format_seen seen seen rests.kept.roots.meta in_meta (pos 1) rests.kept.of.format reported.0 reported.1).0
+  old_format format reported = sym reported.2 ∙ ap format_in (format_seen seen seen rests.kept.roots.meta in_meta (pos 1) rests.kept.of.format reported.0
+      reported.1).0
 
   never_refused : ShowsNothing seen → ⊥
   never_refused it = it.1 (format_unrefused seen seen rests.kept.roots.meta in_meta rests.unlimited it.0 (inl it.2))

@@ -1,5 +1,6 @@
 -- Why a CREATE TABLE of ours may fail.
-use Rattle.std.proofs.Common.{◌≡◌, ◌⊎◌, inl, inr, ℕ, ◌^◌, ◌<◌, ◌≤◌, ◌+◌, List, [], ◌∷◌, length, Ok, Err, Result, refl, None, Some, true, false, ◌==◌, ap, sym, subst, ◌∙◌, arith, IsUtf8, codes, MatchBool}
+use Rattle.std.proofs.Common.{◌≡◌, ◌⊎◌, inl, inr, ℕ, ◌^◌, ◌<◌, ◌≤◌, ◌+◌, List, [], ◌∷◌, length, Ok, Err, Result, refl, None, Some, true, false, ◌==◌, ap, sym}
+use Rattle.std.proofs.Common.{subst, ◌∙◌, arith, IsUtf8, codes, MatchBool}
 use Rattle.sqlite.specs.Schema.{Schema}
 use Rattle.sqlite.specs.Table.{Table}
 use Rattle.sqlite.specs.Command.TheVariants.{CreateTable}
@@ -22,7 +23,8 @@ use Rattle.sqlite_catalog.proofs.StepLemmas.{no_table, no_index, no_view}
 use Rattle.std.specs.List.{AllByRecursion}
 use Rattle.sqlite_rules.specs.Lists.{Has}
 use Rattle.sqlite_rules.proofs.ListLemmas.{all_has}
-use Rattle.sqlite_resolve.specs.Compile.{compiled, planned, meaning, returning, command, timed, create_table, creates, is_attached, is_reserved, table_defined_by, table_in}
+use Rattle.sqlite_resolve.specs.Compile.{compiled, planned, meaning, returning, command, timed, create_table, creates, is_attached, is_reserved}
+use Rattle.sqlite_resolve.specs.Compile.{table_defined_by, table_in}
 use Rattle.sqlite_resolve.specs.Define as define
 use Rattle.streetmap_rows.proofs.StoreErrors.{failure_is}
 use Rattle.streetmap_rows.proofs.FixedRefused.{refused_as, stopped}
@@ -58,7 +60,16 @@ module _ (text : List ℕ) (table : Table) (it : IsAllowed text table) where
   module _ (schema : Schema) (free : is_used schema table.name ≡ false) where
     creates_it : create_table schema [] it.is.written ≡ Ok CreateTable
     unfolding create_table creates is_attached is_reserved
-    creates_it = rw (defines, it.resolved, it.named, no_table schema table.name free, no_index schema table.name free, no_view schema table.name free, it.unreserved, it.uncomputed) refl
+    creates_it = rw (
+      defines,
+      it.resolved,
+      it.named,
+      no_table schema table.name free,
+      no_index schema table.name free,
+      no_view schema table.name free,
+      it.unreserved,
+      it.uncomputed,
+    ) refl
 
     plan : planned schema it.is.parsed ≡ Ok ([], (CreateTable, None))
     unfolding planned meaning returning command timed
@@ -84,30 +95,37 @@ module _ (text : List ℕ) (table : Table) (it : IsAllowed text table) where
         ]
     only_full e BadName h is =
         let same : h.0 ≡ table = same_ok h.0 table _ h.1 it.is.defined in
-        absurd (elim (subst (λ (t : Table). IsBadName t.name (length t.uniques == 0)) same h.2) [ inl other ↦ other it.name_utf8 | inr reserved ↦ (let clash = sym it.unreserved ∙ reserved.0 in cc) ])
+        absurd (elim (subst (λ (t : Table). IsBadName t.name (length t.uniques == 0)) same h.2)
+        [ inl other ↦ other it.name_utf8 | inr reserved ↦ (let clash = sym it.unreserved ∙ reserved.0 in cc) ])
     only_full e TooBig h is =
         let same : h.0 ≡ table = same_ok h.0 table _ h.1 it.is.defined in
         elim h.2 [
           | inl many ↦ inr (inl (is, let more = subst (λ (t : Table). 65536 ≤ next_tree schema + length t.uniques) same many in omega (arith, more)))
           | inr wide ↦ elim wide [
             | inl reals ↦ absurd (let high = subst (λ (t : Table). 2 ^ 64 ≤ table_reals t) same reals in let low = it.few in omega (arith, high, low))
-            | inr key ↦ absurd (let high = subst (λ (t : Table). 2 ^ 64 ≤ index_reals (table_reals t) key.0) same key.2 in let low = all_has _ table.uniques key.0 it.keys_few (subst (λ (t : Table). Has t.uniques key.0) same key.1) in omega (arith, high, low))
+            | inr key ↦ absurd (let high = subst (λ (t : Table). 2 ^ 64 ≤ index_reals (table_reals t) key.0) same key.2 in let low =
+                all_has _ table.uniques key.0 it.keys_few (subst (λ (t : Table). Has t.uniques key.0) same key.1) in omega (arith, high, low))
           ]
         ]
-    only_full e BadKey h is = absurd (let same : h.0 ≡ table = same_ok h.0 table _ h.1 it.is.defined in let clash = sym it.formed ∙ ap is_formed (sym same) ∙ h.2 in cc)
+    only_full e BadKey h is = absurd (let same : h.0 ≡ table = same_ok h.0 table _ h.1 it.is.defined in let clash = sym it.formed ∙ ap is_formed (sym same)
+        ∙ h.2 in cc)
     only_full e BadText h is =
         let same : h.0 ≡ table = same_ok h.0 table _ h.1 it.is.defined in
         absurd (let clash = sym it.fit ∙ ap (λ (t : Table). is_fit (Text (codes "table")) (Text t.name) (Text t.name) (Text text)) (sym same) ∙ h.2 in cc)
     only_full e (Violates rule) h is = absurd h
 
-  pub reported_created : (old new : Seen) → is_used old.now.schema table.name ≡ false → lacks_sequence (created old.now.schema table) ≡ false → (e : Error) → ExecutesInside 0 text [] old new (Err e) → IsCreateError (table ∷ []) old.now.schema e
+  pub reported_created : (old new : Seen) → is_used old.now.schema table.name ≡ false → lacks_sequence (created old.now.schema table) ≡ false → (e : Error) →
+      ExecutesInside 0 text [] old new (Err e) → IsCreateError (table ∷ []) old.now.schema e
   reported_created old new free counts e (inr ended) =
-      absurd (never_ends text [] old old.now.schema CreateTable refl (command_is old.now.schema text 0 CreateTable (meant old.now.schema free)) (λ q. absurd (cc)) (λ q. absurd (cc)) (λ n q. absurd (cc)) (λ n q. absurd (cc)) ended.0)
+      absurd (never_ends text [] old old.now.schema CreateTable refl (command_is old.now.schema text 0 CreateTable (meant old.now.schema free))
+      (λ q. absurd (cc)) (λ q. absurd (cc)) (λ n q. absurd (cc)) (λ n q. absurd (cc)) ended.0)
   reported_created old new free counts e (inl h) =
       let m = meant old.now.schema free in
-      elim (refused_as text [] old new old.now.schema refl CreateTable (command_is old.now.schema text 0 CreateTable m) (is_plain old.now.schema text 0 CreateTable m) (runs_so old.now.schema text 0 CreateTable m refl) e h.0) [
+      elim (refused_as text [] old new old.now.schema refl CreateTable (command_is old.now.schema text 0 CreateTable m)
+      (is_plain old.now.schema text 0 CreateTable m) (runs_so old.now.schema text 0 CreateTable m refl) e h.0) [
         | inl refused ↦ elim refused.0 [
-          | inl misplaced ↦ absurd (never_misplaced old CreateTable e (λ q. absurd (cc)) (λ q. absurd (cc)) (λ q. absurd (cc)) (λ n q. absurd (cc)) (λ n q. absurd (cc)) misplaced)
+          | inl misplaced ↦ absurd (never_misplaced old CreateTable e (λ q. absurd (cc)) (λ q. absurd (cc)) (λ q. absurd (cc)) (λ n q. absurd (cc))
+              (λ n q. absurd (cc)) misplaced)
           | inr done ↦ refuses (subst (λ t. Does old.step_limit (mode_of old) [] old.now t None CreateTable (Err (Some e))) (text_is old.now.schema free) done)
         ]
         | inr failed ↦ inl (failure_is e failed.1.0 failed.1.1)

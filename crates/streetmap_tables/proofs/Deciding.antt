@@ -28,18 +28,22 @@ no_collection s name id h = go (get s.collections name) h
     go None e = refl
     go (Some c) e = absurd (cc)
 
-pub no_feature : (s : State) (name id : Text) → true ≡ is_some (get s.collections name) → false ≡ is_some (feature_at s (name, id)) → step s (edit.delete name id) ≡ Err NoFeature
+pub no_feature : (s : State) (name id : Text) → true ≡ is_some (get s.collections name) → false ≡ is_some (feature_at s (name, id)) →
+    step s (edit.delete name id) ≡ Err NoFeature
 no_feature s name id h k = go (get s.collections name) h k
   where
-    inner : (c : Collection) (o : Option FeatureValue) → false ≡ is_some o → (ok_or o NoFeature >>= λ old. Ok (with_features s name c (remove c.features id))) ≡ Err NoFeature
+    inner : (c : Collection) (o : Option FeatureValue) → false ≡ is_some o → (ok_or o NoFeature >>= λ old. Ok (with_features s name c (remove c.features id)))
+        ≡ Err NoFeature
     inner c None e = refl
     inner c (Some f) e = absurd (cc)
 
-    go : (o : Option Collection) → true ≡ is_some o → false ≡ is_some (option_and_then (λ (c : Collection). get c.features id) o) → (ok_or o NoCollection >>= deleted s name id) ≡ Err NoFeature
+    go : (o : Option Collection) → true ≡ is_some o → false ≡ is_some (option_and_then (λ (c : Collection). get c.features id) o) →
+        (ok_or o NoCollection >>= deleted s name id) ≡ Err NoFeature
     go None e f = absurd (cc)
     go (Some c) e f = inner c (get c.features id) f
 
-pub may_delete : (s : State) (name id : Text) → true ≡ is_some (get s.collections name) → true ≡ is_some (feature_at s (name, id)) → (t : State) × (step s (edit.delete name id) ≡ Ok t) × CutsFeature (name, id) s t
+pub may_delete : (s : State) (name id : Text) → true ≡ is_some (get s.collections name) → true ≡ is_some (feature_at s (name, id)) → (t : State)
+    × (step s (edit.delete name id) ≡ Ok t) × CutsFeature (name, id) s t
 may_delete s name id h k = go (get s.collections name) refl h k
   where
     inner : (c : Collection) → get s.collections name ≡ Some c → (o : Option FeatureValue) → get c.features id ≡ o → true ≡ is_some o
@@ -54,7 +58,8 @@ may_delete s name id h k = go (get s.collections name) refl h k
 
 -- ---- opening
 
-pub is_open : (s : State) (name title : Text) (time : Option Text) → true ≡ is_some (get s.collections name) → step s (edit.«open» name title time) ≡ Err CollectionExists
+pub is_open : (s : State) (name title : Text) (time : Option Text) → true ≡ is_some (get s.collections name) → step s (edit.«open» name title time)
+    ≡ Err CollectionExists
 is_open s name title time h = go (get s.collections name) h
   where
     go : (o : Option Collection) → true ≡ is_some o → (absent o CollectionExists >>= λ new. Ok (opened s name title time)) ≡ Err CollectionExists
@@ -120,7 +125,8 @@ module _ (s : State) (name : Text) (f : FeatureValue) where
 
 insert_again : {V : Type 0} (m : FinMap text_cmp V) (k : Text) (a b : V) → insert (insert m k a) k b ≡ insert m k b
 insert_again {V} m k a b = same_map nat_list_cmp_total one_text _ _ (λ q.
-    get-insert nat_list_cmp_total (insert m k a) k b q ∙ ap (cond (same_text q k) (Some b)) (get-insert nat_list_cmp_total m k a q) ∙ over (same_text q k) (get m q) ∙ sym (get-insert nat_list_cmp_total m k b q))
+    get-insert nat_list_cmp_total (insert m k a) k b q ∙ ap (cond (same_text q k) (Some b)) (get-insert nat_list_cmp_total m k a q)
+    ∙ over (same_text q k) (get m q) ∙ sym (get-insert nat_list_cmp_total m k b q))
   where
     over : (t : Bool) (o : Option V) → cond t (Some b) (cond t (Some a) o) ≡ cond t (Some b) o
     over true o = refl
@@ -128,7 +134,8 @@ insert_again {V} m k a b = same_map nat_list_cmp_total one_text _ _ (λ q.
 
 insert_cut : {V : Type 0} (m : FinMap text_cmp V) (k : Text) (b : V) → insert (remove m k) k b ≡ insert m k b
 insert_cut {V} m k b = same_map nat_list_cmp_total one_text _ _ (λ q.
-    get-insert nat_list_cmp_total (remove m k) k b q ∙ ap (cond (same_text q k) (Some b)) (get-remove nat_list_cmp_total m k q) ∙ over (same_text q k) (get m q) ∙ sym (get-insert nat_list_cmp_total m k b q))
+    get-insert nat_list_cmp_total (remove m k) k b q ∙ ap (cond (same_text q k) (Some b)) (get-remove nat_list_cmp_total m k q) ∙ over (same_text q k) (get m q)
+    ∙ sym (get-insert nat_list_cmp_total m k b q))
   where
     over : (t : Bool) (o : Option V) → cond t (Some b) (cond t None o) ≡ cond t (Some b) o
     over true o = refl
@@ -153,10 +160,19 @@ module _ (s : State) (name : Text) (f : FeatureValue) (c : Collection) (collecte
 
   put_back : (g : FeatureValue) → g.id ≡ f.id → with_feature between name without g ≡ with_feature s name c g
   put_back g named =
-      let features : insert (remove c.features f.id) g.id g ≡ insert c.features g.id g = ap (λ id. insert (remove c.features id) g.id g) (sym named) ∙ insert_cut c.features g.id g in
-      λ i. record s { collections = (ap (λ (m : Features). insert (insert s.collections name without) name (record c { features = m })) features ∙ insert_again s.collections name without (record c { features = insert c.features g.id g })) i }
+      let features : insert (remove c.features f.id) g.id g ≡ insert c.features g.id g = ap (λ id. insert (remove c.features id) g.id g) (sym named)
+      ∙ insert_cut c.features g.id g in
+      λ i. record s {
+        collections = (ap (λ (m : Features). insert (insert s.collections name without) name (record c { features = m })) features
+            ∙ insert_again s.collections name without (record c { features = insert c.features g.id g })) i;
+      }
 
   -- what the INSERT of the replacement answers
-  pub was_replaced : (new : Seen) (old : FeatureValue) → get c.features f.id ≡ Some old → ((g : FeatureValue) → timed c.time f ≡ Ok g → g.id ≡ f.id) → (o : Option Refusal) → WasPut between name without f new o → Answered s (edit.replace name f) new o
-  was_replaced new old found named None h = (with_feature s name c h.0, rw (collected, found, h.1) refl, subst (λ t. StandsFor t new.now) (put_back h.0 (named h.0 h.1)) h.2)
+  pub was_replaced : (new : Seen) (old : FeatureValue) → get c.features f.id ≡ Some old → ((g : FeatureValue) → timed c.time f ≡ Ok g → g.id ≡ f.id) →
+      (o : Option Refusal) → WasPut between name without f new o → Answered s (edit.replace name f) new o
+  was_replaced new old found named None h = (
+    with_feature s name c h.0,
+    rw (collected, found, h.1) refl,
+    subst (λ t. StandsFor t new.now) (put_back h.0 (named h.0 h.1)) h.2,
+  )
   was_replaced new old found named (Some why) h = rw (collected, found, h) refl

@@ -18,12 +18,20 @@ features_reads : is_ok (first drop_features) ≡ true
 unfolding everything
 features_reads = refl
 
-features_says : ((parsed_of (first drop_features) features_reads).statement ≡ written.DropTable false features_name) × ((parsed_of (first drop_features) features_reads).formats ≡ []) × (length drop_features ≤ (parsed_of (first drop_features) features_reads).tail) × (0 ≡ length (parsed_of (first drop_features) features_reads).names) × (is_reserved features_name ≡ false)
+features_says : ((parsed_of (first drop_features) features_reads).statement ≡ written.DropTable false features_name)
+    × ((parsed_of (first drop_features) features_reads).formats ≡ []) × (length drop_features ≤ (parsed_of (first drop_features) features_reads).tail)
+    × (0 ≡ length (parsed_of (first drop_features) features_reads).names) × (is_reserved features_name ≡ false)
 unfolding everything
 features_says = (refl, refl, omega arith, refl, refl)
 
 pub drops_features : IsDropText drop_features features_name
-drops_features = record { parsed = parsed_of (first drop_features) features_reads; is = was_parsed (first drop_features) features_reads; drops = features_says.0; plain = features_says.1 }
+drops_features = record {
+  parsed = parsed_of (first drop_features) features_reads;
+  is = was_parsed (first drop_features) features_reads;
+  drops =
+      features_says.0;
+  plain = features_says.1;
+}
 
 pub features_alone : IsDropAlone drop_features features_name
 unfolding drops_features
@@ -33,7 +41,9 @@ meta_reads : is_ok (first drop_meta) ≡ true
 unfolding everything
 meta_reads = refl
 
-meta_says : ((parsed_of (first drop_meta) meta_reads).statement ≡ written.DropTable false meta_name) × ((parsed_of (first drop_meta) meta_reads).formats ≡ []) × (length drop_meta ≤ (parsed_of (first drop_meta) meta_reads).tail) × (0 ≡ length (parsed_of (first drop_meta) meta_reads).names) × (is_reserved meta_name ≡ false)
+meta_says : ((parsed_of (first drop_meta) meta_reads).statement ≡ written.DropTable false meta_name) × ((parsed_of (first drop_meta) meta_reads).formats ≡ [])
+    × (length drop_meta ≤ (parsed_of (first drop_meta) meta_reads).tail) × (0 ≡ length (parsed_of (first drop_meta) meta_reads).names)
+    × (is_reserved meta_name ≡ false)
 unfolding everything
 meta_says = (refl, refl, omega arith, refl, refl)
 

@@ -1,5 +1,6 @@
 -- What a DROP TABLE that succeeded did, over any schema.
-use Rattle.std.proofs.Common.{◌≡◌, inl, inr, ℕ, Bool, List, [], ◌∷◌, Ok, Err, Result, refl, None, Some, Option, true, false, is_some, if◌then◌else◌, MatchBool, ap, sym, subst, subst₂, ◌∙◌, slice_get, arith}
+use Rattle.std.proofs.Common.{◌≡◌, inl, inr, ℕ, Bool, List, [], ◌∷◌, Ok, Err, Result, refl, None, Some, Option, true, false, is_some, if◌then◌else◌, MatchBool}
+use Rattle.std.proofs.Common.{ap, sym, subst, subst₂, ◌∙◌, slice_get, arith}
 use Rattle.std.specs.List.{list_any}
 use Rattle.std.proofs.lemmas.Bool.{cases_Bool, true≢false}
 use Rattle.sqlite.specs.Schema.{Schema}
@@ -45,7 +46,8 @@ only_dropped : (schema : Schema) (name : List ℕ) (c : Command) → drop_table 
 unfolding drop_table
 only_dropped schema name c h = go (is_reserved name) (is_some (view_named schema name)) (table_named schema name) refl h
   where
-    go : (r v : Bool) (o : Option ℕ) → table_named schema name ≡ o → (if r then Err Misuse else (if v then Err Misuse else dropped DropTable NoSuchTable false o)) ≡ Ok c → Finds schema name c
+    go : (r v : Bool) (o : Option ℕ) → table_named schema name ≡ o → (if r then Err Misuse else
+        (if v then Err Misuse else dropped DropTable NoSuchTable false o)) ≡ Ok c → Finds schema name c
     go true v o is e = absurd (cc)
     go false true o is e = absurd (cc)
     go false false None is e = absurd (cc)
@@ -59,10 +61,14 @@ module _ (text name : List ℕ) (it : IsDropText text name) where
   unfolding planned meaning returning command timed
   only_planned schema plan h = go (drop_table schema false name) refl (rw (it.drops, it.plain) at h)
     where
-      go : (r : Checked Command) → drop_table schema false name ≡ r → and_then (and_then r (λ c. Ok (c, None))) (λ found. Ok ([], found)) ≡ Ok plan → Finds schema name plan.1.0 × (plan.1.1 ≡ None) × (plan.0 ≡ [])
+      go : (r : Checked Command) → drop_table schema false name ≡ r → and_then (and_then r (λ c. Ok (c, None))) (λ found. Ok ([], found)) ≡ Ok plan →
+          Finds schema name plan.1.0 × (plan.1.1 ≡ None) × (plan.0 ≡ [])
       go (Ok c) is e =
-          let same : ([], (c, None)) ≡ plan = cc in
-          (subst (Finds schema name) (ap (λ (p : Planned). p.1.0) same) (only_dropped schema name c is), ap (λ (p : Planned). p.1.1) (sym same), ap (λ (p : Planned). p.0) (sym same))
+          let same : ([], (c, None)) ≡ plan = cc in (
+            subst (Finds schema name) (ap (λ (p : Planned). p.1.0) same) (only_dropped schema name c is),
+            ap (λ (p : Planned). p.1.1) (sym same),
+            ap (λ (p : Planned). p.0) (sym same),
+          )
       go (Err why) is e = absurd (cc)
 
   only_compiled : (schema : Schema) (c : Compiled) → compiled schema text ≡ Ok c → Goes schema c
@@ -72,8 +78,11 @@ module _ (text name : List ℕ) (it : IsDropText text name) where
       go : (r : Checked Planned) → planned schema it.parsed ≡ r → and_then r (λ plan. Ok (with_command it.parsed plan)) ≡ Ok c → Goes schema c
       go (Ok plan) is e =
           let same : with_command it.parsed plan ≡ c = cc in
-          let p = only_planned schema plan is in
-          (subst (Finds schema name) (ap (λ (x : Compiled). x.command) same) p.0, ap (λ (x : Compiled). x.returning) (sym same) ∙ p.1, ap (λ (x : Compiled). x.formats) (sym same) ∙ p.2)
+          let p = only_planned schema plan is in (
+            subst (Finds schema name) (ap (λ (x : Compiled). x.command) same) p.0,
+            ap (λ (x : Compiled). x.returning) (sym same) ∙ p.1,
+            ap (λ (x : Compiled). x.formats) (sym same) ∙ p.2,
+          )
       go (Err why) is e = absurd (cc)
 
   -- it is no query on the listing
@@ -98,7 +107,8 @@ none_any p (x ∷ xs) none = rw (none x (inl refl)) (none_any p xs (λ y h. none
 pub idle : (schema : Schema) (keys : Keys) (name : List ℕ) (table : Table) → CanGo schema name table → is_acted_on schema keys table ≡ false
 idle schema keys name table it = none_any _ schema.tables (λ t h. none_any _ t.references (λ ref known. rw (it.free t ref h known)))
 
-module _ (limit : Option ℕ) (params : Row) (mode : Mode) (from : Database) (name : List ℕ) (table : Table) (it : CanGo from.schema name table) (tally : Tally) (new : Database) where
+module _ (limit : Option ℕ) (params : Row) (mode : Mode) (from : Database) (name : List ℕ) (table : Table) (it : CanGo from.schema name table) (tally : Tally)
+    (new : Database) where
   abbrev task : Task
   task = record { limit = limit; keys = mode.keys; schema = from.schema; table = table; params = params }
 
@@ -109,7 +119,9 @@ module _ (limit : Option ℕ) (params : Row) (mode : Mode) (from : Database) (na
   drops : IsDatabase new → Drops task mode from.trees (Ok (tally, new)) → Dropped table from new
   drops sound h =
       let one = went h in
-      let emptied : one.0 ≡ from.trees = same_value (subst (λ b. MatchBool b (Edited from.schema mode.keys from.trees (edit_of from.trees table (ids_of (from.trees table.tree)) Given 0 []) (Ok one.0)) (Gives from.trees (Ok one.0))) (idle from.schema mode.keys name table it) one.1) in
+      let emptied : one.0 ≡ from.trees = same_value (subst (λ b. MatchBool b (Edited from.schema mode.keys from.trees
+      (edit_of from.trees table (ids_of (from.trees table.tree)) Given 0 []) (Ok one.0)) (Gives from.trees (Ok one.0)))
+      (idle from.schema mode.keys name table it) one.1) in
       let two = went one.2 in
       let counted : two.0 ≡ one.0 = uncounts table.is_counted (sequence from.schema) two.0 one.0 it.uncounted two.1 in
       let three = went two.2 in
@@ -117,7 +129,8 @@ module _ (limit : Option ℕ) (params : Row) (mode : Mode) (from : Database) (na
       let last : new ≡ four.0 = ap (λ (x : Tally × Database). x.1) (same_value four.2) in
       record {
         schema = ap (λ (x : Database). x.schema) last ∙ four.1.0;
-        rows = subst₂ (λ (x : Database) (was : Trees). KeepsRows x.schema.tables was x.trees) (sym last) (counted ∙ emptied) (subst (λ (x : Schema). KeepsRows x.tables two.0 four.0.trees) (sym four.1.0) four.1.1);
+        rows = subst₂ (λ (x : Database) (was : Trees). KeepsRows x.schema.tables was x.trees) (sym last) (counted ∙ emptied)
+            (subst (λ (x : Schema). KeepsRows x.tables two.0 four.0.trees) (sym four.1.0) four.1.1);
         sound = sound;
       }
 
@@ -137,6 +150,14 @@ module _ (text name : List ℕ) (it : IsDropText text name) (old new : Seen) (ta
         | inl shows ↦ absurd (let e = (rw shows at h.2).0 in cc)
         | inr runs ↦ rw runs at h.2
       ] in
-      let w : Writes old new None (DropTable goes.0.0) (text_of text h.0) (timed_with [] h.0.formats h.1.now) count = subst₂ (λ r k. Runs old new r k (text_of text h.0) (timed_with [] h.0.formats h.1.now) count) goes.1 goes.0.2 ran in
+      let w : Writes old new None (DropTable goes.0.0) (text_of text h.0) (timed_with [] h.0.formats h.1.now) count =
+      subst₂ (λ r k. Runs old new r k (text_of text h.0) (timed_with [] h.0.formats h.1.now) count) goes.1 goes.0.2 ran in
       drops old.step_limit (timed_with [] h.0.formats h.1.now) (mode_of old) old.now name table can w.tally new.now w.sound
-      (subst (λ o. AtPlace (λ t. Drops (record { limit = old.step_limit; keys = (mode_of old).keys; schema = old.now.schema; table = t; params = timed_with [] h.0.formats h.1.now }) (mode_of old) old.now.trees) o (Ok (w.tally, new.now))) (listed goes.0.0 goes.0.1) w.changed)
+      (subst (λ o. AtPlace (λ t. Drops (record {
+        limit = old.step_limit;
+        keys = (mode_of old).keys;
+        schema = old.now.schema;
+        table = t;
+        params =
+            timed_with [] h.0.formats h.1.now;
+      }) (mode_of old) old.now.trees) o (Ok (w.tally, new.now))) (listed goes.0.0 goes.0.1) w.changed)

@@ -1,5 +1,6 @@
 -- What the format row and the serials of a state's tables show, and what a query in a transaction keeps.
-use Rattle.std.proofs.Common.{◌≡◌, ◌⊎◌, ℕ, suc, List, [], ◌∷◌, map, filter, length, codes, Bool, true, false, ◌&&◌, drop, find, Option, Some, None, option_map, pos, ℤ, if◌then◌else◌, refl, sym, ap, ◌∙◌, nat_le, ◌^◌}
+use Rattle.std.proofs.Common.{◌≡◌, ◌⊎◌, ℕ, suc, List, [], ◌∷◌, map, filter, length, codes, Bool, true, false, ◌&&◌, drop, find, Option, Some, None, option_map}
+use Rattle.std.proofs.Common.{pos, ℤ, if◌then◌else◌, refl, sym, ap, ◌∙◌, nat_le, ◌^◌}
 use Rattle.std.specs.List.{list_all}
 use Rattle.std.specs.Option.{option_to_list}
 use Rattle.std.specs.Cmp.{eq_by_cmp_equiv}
@@ -50,11 +51,13 @@ abbrev pub cells_for : ℤ → Text → Option Row
 cells_for n key = if same_text key name then Some (Words name ∷ Int n ∷ []) else None
 
 cell_one : (n : ℤ) (key : Text) (r : Row) (b : Bool) → same_text key name ≡ b → cells_for n key ≡ Some (drop 1 r) → column r 1 ≡ Words key
-cell_one n key r true same h = let cells : Words name ∷ Int n ∷ [] ≡ drop 1 r = (let e : Some (Words name ∷ Int n ∷ []) ≡ Some (drop 1 r) = sym (rw same refl) ∙ h in cc) in column_later r 0 ∙ ap (λ x. column x 0) (sym cells) ∙ ap Words (sym (text_is key name same))
+cell_one n key r true same h = let cells : Words name ∷ Int n ∷ [] ≡ drop 1 r = (let e : Some (Words name ∷ Int n ∷ []) ≡ Some (drop 1 r) = sym (rw same refl)
+    ∙ h in cc) in column_later r 0 ∙ ap (λ x. column x 0) (sym cells) ∙ ap Words (sym (text_is key name same))
 cell_one n key r false same h = absurd (let e : None ≡ Some (drop 1 r) = sym (rw same refl) ∙ h in cc)
 
 -- the one row that is found shows the format
-shows : (n : ℤ) (o : Option Row) → option_map (drop 1) o ≡ cells_for n name → option_to_list (option_map (λ r. eval_all (col 1 2 ∷ []) ([] ∷ r ∷ [])) o) ≡ (Int n ∷ []) ∷ []
+shows : (n : ℤ) (o : Option Row) → option_map (drop 1) o ≡ cells_for n name → option_to_list (option_map (λ r. eval_all (col 1 2 ∷ []) ([] ∷ r ∷ [])) o)
+    ≡ (Int n ∷ []) ∷ []
 shows n None h = absurd (cc)
 shows n (Some r) h = let cells : drop 1 r ≡ Words name ∷ Int n ∷ [] = cc in ap (λ v. (v ∷ []) ∷ []) (column_later r 1 ∙ ap (λ x. column x 1) cells)
 
@@ -67,9 +70,11 @@ map_length f [] = refl
 map_length f (x ∷ xs) = ap suc (map_length f xs)
 
 -- all rows of a table are shown
-all_shown : (db : Trees) (tree : ℕ) (project : List Term) (rows : List Row) → nat_le (2 ^ 31) tree ≡ false → IsAnswerAs Null (over tree [] project) (overlay db []) [] rows → length rows ≡ length (db tree)
+all_shown : (db : Trees) (tree : ℕ) (project : List Term) (rows : List Row) → nat_le (2 ^ 31) tree ≡ false →
+    IsAnswerAs Null (over tree [] project) (overlay db []) [] rows → length rows ≡ length (db tree)
 all_shown db tree project rows low a =
-    let stage = a.grouped ∙ staged db tree [] [] low ∙ picked (λ r. list_all (holds ([] ∷ r ∷ [])) []) (λ r. [] ∷ r ∷ []) (db tree) ∙ ap (map (λ r. [] ∷ r ∷ [])) (filter_all (λ r. list_all (holds ([] ∷ r ∷ [])) []) (db tree) (λ r. refl)) in
+    let stage = a.grouped ∙ staged db tree [] [] low ∙ picked (λ r. list_all (holds ([] ∷ r ∷ [])) []) (λ r. [] ∷ r ∷ []) (db tree)
+    ∙ ap (map (λ r. [] ∷ r ∷ [])) (filter_all (λ r. list_all (holds ([] ∷ r ∷ [])) []) (db tree) (λ r. refl)) in
     let kept = a.distinct ∙ ap (map (output (over tree [] project))) stage in
     let one = ap length a.shown ∙ map_length (λ (o : Output). o.1) a.ordered in
     let two = length_permutation _ a.ordered a.same in
@@ -85,8 +90,10 @@ module _ (old new : Seen) (tree : ℕ) (in_meta : IsFound old.now.schema meta_na
   module _ (n : ℤ) (has : HoldsByKey first_key is_first (cells_for n) (old.now.trees tree)) where
     named_is : (r : Row) → Has (old.now.trees tree) r → list_all (holds ([] ∷ r ∷ [])) tests ≡ is_first name r
     named_is r h =
-        let one = cell_one n (first_key r) r (same_text (first_key r) name) refl (cells_of first_key is_first first_is first_self _ (old.now.trees tree) has r h) in
-        rw (one, equal_texts (bytes (column r 1)) name) (last (same_text (bytes (column r 1)) name) ∙ (eq_by_cmp_equiv nat_list_cmp_total).symm (bytes (column r 1)) name)
+        let one = cell_one n (first_key r) r (same_text (first_key r) name) refl (cells_of first_key is_first first_is first_self _ (old.now.trees tree) has r
+        h) in
+        rw (one, equal_texts (bytes (column r 1)) name) (last (same_text (bytes (column r 1)) name)
+        ∙ (eq_by_cmp_equiv nat_list_cmp_total).symm (bytes (column r 1)) name)
       where
         last : (a : Bool) → (a && true) ≡ a
         last true = refl
@@ -96,13 +103,15 @@ module _ (old new : Seen) (tree : ℕ) (in_meta : IsFound old.now.schema meta_na
     format_seen rows h =
         let read = answered select_format [] old new _ _ format_means rows h in
         let found = find (is_first name) (old.now.trees tree) in (
-          chosen old.now.trees tree tests (col 1 2 ∷ []) [] (staged old.now.trees tree tests [] in_meta.low) (is_first name) named_is found (filter_one first_key is_first first_is first_self _ (old.now.trees tree) has name) rows (read.0.answer Null)
+          chosen old.now.trees tree tests (col 1 2 ∷ []) [] (staged old.now.trees tree tests [] in_meta.low) (is_first name) named_is found
+              (filter_one first_key is_first first_is first_self _ (old.now.trees tree) has name) rows (read.0.answer Null)
               ∙ shows n found (has.found name),
           read.1,
         )
 
   pub format_unrefused : old.step_limit ≡ None → (e : Error) → FailsToQuery select_format [] old new e ⊎ IsTooLate select_format [] old new e → IsOfStore e
-  format_unrefused limit e h = (fails_inside select_format [] old new _ _ format_means limit (select_format_never old.now.schema tree in_meta old.now.trees) e h).0
+  format_unrefused limit e h = (fails_inside select_format [] old new _ _ format_means limit (select_format_never old.now.schema tree in_meta old.now.trees) e
+      h).0
 
 -- ---- a table of the batches
 
@@ -111,7 +120,8 @@ module _ (old new : Seen) (tree : ℕ) (in_batches : IsFound old.now.schema batc
   serials_means = select_serials_means old.now.schema tree in_batches
 
   pub serials_unrefused : old.step_limit ≡ None → (e : Error) → FailsToQuery serials_text [] old new e ⊎ IsTooLate serials_text [] old new e → IsOfStore e
-  serials_unrefused limit e h = (fails_inside serials_text [] old new _ _ serials_means limit (select_serials_never old.now.schema tree in_batches old.now.trees) e h).0
+  serials_unrefused limit e h = (fails_inside serials_text [] old new _ _ serials_means limit
+      (select_serials_never old.now.schema tree in_batches old.now.trees) e h).0
 
 -- ---- the tables of a state
 

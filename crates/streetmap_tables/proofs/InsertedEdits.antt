@@ -1,5 +1,6 @@
 -- Edits that one statement made, one after the other.
-use Rattle.std.proofs.Common.{◌≡◌, ℕ, ◌+◌, suc, List, [], ◌∷◌, ◌++◌, map, slice_get, length, Some, None, Ok, Err, Option, Bool, true, false, Result, MatchResult, OnOk, IsTrue, cond, refl, sym, ap, subst, ◌∙◌}
+use Rattle.std.proofs.Common.{◌≡◌, ℕ, ◌+◌, suc, List, [], ◌∷◌, ◌++◌, map, slice_get, length, Some, None, Ok, Err, Option, Bool, true, false, Result}
+use Rattle.std.proofs.Common.{MatchResult, OnOk, IsTrue, cond, refl, sym, ap, subst, ◌∙◌}
 use Rattle.std.specs.Prelude.{MatchBool}
 use Rattle.sqlite.specs.State.{State as Seen, IsUnchanged, KeepsCommit}
 use Rattle.sqlite.specs.declared.error.Error.{Error}
@@ -26,7 +27,8 @@ use Rattle.streetmap_tables.specs.Insertions.{IsInsertion, AreInsertions, MadeOr
 use Rattle.streetmap_tables.proofs.EditEffects.{edited_more}
 
 -- one more row
-pub one_more : (name : Text) (property : Option Text) (es : List EditValue) (rows : List FeatureRow) (e : EditValue) (row : FeatureRow) → AreInsertions name property es rows → IsInsertion name property e row → AreInsertions name property (es ++ e ∷ []) (rows ++ row ∷ [])
+pub one_more : (name : Text) (property : Option Text) (es : List EditValue) (rows : List FeatureRow) (e : EditValue) (row : FeatureRow) →
+    AreInsertions name property es rows → IsInsertion name property e row → AreInsertions name property (es ++ e ∷ []) (rows ++ row ∷ [])
 one_more name property [] [] e row are is = (is, tt)
 one_more name property (x ∷ es) (r ∷ rows) e row are is = (are.0, one_more name property es rows e row are.1 is)
 one_more name property [] (r ∷ rows) e row are is = absurd are
@@ -47,7 +49,8 @@ module _ (name : Text) (property : Option Text) where
   rows_are (e ∷ es) [] are = absurd are
 
   -- one insertion
-  inserted_one : (s m : State) (c : Collection) (e : EditValue) (row : FeatureRow) (is : IsInsertion name property e row) → get s.collections name ≡ Some c → c.time ≡ property
+  inserted_one : (s m : State) (c : Collection) (e : EditValue) (row : FeatureRow) (is : IsInsertion name property e row) → get s.collections name ≡ Some c →
+      c.time ≡ property
       → PutsFeature (name, is.feature.id) is.under.kept s m → (step s e ≡ Ok m) × ((d : Collection) × (get m.collections name ≡ Some d) × (d.time ≡ property))
   inserted_one s m c e row is there time puts =
       let f = is.feature in
@@ -55,14 +58,17 @@ module _ (name : Text) (property : Option Text) where
       let same : puts.collection ≡ c = let h = sym puts.there ∙ there in cc in
       let absent : get c.features f.id ≡ None = subst (λ (x : Collection). get x.features f.id ≡ None) same puts.absent in
       let reported : timed c.time f ≡ Ok kept = ap (λ p. timed p f) time ∙ is.under.is in
-      let put : m ≡ with_feature s name c kept = puts.is ∙ ap (λ (x : Collection). with_features s name x (insert x.features f.id kept)) same ∙ ap (λ id. with_features s name c (insert c.features id kept)) (sym is.under.named) in
+      let put : m ≡ with_feature s name c kept = puts.is ∙ ap (λ (x : Collection). with_features s name x (insert x.features f.id kept)) same
+      ∙ ap (λ id. with_features s name c (insert c.features id kept)) (sym is.under.named) in
       let stepped : step s (edit.insert name f) ≡ Ok (with_feature s name c kept) = rw (there, absent, reported) refl in
       let now = record c { features = insert c.features kept.id kept } in
-      let has : get m.collections name ≡ Some now = ap (λ (x : State). get x.collections name) put ∙ (get-insert nat_list_cmp_total s.collections name now name ∙ ap (λ t. cond t (Some now) (get s.collections name)) (text_self name)) in
+      let has : get m.collections name ≡ Some now = ap (λ (x : State). get x.collections name) put
+      ∙ (get-insert nat_list_cmp_total s.collections name now name ∙ ap (λ t. cond t (Some now) (get s.collections name)) (text_self name)) in
       (ap (step s) is.is ∙ stepped ∙ ap (λ x. Ok x) (sym put), (now, has, time))
 
   -- all of them
-  pub inserted_all : (es : List EditValue) (rows : List FeatureRow) (are : AreInsertions name property es rows) (place : ℕ) (s t : State) (c : Collection) → get s.collections name ≡ Some c → c.time ≡ property
+  pub inserted_all : (es : List EditValue) (rows : List FeatureRow) (are : AreInsertions name property es rows) (place : ℕ) (s t : State) (c : Collection) →
+      get s.collections name ≡ Some c → c.time ≡ property
       → PutsEach name (entries es rows are) s t → edited place s es ≡ Ok t
   inserted_all [] [] are place s t c there time puts = ap (λ x. Ok x) (sym puts)
   inserted_all (e ∷ es) (row ∷ rows) are place s t c there time puts =
@@ -78,13 +84,17 @@ module _ (name : Text) (property : Option Text) where
   as_many (e ∷ es) [] are = absurd are
 
   -- what the statement answered, as edits
-  pub made_or_left : (es : List EditValue) (rows : List FeatureRow) (are : AreInsertions name property es rows) (old new : Seen) (s : State) (c : Collection) → get s.collections name ≡ Some c → c.time ≡ property → StandsFor s old.now
+  pub made_or_left : (es : List EditValue) (rows : List FeatureRow) (are : AreInsertions name property es rows) (old new : Seen) (s : State) (c : Collection) →
+      get s.collections name ≡ Some c → c.time ≡ property → StandsFor s old.now
       → (r : Result Bool Error)
-      → MatchResult r (λ put. MatchBool put ((t : State) × PutsEach name (entries es rows are) s t × StandsFor t new.now × IsSameElsewhere old.now new.now) (IsUnchanged old new)) IsOfStore
+      → MatchResult r (λ put. MatchBool put ((t : State) × PutsEach name (entries es rows are) s t × StandsFor t new.now × IsSameElsewhere old.now new.now)
+      (IsUnchanged old new)) IsOfStore
       → OnOk r (IsTrue new.in_transaction) → KeepsCommit old new
       → MatchResult r (λ made. MadeOrLeft s es new made × IsTrue new.in_transaction × KeepsRest old new) (λ e. IsOfStore e × KeepsCommit old new)
-  made_or_left es rows are old new s c there time represented (Ok true) put within kept = ((put.0, inserted_all es rows are 1 s put.0 c there time put.1, put.2), within, (kept, put.3))
-  made_or_left es rows are old new s c there time represented (Ok false) same within kept = (still_represented old new s same represented, within, keeps_rest old new same)
+  made_or_left es rows are old new s c there time represented (Ok true) put within kept =
+      ((put.0, inserted_all es rows are 1 s put.0 c there time put.1, put.2), within, (kept, put.3))
+  made_or_left es rows are old new s c there time represented (Ok false) same within kept =
+      (still_represented old new s same represented, within, keeps_rest old new same)
   made_or_left es rows are old new s c there time represented (Err e) of_store within kept = (of_store, kept)
 
 -- the same after a read

@@ -1,5 +1,6 @@
 -- The rows of the features of a state in format 1, in whatever order they are shown.
-use Rattle.std.proofs.Common.{◌≡◌, ◌≢◌, inl, inr, ℕ, ◌≤◌, List, [], ◌∷◌, map, Bool, true, false, ◌&&◌, cond, drop, Option, Some, None, option_map, nat_le, ◌^◌, refl, sym, ap, subst, ◌∙◌, arith}
+use Rattle.std.proofs.Common.{◌≡◌, ◌≢◌, inl, inr, ℕ, ◌≤◌, List, [], ◌∷◌, map, Bool, true, false, ◌&&◌, cond, drop, Option, Some, None, option_map, nat_le, ◌^◌}
+use Rattle.std.proofs.Common.{refl, sym, ap, subst, ◌∙◌, arith}
 use Rattle.std.specs.List.{AllByRecursion, list_all, sum_by}
 use Rattle.std.specs.List.Sorted.{IsPermutation}
 use Rattle.std.proofs.lemmas.List.Sorted.{IsPermutation-map, sum_by-IsPermutation, Contains-permutation, All-permutation}
@@ -37,12 +38,15 @@ abbrev shown : Row → Row
 shown r = eval_all cells ([] ∷ r ∷ [])
 
 -- every row is shown, in some order
-all_shown : (db : Trees) (tree : ℕ) (rows : List Row) → nat_le (2 ^ 31) tree ≡ false → IsAnswerAs Null (over tree [] cells) (overlay db []) [] rows → IsPermutation (map shown (db tree)) rows
+all_shown : (db : Trees) (tree : ℕ) (rows : List Row) → nat_le (2 ^ 31) tree ≡ false → IsAnswerAs Null (over tree [] cells) (overlay db []) [] rows →
+    IsPermutation (map shown (db tree)) rows
 all_shown db tree rows low a =
-    let stage = a.grouped ∙ staged db tree [] [] low ∙ picked (λ r. list_all (holds ([] ∷ r ∷ [])) []) (λ r. [] ∷ r ∷ []) (db tree) ∙ ap (map (λ r. [] ∷ r ∷ [])) (filter_all (λ r. list_all (holds ([] ∷ r ∷ [])) []) (db tree) (λ r. refl)) in
+    let stage = a.grouped ∙ staged db tree [] [] low ∙ picked (λ r. list_all (holds ([] ∷ r ∷ [])) []) (λ r. [] ∷ r ∷ []) (db tree)
+    ∙ ap (map (λ r. [] ∷ r ∷ [])) (filter_all (λ r. list_all (holds ([] ∷ r ∷ [])) []) (db tree) (λ r. refl)) in
     let kept = a.distinct ∙ ap (map (output (over tree [] cells))) stage ∙ map_map (λ r. [] ∷ r ∷ []) (output (over tree [] cells)) (db tree) in
     let mapped = IsPermutation-map (λ (o : Output). o.1) a.kept a.ordered a.same in
-    let from : map (λ (o : Output). o.1) a.kept ≡ map shown (db tree) = ap (map (λ (o : Output). o.1)) kept ∙ map_map (λ r. output (over tree [] cells) ([] ∷ r ∷ [])) (λ (o : Output). o.1) (db tree) in
+    let from : map (λ (o : Output). o.1) a.kept ≡ map shown (db tree) = ap (map (λ (o : Output). o.1)) kept
+    ∙ map_map (λ r. output (over tree [] cells) ([] ∷ r ∷ [])) (λ (o : Output). o.1) (db tree) in
     subst (λ ys. IsPermutation (map shown (db tree)) ys) (sym a.shown) (subst (λ xs. IsPermutation xs (map (λ (o : Output). o.1) a.ordered)) from mapped)
 
 has_mapped : {A B : Type 0} (f : A → B) (xs : List A) (x : A) → Has xs x → Has (map f xs) (f x)
@@ -86,7 +90,8 @@ once (r ∷ rows) apart p =
     elim (cases_Bool (is_pair p (pair_in r))) [
       | inl here ↦
           (let one : times p r ≡ 1 = rw here refl in
-          let more = never p rows (subst (λ q. AllByRecursion (λ x. q ≢ pair_in x) rows) (sym (pair_same p (pair_in r) here)) apart.0) in omega (arith, one, more, both))
+          let more = never p rows (subst (λ q. AllByRecursion (λ x. q ≢ pair_in x) rows) (sym (pair_same p (pair_in r) here)) apart.0) in
+          omega (arith, one, more, both))
       | inr other ↦
           (let none : times p r ≡ 0 = rw other refl in
           let more = once rows apart.1 p in omega (arith, none, more, both))
@@ -108,8 +113,11 @@ ascends [] few = tt
 ascends (r ∷ rows) few =
     let own : times (pair_in r) r ≡ 1 = rw (pair_own (pair_in r)) refl in
     let both = sum_by-cons (times (pair_in r)) r rows in
-    let most = few (pair_in r) in
-    (others (pair_in r) rows (omega (arith, own, both, most)), ascends rows (λ p. let all = sum_by-cons (times p) r rows in let at = few p in omega (arith, all, at)))
+    let most = few (pair_in r) in (
+      others (pair_in r) rows (omega (arith, own, both, most)),
+      ascends rows (λ p. let all = sum_by-cons (times p) r rows in let at = few p in
+          omega (arith, all, at)),
+    )
 
 apart_shuffled : (xs ys : List Row) → IsPermutation xs ys → Apart xs → Apart ys
 apart_shuffled xs ys s apart = ascends ys (λ p. let same = sum_by-IsPermutation (times p) xs ys s in let most = once xs apart p in omega (arith, same, most))
@@ -135,7 +143,10 @@ module _ (s : State) (db : Trees) (tree : ℕ) (has : HoldsByKey pair_key has_pa
 
   apart_mapped : (rows : List Row) → IsAscending (λ a b. pair_key a ≢ pair_key b) rows → Apart (map shown rows)
   apart_mapped [] up = tt
-  apart_mapped (r ∷ rows) up = (all_mapped (λ x. pair_in (shown r) ≢ pair_in x) shown rows (λ x h. all_has (λ y. pair_key r ≢ pair_key y) rows x up.0 h), apart_mapped rows up.1)
+  apart_mapped (r ∷ rows) up = (
+    all_mapped (λ x. pair_in (shown r) ≢ pair_in x) shown rows (λ x h. all_has (λ y. pair_key r ≢ pair_key y) rows x up.0 h),
+    apart_mapped rows up.1,
+  )
 
   has_row : (p : KeyPair) (f : FeatureValue) → feature_at s p ≡ Some f → Has (map shown (db tree)) (old_cells p f)
   has_row p f is =
@@ -150,7 +161,9 @@ module _ (s : State) (db : Trees) (tree : ℕ) (has : HoldsByKey pair_key has_pa
   are_rows rows low a =
       let same = all_shown db tree rows low a in
       record {
-        each = recursion_from_All (IsRowOf s) rows (All-permutation (IsRowOf s) (map shown (db tree)) rows same (All-from_recursion (IsRowOf s) (map shown (db tree)) (all_mapped (IsRowOf s) shown (db tree) row_is)));
+        each = recursion_from_All (IsRowOf s) rows (All-permutation (IsRowOf s) (map shown (db tree)) rows same
+            (All-from_recursion (IsRowOf s) (map shown (db tree)) (all_mapped (IsRowOf s) shown (db tree) row_is)));
         apart = apart_shuffled (map shown (db tree)) rows same (apart_mapped (db tree) has.apart);
-        all = λ p f is. has_contained rows (old_cells p f) (Contains-permutation (map shown (db tree)) rows (old_cells p f) same (contains_had (map shown (db tree)) (old_cells p f) (has_row p f is)));
+        all = λ p f is. has_contained rows (old_cells p f) (Contains-permutation (map shown (db tree)) rows (old_cells p f) same
+            (contains_had (map shown (db tree)) (old_cells p f) (has_row p f is)));
       }

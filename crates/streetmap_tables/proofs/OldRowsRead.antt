@@ -28,7 +28,12 @@ module _ (old new : Seen) (s : State) (keeps : KeepsOld s old.now) where
   rows_mean = select_rows_means old.now.schema roots.features in_features
 
   pub rows_shown : (rows : List Row) → Shown rows_text [] old new rows → AreRowsOf s rows × IsUnchanged old new
-  rows_shown rows h = let read = answered rows_text [] old new _ _ rows_mean rows h in (are_rows s old.now.trees roots.features keeps.of.features rows in_features.low (read.0.answer Null), read.1)
+  rows_shown rows h = let read = answered rows_text [] old new _ _ rows_mean rows h in (
+    are_rows s old.now.trees roots.features keeps.of.features rows
+        in_features.low (read.0.answer Null),
+    read.1,
+  )
 
   pub rows_reported : old.step_limit ≡ None → (e : Error) → FailsToQuery rows_text [] old new e ⊎ IsTooLate rows_text [] old new e → IsOfStore e
-  rows_reported limit e h = (fails_inside rows_text [] old new _ _ rows_mean limit (select_rows_never old.now.schema roots.features in_features old.now.trees) e h).0
+  rows_reported limit e h = (fails_inside rows_text [] old new _ _ rows_mean limit (select_rows_never old.now.schema roots.features in_features old.now.trees) e
+      h).0

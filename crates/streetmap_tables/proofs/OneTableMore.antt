@@ -1,5 +1,6 @@
 -- A schema with one more table.
-use Rattle.std.proofs.Common.{◌≡◌, inl, inr, ℕ, ◌+◌, ◌<◌, Bool, List, [], ◌∷◌, ◌++◌, refl, Some, None, Option, true, false, not, ◌&&◌, ◌||◌, find, is_some, ap, sym, subst, ◌∙◌, arith}
+use Rattle.std.proofs.Common.{◌≡◌, inl, inr, ℕ, ◌+◌, ◌<◌, Bool, List, [], ◌∷◌, ◌++◌, refl, Some, None, Option, true, false, not, ◌&&◌, ◌||◌, find, is_some, ap}
+use Rattle.std.proofs.Common.{sym, subst, ◌∙◌, arith}
 use Rattle.std.specs.Prelude.{codes}
 use Rattle.std.specs.Option.{option_or}
 use Rattle.std.specs.List.{AllByRecursion, list_any, list_all, position_from}
@@ -54,7 +55,8 @@ or_true false = refl
 abbrev pub is_sequence : Table → Bool
 is_sequence t = same_name t.name (codes "sqlite_sequence")
 
-pub sequence_found : (schema : Schema) → is_some (sequence schema) ≡ true → (o : Option Table) → find is_sequence schema.tables ≡ o → (t : Table) × (find is_sequence schema.tables ≡ Some t)
+pub sequence_found : (schema : Schema) → is_some (sequence schema) ≡ true → (o : Option Table) → find is_sequence schema.tables ≡ o → (t : Table)
+    × (find is_sequence schema.tables ≡ Some t)
 sequence_found schema h (Some t) is = (t, is)
 sequence_found schema h None is = absurd (true≢false (sym (rw (not_found is_sequence 0 schema.tables is) at h)))
 
@@ -100,17 +102,22 @@ module _ (schema : Schema) (table : Table) where
   room_created apart uncounted room = record {
     apart = ascending_push (λ a b. a.tree ≡ b.tree → ⊥) schema.tables fresh room.apart (λ t h same. omega (arith, table_below schema t h, same));
     alone = all_push references_none schema.tables fresh room.alone apart;
-    counted = lacks_none (list_any (λ t. t.is_counted) schema.tables) (list_any (λ t. t.is_counted) after.tables) (is_some (sequence schema)) (is_some (sequence after)) room.counted
-        (list_any-append (λ (t : Table). t.is_counted) schema.tables (fresh ∷ []) ∙ ap (λ b. list_any (λ t. t.is_counted) schema.tables || (b || false)) uncounted ∙ or_false _)
-        (λ has. let it = sequence_found schema has _ refl in found_sequence after it.0 (find-append is_sequence schema.tables (fresh ∷ []) ∙ ap (λ o. option_or o (find is_sequence (fresh ∷ []))) it.1));
+    counted = lacks_none (list_any (λ t. t.is_counted) schema.tables) (list_any (λ t. t.is_counted) after.tables) (is_some (sequence schema))
+        (is_some (sequence after)) room.counted
+        (list_any-append (λ (t : Table). t.is_counted) schema.tables (fresh ∷ []) ∙ ap (λ b. list_any (λ t. t.is_counted) schema.tables || (b || false))
+        uncounted ∙ or_false _)
+        (λ has. let it = sequence_found schema has _ refl in found_sequence after it.0 (find-append is_sequence schema.tables (fresh ∷ [])
+        ∙ ap (λ o. option_or o (find is_sequence (fresh ∷ []))) it.1));
   }
 
   named_still : (name : List ℕ) (t : Table) → IsNamed schema name t → IsNamed after name t
-  named_still name t h = find-append (λ (u : Table). same_name u.name name) schema.tables (fresh ∷ []) ∙ ap (λ o. option_or o (find (λ u. same_name u.name name) (fresh ∷ []))) h
+  named_still name t h = find-append (λ (u : Table). same_name u.name name) schema.tables (fresh ∷ [])
+      ∙ ap (λ o. option_or o (find (λ u. same_name u.name name) (fresh ∷ []))) h
 
   named_now : (name : List ℕ) → is_used schema name ≡ false → same_name table.name name ≡ true → IsNamed after name fresh
   named_now name free same =
-      find-append (λ (u : Table). same_name u.name name) schema.tables (fresh ∷ []) ∙ ap (λ o. option_or o (find (λ u. same_name u.name name) (fresh ∷ []))) (unnamed schema name free) ∙ (rw same refl)
+      find-append (λ (u : Table). same_name u.name name) schema.tables (fresh ∷ []) ∙ ap (λ o. option_or o (find (λ u. same_name u.name name) (fresh ∷ [])))
+      (unnamed schema name free) ∙ (rw same refl)
 
   on_still : (tree : ℕ) (P : Index → Type 0) → tree < next_tree schema → OnTree schema tree P → OnTree after tree P
   on_still tree P below was i h e = elim (has_either schema.indexes (automatics fresh 0 (next_tree schema + 1) table.uniques) i h) [
@@ -118,7 +125,8 @@ module _ (schema : Schema) (table : Table) where
     | inr new ↦ absurd (omega (arith, automatics_on fresh 0 (next_tree schema + 1) table.uniques i new, e, below))
   ]
 
-  on_now : (db : Trees) → IsDatabase (record { schema = schema; trees = db }) → (P : Index → Type 0) → ((i : Index) → Has (automatics fresh 0 (next_tree schema + 1) table.uniques) i → P i) → OnTree after (next_tree schema) P
+  on_now : (db : Trees) → IsDatabase (record { schema = schema; trees = db }) → (P : Index → Type 0) →
+      ((i : Index) → Has (automatics fresh 0 (next_tree schema + 1) table.uniques) i → P i) → OnTree after (next_tree schema) P
   on_now db sound P all i h e = elim (has_either schema.indexes (automatics fresh 0 (next_tree schema + 1) table.uniques) i h) [
     | inl old ↦ absurd (
         let row = zipped_left (IsIndexRow schema.tables) _ schema.indexes i sound.lists.listed.indexes old in
@@ -127,10 +135,12 @@ module _ (schema : Schema) (table : Table) where
   ]
 
   any_still : (p : Index → Bool) → list_any p schema.indexes ≡ true → list_any p after.indexes ≡ true
-  any_still p h = list_any-append p schema.indexes (automatics fresh 0 (next_tree schema + 1) table.uniques) ∙ ap (λ b. b || list_any p (automatics fresh 0 (next_tree schema + 1) table.uniques)) h
+  any_still p h = list_any-append p schema.indexes (automatics fresh 0 (next_tree schema + 1) table.uniques)
+      ∙ ap (λ b. b || list_any p (automatics fresh 0 (next_tree schema + 1) table.uniques)) h
 
   any_now : (p : Index → Bool) → list_any p (automatics fresh 0 (next_tree schema + 1) table.uniques) ≡ true → list_any p after.indexes ≡ true
-  any_now p h = list_any-append p schema.indexes (automatics fresh 0 (next_tree schema + 1) table.uniques) ∙ ap (λ b. list_any p schema.indexes || b) h ∙ or_true _
+  any_now p h = list_any-append p schema.indexes (automatics fresh 0 (next_tree schema + 1) table.uniques) ∙ ap (λ b. list_any p schema.indexes || b) h
+      ∙ or_true _
 
 -- ---- a table that was made
 
@@ -147,21 +157,27 @@ module _ (table : Table) (old new : Database) (c : Created table old new) where
   pub on_kept : (tree : ℕ) (P : Index → Type 0) → tree < next_tree old.schema → OnTree old.schema tree P → OnTree new.schema tree P
   on_kept tree P below was = subst (λ s. OnTree s tree P) (sym c.schema) (on_still old.schema table tree P below was)
 
-  pub on_new : IsDatabase old → (P : Index → Type 0) → ((i : Index) → Has (automatics (fresh old.schema table) 0 (next_tree old.schema + 1) table.uniques) i → P i) → OnTree new.schema (next_tree old.schema) P
+  pub on_new : IsDatabase old → (P : Index → Type 0) → ((i : Index) → Has (automatics (fresh old.schema table) 0 (next_tree old.schema + 1) table.uniques) i →
+      P i) → OnTree new.schema (next_tree old.schema) P
   on_new sound P all = subst (λ s. OnTree s (next_tree old.schema) P) (sym c.schema) (on_now old.schema table old.trees sound P all)
 
   pub any_kept : (p : Index → Bool) → list_any p old.schema.indexes ≡ true → list_any p new.schema.indexes ≡ true
   any_kept p h = subst (λ (s : Schema). list_any p s.indexes ≡ true) (sym c.schema) (any_still old.schema table p h)
 
-  pub any_new : (p : Index → Bool) → list_any p (automatics (fresh old.schema table) 0 (next_tree old.schema + 1) table.uniques) ≡ true → list_any p new.schema.indexes ≡ true
+  pub any_new : (p : Index → Bool) → list_any p (automatics (fresh old.schema table) 0 (next_tree old.schema + 1) table.uniques) ≡ true →
+      list_any p new.schema.indexes ≡ true
   any_new p h = subst (λ (s : Schema). list_any p s.indexes ≡ true) (sym c.schema) (any_now old.schema table p h)
 
   pub others_kept : KeepsOtherTables old new
-  others_kept t had other = (subst (λ (s : Schema). Has s.tables t) (sym c.schema) (has_left old.schema.tables (fresh old.schema table ∷ []) t had), all_has (λ (u : Table). new.trees u.tree ≡ old.trees u.tree) old.schema.tables t c.others had)
+  others_kept t had other = (
+    subst (λ (s : Schema). Has s.tables t) (sym c.schema) (has_left old.schema.tables (fresh old.schema table ∷ []) t had),
+    all_has (λ (u : Table). new.trees u.tree ≡ old.trees u.tree) old.schema.tables t c.others had,
+  )
 
   -- the tree of an existing table is below the next, and keeps its rows
   pub below : (name : List ℕ) (t : Table) → IsNamed old.schema name t → t.tree < next_tree old.schema
   below name t h = table_below old.schema t (has_found (λ (u : Table). same_name u.name name) old.schema.tables t h).0
 
   pub rows_kept : (name : List ℕ) (t : Table) → IsNamed old.schema name t → new.trees t.tree ≡ old.trees t.tree
-  rows_kept name t h = all_has (λ (u : Table). new.trees u.tree ≡ old.trees u.tree) old.schema.tables t c.others (has_found (λ (u : Table). same_name u.name name) old.schema.tables t h).0
+  rows_kept name t h = all_has (λ (u : Table). new.trees u.tree ≡ old.trees u.tree) old.schema.tables t c.others
+      (has_found (λ (u : Table). same_name u.name name) old.schema.tables t h).0

@@ -8,10 +8,12 @@ use Rattle.sqlite_catalog.specs.Change.{next_tree, created}
 use Rattle.sqlite.specs.Schema.{Schema}
 use Rattle.sqlite.specs.Does.{lacks_sequence}
 use Rattle.sqlite_tied.specs.Compute.{everything}
-use Rattle.streetmap_rows.specs.Tables.{Roots, IsNamed, IsKey, to_key, meta, collections, batches, features, meta_name, collections_name, batches_name, features_name}
+use Rattle.streetmap_rows.specs.Tables.{Roots, IsNamed, IsKey, to_key, meta, collections, batches, features, meta_name, collections_name, batches_name}
+use Rattle.streetmap_rows.specs.Tables.{features_name}
 use Rattle.streetmap_tables.specs.Made.{Created}
 use Rattle.streetmap_tables.specs.Creation.{HasRoom, AreMade}
-use Rattle.streetmap_tables.proofs.OneTableMore.{references_none, OnTree, room_created, room_after, named_kept, named_new, on_kept, on_new, any_kept, any_new, below, rows_kept}
+use Rattle.streetmap_tables.proofs.OneTableMore.{references_none, OnTree, room_created, room_after, named_kept, named_new, on_kept, on_new, any_kept, any_new}
+use Rattle.streetmap_tables.proofs.OneTableMore.{below, rows_kept}
 
 pub meta_alone : references_none (meta 0)
 meta_alone = refl
@@ -96,7 +98,8 @@ module _ (none one : Database) (first : Created (meta 0) none one) (room : HasRo
         guards = any_new (collections 0) one two second (is_index_for (to_key placed)) (rw (eq-eqb c c refl) refl)
 
         on_collections : OnTree two.schema c (λ i. IsKey i (1 ∷ []))
-        on_collections = on_new (collections 0) one two second first.sound (λ i. IsKey i (1 ∷ [])) (λ i h. elim h [ inl e ↦ (ap (λ j. j.columns) e, ap (λ j. j.order) e) | inr none ↦ absurd none ])
+        on_collections = on_new (collections 0) one two second first.sound (λ i. IsKey i (1 ∷ []))
+            (λ i h. elim h [ inl e ↦ (ap (λ j. j.columns) e, ap (λ j. j.order) e) | inr none ↦ absurd none ])
 
         on_batches : OnTree three.schema b (λ i. IsKey i (1 ∷ []) ⊎ IsKey i (7 ∷ []))
         on_batches = on_new (batches 0) two three third second.sound (λ i. IsKey i (1 ∷ []) ⊎ IsKey i (7 ∷ [])) (λ i h. elim h [
@@ -105,7 +108,8 @@ module _ (none one : Database) (first : Created (meta 0) none one) (room : HasRo
         ])
 
         on_features : OnTree four.schema f (λ i. IsKey i (1 ∷ 2 ∷ []))
-        on_features = on_new (features 0) three four fourth third.sound (λ i. IsKey i (1 ∷ 2 ∷ [])) (λ i h. elim h [ inl e ↦ (ap (λ j. j.columns) e, ap (λ j. j.order) e) | inr none ↦ absurd none ])
+        on_features = on_new (features 0) three four fourth third.sound (λ i. IsKey i (1 ∷ 2 ∷ []))
+            (λ i h. elim h [ inl e ↦ (ap (λ j. j.columns) e, ap (λ j. j.order) e) | inr none ↦ absurd none ])
 
         pub are_made : AreMade four
         are_made = record {
@@ -117,14 +121,18 @@ module _ (none one : Database) (first : Created (meta 0) none one) (room : HasRo
             features_is = named_new (features 0) three four fourth same_features;
             apart = room_four.apart;
             guarded = any_kept (features 0) three four fourth _ (any_kept (batches 0) two three third _ guards);
-            on_collections = on_kept (features 0) three four fourth c _ (below (features 0) three four fourth collections_name (collections c) collections_three)
+            on_collections = on_kept (features 0) three four fourth c _ (below (features 0) three four fourth collections_name (collections c)
+                collections_three)
                 (on_kept (batches 0) two three third c _ (below (batches 0) two three third collections_name (collections c) collections_two) on_collections);
             on_batches = on_kept (features 0) three four fourth b _ (below (features 0) three four fourth batches_name (batches b) batches_three) on_batches;
             on_features = on_features;
             alone = room_four.alone;
           };
-          meta_empty = rows_kept (features 0) three four fourth meta_name (meta m) meta_three ∙ rows_kept (batches 0) two three third meta_name (meta m) meta_two ∙ rows_kept (collections 0) one two second meta_name (meta m) meta_one ∙ first.empty;
-          collections_empty = rows_kept (features 0) three four fourth collections_name (collections c) collections_three ∙ rows_kept (batches 0) two three third collections_name (collections c) collections_two ∙ second.empty;
+          meta_empty = rows_kept (features 0) three four fourth meta_name (meta m) meta_three
+              ∙ rows_kept (batches 0) two three third meta_name (meta m) meta_two ∙ rows_kept (collections 0) one two second meta_name (meta m) meta_one
+              ∙ first.empty;
+          collections_empty = rows_kept (features 0) three four fourth collections_name (collections c) collections_three
+              ∙ rows_kept (batches 0) two three third collections_name (collections c) collections_two ∙ second.empty;
           batches_empty = rows_kept (features 0) three four fourth batches_name (batches b) batches_three ∙ third.empty;
           features_empty = fourth.empty;
         }

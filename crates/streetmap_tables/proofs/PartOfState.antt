@@ -64,7 +64,8 @@ module _ (s t : State) (l : Lacks [] s t) where
 
   pub lacks_none : t ≡ s
   lacks_none =
-      let collections = same_map nat_list_cmp_total one_text t.collections s.collections (λ name. same_collection name (get t.collections name) (get s.collections name) refl refl (l.heads name)) in
+      let collections = same_map nat_list_cmp_total one_text t.collections s.collections
+      (λ name. same_collection name (get t.collections name) (get s.collections name) refl refl (l.heads name)) in
       λ i. record { collections = collections i; keys = l.keys i }
 
 -- ---- one more is in
@@ -102,7 +103,8 @@ module _ (s t : State) (row : Row) (more : List Row) (l : Lacks (row ∷ more) s
       lacks : feature_at t p ≡ None
       lacks = ap (feature_at t) (sym (pair_is p f row_is)) ∙ l.missing.0
 
-      found : (c : Collection) → get s.collections p.0 ≡ Some c → get c.features p.1 ≡ Some f → (o : Option Collection) → get t.collections p.0 ≡ o → option_map bare o ≡ Some (bare c) → ToPut row s t
+      found : (c : Collection) → get s.collections p.0 ≡ Some c → get c.features p.1 ≡ Some f → (o : Option Collection) → get t.collections p.0 ≡ o →
+          option_map bare o ≡ Some (bare c) → ToPut row s t
       found c at has None is h = absurd (cc)
       found c at has (Some d) there h =
           let heads : bare d ≡ bare c = cc in
@@ -128,7 +130,8 @@ module _ (s t : State) (row : Row) (more : List Row) (l : Lacks (row ∷ more) s
 
     stored : (q : KeyPair) → feature_at after q ≡ cond (is_pair q it.p) (Some it.f) (feature_at t q)
     stored q =
-        ap (λ o. option_and_then (λ (x : Collection). get x.features q.1) o) (get-insert nat_list_cmp_total t.collections it.p.0 (record it.c { features = insert it.c.features it.p.1 it.f }) q.0) ∙ elim (cases_Bool (same_text q.0 it.p.0)) [
+        ap (λ o. option_and_then (λ (x : Collection). get x.features q.1) o) (get-insert nat_list_cmp_total t.collections it.p.0
+        (record it.c { features = insert it.c.features it.p.1 it.f }) q.0) ∙ elim (cases_Bool (same_text q.0 it.p.0)) [
           | inl here ↦ rw here (get-insert nat_list_cmp_total it.c.features it.p.1 it.f q.1 ∙ elim (cases_Bool (same_text q.1 it.p.1)) [
             | inl also ↦ rw also refl
             | inr other ↦ rw (other, text_is q.0 it.p.0 here, it.there) refl
@@ -140,10 +143,11 @@ module _ (s t : State) (row : Row) (more : List Row) (l : Lacks (row ∷ more) s
     elsewhere q other = stored q ∙ (rw other refl)
 
     heads_after : (name : Text) → option_map bare (get after.collections name) ≡ option_map bare (get t.collections name)
-    heads_after name = ap (option_map bare) (get-insert nat_list_cmp_total t.collections it.p.0 (record it.c { features = insert it.c.features it.p.1 it.f }) name) ∙ elim (cases_Bool (same_text name it.p.0)) [
-      | inl here ↦ rw (here, text_is name it.p.0 here, it.there) refl
-      | inr other ↦ rw other refl
-    ]
+    heads_after name = ap (option_map bare) (get-insert nat_list_cmp_total t.collections it.p.0 (record it.c { features = insert it.c.features it.p.1 it.f })
+        name) ∙ elim (cases_Bool (same_text name it.p.0)) [
+          | inl here ↦ rw (here, text_is name it.p.0 here, it.there) refl
+          | inr other ↦ rw other refl
+        ]
 
     pub lacks_after : Lacks more s after
     lacks_after = record {
@@ -151,7 +155,9 @@ module _ (s t : State) (row : Row) (more : List Row) (l : Lacks (row ∷ more) s
       heads = λ name. heads_after name ∙ l.heads name;
       each = l.each.1;
       apart = l.apart.1;
-      missing = all_from _ more (λ r h. elsewhere (pair_in r) (false_from_ne_true (is_pair (pair_in r) it.p) (λ same. all_has (λ x. pair_in row ≢ pair_in x) more r l.apart.0 h (pair_is it.p it.f it.row_is ∙ sym (pair_same (pair_in r) it.p same)))) ∙ all_has (λ x. feature_at t (pair_in x) ≡ None) more r l.missing.1 h);
+      missing = all_from _ more (λ r h. elsewhere (pair_in r) (false_from_ne_true (is_pair (pair_in r) it.p)
+          (λ same. all_has (λ x. pair_in row ≢ pair_in x) more r l.apart.0 h (pair_is it.p it.f it.row_is ∙ sym (pair_same (pair_in r) it.p same))))
+          ∙ all_has (λ x. feature_at t (pair_in x) ≡ None) more r l.missing.1 h);
       within = λ q g h. elim (cases_Bool (is_pair q it.p)) [
         | inl here ↦
             (let some : Some it.f ≡ Some g = sym (stored q ∙ (rw here refl)) ∙ h in

@@ -71,8 +71,10 @@ format_means = insert_means format_row format_is
 
 -- ---- tables with no row
 
-pub holds_none : {K : Type 0} (key : Row → K) (is_at : K → Row → _) (cells : K → Option Row) (rows : List Row) → rows ≡ [] → ((k : K) → cells k ≡ None) → HoldsByKey key is_at cells rows
-holds_none key is_at cells rows empty none = subst (HoldsByKey key is_at cells) (sym empty) (record { table = tt; keyed = tt; apart = tt; found = λ k. sym (none k) })
+pub holds_none : {K : Type 0} (key : Row → K) (is_at : K → Row → _) (cells : K → Option Row) (rows : List Row) → rows ≡ [] → ((k : K) → cells k ≡ None) →
+    HoldsByKey key is_at cells rows
+holds_none key is_at cells rows empty none = subst (HoldsByKey key is_at cells) (sym empty)
+    (record { table = tt; keyed = tt; apart = tt; found = λ k. sym (none k) })
 
 no_feature : (p : KeyPair) → feature_at opening_state p ≡ None
 no_feature p = rw (get-empty _ p.0) refl
@@ -130,7 +132,8 @@ module _ (s : State) (old new : Seen) (limit : old.step_limit ≡ None) (lacks :
   only_rowid (Violates rule.Check) h = absurd (true≢false h)
   only_rowid (Violates rule.PrimaryKey) h = absurd (both_ways _ (rw unused at h) refl)
   only_rowid (Violates rule.Unique) h =
-      absurd (h (keeps_unique schema db (meta roots.meta) row lacks.ours.apart listed unused (with_tree db roots.meta (put_row row (db roots.meta))) (record { rows = rw (eq-eqb roots.meta roots.meta refl) refl; others = λ t known other. rw (ne_eqb t.tree roots.meta other) })
+      absurd (h (keeps_unique schema db (meta roots.meta) row lacks.ours.apart listed unused (with_tree db roots.meta (put_row row (db roots.meta)))
+      (record { rows = rw (eq-eqb roots.meta roots.meta refl) refl; others = λ t known other. rw (ne_eqb t.tree roots.meta other) })
       (λ i known on r there. absurd (subst (λ rows. Has rows r) lacks.meta_empty there)) (sound.obeys.rules Unique)))
   only_rowid (Violates rule.ForeignKey) h = absurd h
   only_rowid Mismatch h = absurd (true≢false h)
@@ -139,24 +142,35 @@ module _ (s : State) (old new : Seen) (limit : old.step_limit ≡ None) (lacks :
   only_rowid TooDeep h = absurd h
 
   refers : (next : Trees) → Applies schema Enforced db (record { table = meta roots.meta; gone = []; news = row ∷ [] }) next → Refers All schema next
-  refers next made = refers_after schema db (meta roots.meta) row lacks.ours.apart listed unused next (record { rows = made.rows; others = λ t known other. all_has _ schema.tables t made.tables known other }) (refers_if_sound _ _ sound) refl
+  refers next made = refers_after schema db (meta roots.meta) row lacks.ours.apart listed unused next
+      (record { rows = made.rows; others = λ t known other. all_has _ schema.tables t made.tables known other }) (refers_if_sound _ _ sound) refl
 
-  kept : (next : Trees) → AllByRecursion (λ t. t.tree ≢ roots.meta → next t.tree ≡ db t.tree) schema.tables → (t : Table) → Has schema.tables t → t.tree ≢ roots.meta → next t.tree ≡ db t.tree
+  kept : (next : Trees) → AllByRecursion (λ t. t.tree ≢ roots.meta → next t.tree ≡ db t.tree) schema.tables → (t : Table) → Has schema.tables t →
+      t.tree ≢ roots.meta → next t.tree ≡ db t.tree
   kept next all t there other = all_has (λ (u : Table). u.tree ≢ roots.meta → next u.tree ≡ db u.tree) schema.tables t all there other
 
   pub format_put : (count : ℕ) → Executes format_text [] old new (Ok count) → StandsFor s new.now × IsSameElsewhere old.now new.now
   format_put count h =
       let it = format_means schema roots.meta found in
-      let r = run.inserted _ roots.meta _ _ _ _ _ found.at format_terms 3 format_text [] old new schema (row ∷ []) refl limit (command_is schema format_text 0 _ it) (is_plain schema format_text 0 _ it) (is_fit schema format_text 0 _ it refl)
+      let r = run.inserted _ roots.meta _ _ _ _ _ found.at format_terms 3 format_text [] old new schema (row ∷ []) refl limit
+      (command_is schema format_text 0 _ it) (is_plain schema format_text 0 _ it) (is_fit schema format_text 0 _ it refl)
       refl found.listed (rw (cast_null, cast_int (pos 2)) refl) count h in (
         record {
           roots = roots;
           ours = subst (IsOurs roots) (sym r.same_schema) lacks.ours;
           of = record {
-            format = subst (HoldsByKey first_key is_first meta_cells) (sym r.step.rows) (holds_put first_key is_first first_is first_self (λ _. None) (db roots.meta) (holds_none first_key is_first (λ _. None) (db roots.meta) lacks.meta_empty (λ _. refl)) row meta_cells (rw lacks.meta_empty refl) refl refl (λ q. refl));
-            collections = holds_same first_key is_first _ _ (db roots.collections) (new.now.trees roots.collections) (kept new.now.trees r.step.tables (collections roots.collections) (placing.collections_there roots schema lacks.ours) (λ e. placing.meta_collections roots schema lacks.ours (sym e))) (λ _. refl) lacks.collections;
-            batches = holds_same first_key is_first _ _ (db roots.batches) (new.now.trees roots.batches) (kept new.now.trees r.step.tables (batches roots.batches) (placing.batches_there roots schema lacks.ours) (λ e. placing.meta_batches roots schema lacks.ours (sym e))) (λ _. refl) lacks.batches;
-            features = holds_same pair_key has_pair _ _ (db roots.features) (new.now.trees roots.features) (kept new.now.trees r.step.tables (features roots.features) (placing.features_there roots schema lacks.ours) (λ e. placing.meta_features roots schema lacks.ours (sym e))) (λ _. refl) lacks.features;
+            format = subst (HoldsByKey first_key is_first meta_cells) (sym r.step.rows) (holds_put first_key is_first first_is first_self (λ _. None)
+                (db roots.meta) (holds_none first_key is_first (λ _. None) (db roots.meta) lacks.meta_empty (λ _. refl)) row meta_cells
+                (rw lacks.meta_empty refl) refl refl (λ q. refl));
+            collections = holds_same first_key is_first _ _ (db roots.collections) (new.now.trees roots.collections)
+                (kept new.now.trees r.step.tables (collections roots.collections) (placing.collections_there roots schema lacks.ours)
+                (λ e. placing.meta_collections roots schema lacks.ours (sym e))) (λ _. refl) lacks.collections;
+            batches = holds_same first_key is_first _ _ (db roots.batches) (new.now.trees roots.batches)
+                (kept new.now.trees r.step.tables (batches roots.batches) (placing.batches_there roots schema lacks.ours)
+                (λ e. placing.meta_batches roots schema lacks.ours (sym e))) (λ _. refl) lacks.batches;
+            features = holds_same pair_key has_pair _ _ (db roots.features) (new.now.trees roots.features)
+                (kept new.now.trees r.step.tables (features roots.features) (placing.features_there roots schema lacks.ours)
+                (λ e. placing.meta_features roots schema lacks.ours (sym e))) (λ _. refl) lacks.features;
           };
           readable = lacks.readable;
           sound = r.sound;
@@ -167,5 +181,6 @@ module _ (s : State) (old new : Seen) (limit : old.step_limit ≡ None) (lacks :
   pub format_reported : (e : Error) → ExecutesInside 0 format_text [] old new (Err e) → IsOfStore e
   format_reported =
       let it = format_means schema roots.meta found in
-      run.reported _ roots.meta _ _ _ _ _ found.at format_terms 3 format_text [] old new schema (row ∷ []) refl limit (command_is schema format_text 0 _ it) (is_plain schema format_text 0 _ it) (is_fit schema format_text 0 _ it refl)
+      run.reported _ roots.meta _ _ _ _ _ found.at format_terms 3 format_text [] old new schema (row ∷ []) refl limit (command_is schema format_text 0 _ it)
+      (is_plain schema format_text 0 _ it) (is_fit schema format_text 0 _ it refl)
       refl found.listed (rw (cast_null, cast_int (pos 2)) refl) only_rowid refers

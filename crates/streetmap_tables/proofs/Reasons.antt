@@ -40,7 +40,8 @@ pub opens_for : (old mid new : Seen) (f : ReadFault) (reported : OpenFault) (Com
 opens_for old mid new f opening.NotOurs Commits After first second clean come reports = tt
 opens_for old mid new f opening.NewFormat Commits After first second clean come reports = tt
 opens_for old mid new f opening.Damaged Commits After first second clean come reports = tt
-opens_for old mid new f (opening.Device e) Commits After first second clean come (inl is) = reason_still old mid new e (subst (HasReasonIn old mid) is come) second.counts
+opens_for old mid new f (opening.Device e) Commits After first second clean come (inl is) =
+    reason_still old mid new e (subst (HasReasonIn old mid) is come) second.counts
 opens_for old mid new f (opening.Device e) Commits After first second clean come (inr since) =
     let early : HasCleanDisk mid = omega (arith, clean, second.clean) in reason_later old mid new e Commits first early second.counts since
 opens_for old mid new f opening.Memory Commits After first second clean come reports = tt

@@ -61,13 +61,15 @@ module _ (old new : Database) (table : Table) (made : Created table old new) whe
   pub free_still : (name : List ℕ) → IsOther table name → is_used old.schema name ≡ false → is_used new.schema name ≡ false
   free_still name other free = ap (λ s. is_used s name) made.schema ∙ used_same old.schema table name other ∙ free
 
-  pub reported_then : (tables : List Table) → AreOther table tables → (e : Error) → IsCreateError tables new.schema e → IsCreateError (table ∷ tables) old.schema e
+  pub reported_then : (tables : List Table) → AreOther table tables → (e : Error) → IsCreateError tables new.schema e →
+      IsCreateError (table ∷ tables) old.schema e
   reported_then tables other e h = reported_before old.schema table tables other e (subst (λ s. IsCreateError tables s e) made.schema h)
 
 -- ---- our four, one after the other
 
 module _ (none : Database) (free : is_taken none.schema ≡ false) where
-  of_meta : (is_used none.schema meta_name ≡ false) × (is_used none.schema collections_name || (is_used none.schema batches_name || is_used none.schema features_name) ≡ false)
+  of_meta : (is_used none.schema meta_name ≡ false) × (is_used none.schema collections_name
+      || (is_used none.schema batches_name || is_used none.schema features_name) ≡ false)
   of_meta = or_parts (is_used none.schema meta_name) _ free
 
   of_collections : (is_used none.schema collections_name ≡ false) × (is_used none.schema batches_name || is_used none.schema features_name ≡ false)
@@ -91,14 +93,20 @@ module _ (none : Database) (free : is_taken none.schema ≡ false) where
 
     module _ (two : Database) (second : Created (collections 0) one two) where
       pub batches_free : is_used two.schema batches_name ≡ false
-      batches_free = free_still one two (collections 0) second batches_name collections_names.0 (free_still none one (meta 0) first batches_name meta_names.1 of_others.0)
+      batches_free = free_still one two (collections 0) second batches_name collections_names.0
+          (free_still none one (meta 0) first batches_name meta_names.1 of_others.0)
 
       pub reported_three : (e : Error) → IsCreateError (batches 0 ∷ []) two.schema e → IsCreateError our_tables none.schema e
-      reported_three e h = reported_then none one (meta 0) first after_meta meta_others e (reported_then one two (collections 0) second after_collections collections_others e (reported_first two.schema (batches 0) after_batches e h))
+      reported_three e h = reported_then none one (meta 0) first after_meta meta_others e
+          (reported_then one two (collections 0) second after_collections collections_others e (reported_first two.schema (batches 0) after_batches e h))
 
       module _ (three : Database) (third : Created (batches 0) two three) where
         pub features_free : is_used three.schema features_name ≡ false
-        features_free = free_still two three (batches 0) third features_name batches_names (free_still one two (collections 0) second features_name collections_names.1 (free_still none one (meta 0) first features_name meta_names.2 of_others.1))
+        features_free = free_still two three (batches 0) third features_name batches_names
+            (free_still one two (collections 0) second features_name collections_names.1
+            (free_still none one (meta 0) first features_name meta_names.2 of_others.1))
 
         pub reported_four : (e : Error) → IsCreateError (features 0 ∷ []) three.schema e → IsCreateError our_tables none.schema e
-        reported_four e h = reported_then none one (meta 0) first after_meta meta_others e (reported_then one two (collections 0) second after_collections collections_others e (reported_then two three (batches 0) third after_batches batches_others e h))
+        reported_four e h = reported_then none one (meta 0) first after_meta meta_others e
+            (reported_then one two (collections 0) second after_collections collections_others e
+            (reported_then two three (batches 0) third after_batches batches_others e h))

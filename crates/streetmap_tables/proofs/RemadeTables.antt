@@ -1,5 +1,6 @@
 -- The two tables made again: what exists then, step by step.
-use Rattle.std.proofs.Common.{◌≡◌, ◌≢◌, ◌⊎◌, inl, inr, ℕ, List, [], ◌∷◌, length, map, true, false, cond, Option, Some, None, option_map, refl, sym, ap, subst, ◌∙◌, true≢false, arith}
+use Rattle.std.proofs.Common.{◌≡◌, ◌≢◌, ◌⊎◌, inl, inr, ℕ, List, [], ◌∷◌, length, map, true, false, cond, Option, Some, None, option_map, refl, sym, ap, subst}
+use Rattle.std.proofs.Common.{◌∙◌, true≢false, arith}
 use Rattle.std.specs.Prelude.{option_and_then}
 use Rattle.std.specs.List.{list_any}
 use Rattle.std.specs.Ordering.{eq_by_cmp}
@@ -21,12 +22,14 @@ use Rattle.streetmap_ledger.specs.State.{State, Collection}
 use Rattle.streetmap_rows.specs.Holds.{KeyPair, first_key, is_first, pair_key, has_pair}
 use Rattle.streetmap_rows.proofs.NamedTables.{trees_differ}
 use Rattle.streetmap_rows.proofs.HeldKeys.{holds_same}
-use Rattle.streetmap_rows.specs.Tables.{Roots, IsNamed, IsKey, to_key, meta, collections, batches, features, meta_name, collections_name, batches_name, features_name}
+use Rattle.streetmap_rows.specs.Tables.{Roots, IsNamed, IsKey, to_key, meta, collections, batches, features, meta_name, collections_name, batches_name}
+use Rattle.streetmap_rows.specs.Tables.{features_name}
 use Rattle.streetmap_rows.specs.Rows.{feature_at, collection_cells}
 use Rattle.streetmap_rows.specs.Representations.{HasTextNames, CanBeRead}
 use Rattle.streetmap_tables.specs.Made.{Created}
 use Rattle.streetmap_tables.specs.Creation.{HasRoom, LacksFormat, KeepsOtherTables}
-use Rattle.streetmap_tables.proofs.OneTableMore.{is_sequence, references_none, room_after, named_kept, named_new, on_kept, on_new, any_kept, others_kept, below, rows_kept}
+use Rattle.streetmap_tables.proofs.OneTableMore.{is_sequence, references_none, room_after, named_kept, named_new, on_kept, on_new, any_kept, others_kept, below}
+use Rattle.streetmap_tables.proofs.OneTableMore.{rows_kept}
 use Rattle.streetmap_tables.proofs.OurTablesMade.{meta_alone, features_alone, same_meta, same_features}
 use Rattle.streetmap_tables.proofs.PutFormat.{holds_none, meta_ours}
 use Rattle.streetmap_tables.proofs.OtherTables.{others_then}
@@ -40,13 +43,15 @@ use Rattle.streetmap_rows.proofs.OtherTables.{features_ours}
 
 find_mapped : (q : Text) (es : List (Text × Collection)) → find text_cmp q (map (λ e. (e.0, bare e.1)) es) ≡ option_map bare (find text_cmp q es)
 find_mapped q [] = refl
-find_mapped q (e ∷ es) = elim (eq_by_cmp text_cmp q e.0) as (λ b. cond b (Some (bare e.1)) (find text_cmp q (map (λ x. (x.0, bare x.1)) es)) ≡ option_map bare (cond b (Some e.1) (find text_cmp q es))) [
-  | true ↦ refl
-  | false ↦ find_mapped q es
-]
+find_mapped q (e ∷ es) = elim (eq_by_cmp text_cmp q e.0) as (λ b. cond b (Some (bare e.1)) (find text_cmp q (map (λ x. (x.0, bare x.1)) es))
+    ≡ option_map bare (cond b (Some e.1) (find text_cmp q es))) [
+      | true ↦ refl
+      | false ↦ find_mapped q es
+    ]
 
 pub get_emptied : (s : State) (name : Text) → get (emptied s).collections name ≡ option_map bare (get s.collections name)
-get_emptied s name = get-from_entries nat_list_cmp_total (map (λ e. (e.0, bare e.1)) (entries s.collections)) name ∙ find_mapped name (entries s.collections) ∙ ap (option_map bare) (sym (get-entries s.collections name))
+get_emptied s name = get-from_entries nat_list_cmp_total (map (λ e. (e.0, bare e.1)) (entries s.collections)) name ∙ find_mapped name (entries s.collections)
+    ∙ ap (option_map bare) (sym (get-entries s.collections name))
 
 pub no_feature : (s : State) (p : KeyPair) → feature_at (emptied s) p ≡ None
 no_feature s p = ap (option_and_then (λ (c : Collection). get c.features p.1)) (get_emptied s p.0) ∙ go (get s.collections p.0)
@@ -55,7 +60,8 @@ no_feature s p = ap (option_and_then (λ (c : Collection). get c.features p.1)) 
     go None = refl
     go (Some c) = get-empty text_cmp p.1
 
-same_heads : (s : State) (name : Text) → option_map (collection_cells name) (get (emptied s).collections name) ≡ option_map (collection_cells name) (get s.collections name)
+same_heads : (s : State) (name : Text) → option_map (collection_cells name) (get (emptied s).collections name)
+    ≡ option_map (collection_cells name) (get s.collections name)
 same_heads s name = ap (option_map (collection_cells name)) (get_emptied s name) ∙ go (get s.collections name)
   where
     go : (o : Option Collection) → option_map (collection_cells name) (option_map bare o) ≡ option_map (collection_cells name) o
@@ -88,15 +94,19 @@ pub record IsRest (roots : Roots) (schema : Schema) : Type 0 where
 there : (schema : Schema) (name : List ℕ) (t : Table) → IsNamed schema name t → Has schema.tables t
 there schema name t h = (has_found (λ (u : Table). same_name u.name name) schema.tables t h).0
 
-far : (schema : Schema) → HasRoom schema → (a b : List ℕ) (s t : Table) → IsNamed schema a s → IsNamed schema b t → (length s.name ≡ length t.name → ⊥) → s.tree ≢ t.tree
+far : (schema : Schema) → HasRoom schema → (a b : List ℕ) (s t : Table) → IsNamed schema a s → IsNamed schema b t → (length s.name ≡ length t.name → ⊥) →
+    s.tree ≢ t.tree
 far schema room a b s t h k other = trees_differ schema s t room.apart (there schema a s h) (there schema b t k) (λ same. other (ap length same))
 
-module _ (roots : Roots) (old new : Database) (rest : IsRest roots old.schema) (name : List ℕ) (table : Table) (named : IsNamed old.schema name table) (d : Dropped table old new) (own : is_sequence table ≡ false) (from_collections : roots.collections ≢ table.tree) (from_batches : roots.batches ≢ table.tree) where
+module _ (roots : Roots) (old new : Database) (rest : IsRest roots old.schema) (name : List ℕ) (table : Table) (named : IsNamed old.schema name table)
+    (d : Dropped table old new) (own : is_sequence table ≡ false) (from_collections : roots.collections ≢ table.tree)
+    (from_batches : roots.batches ≢ table.tree) where
   at : Has old.schema.tables table
   at = there old.schema name table named
 
   off : (i : Index) → is_index_for (to_key roots) i ≡ true → i.table ≢ table.tree
-  off i h same = true≢false (sym (and_parts _ _ (and_parts _ _ (and_parts _ _ h).0).0).1 ∙ ne_eqb i.table roots.collections (λ here. from_collections (sym here ∙ same)))
+  off i h same = true≢false (sym (and_parts _ _ (and_parts _ _ (and_parts _ _ h).0).0).1
+      ∙ ne_eqb i.table roots.collections (λ here. from_collections (sym here ∙ same)))
 
   rest_left : IsRest roots new.schema
   rest_left = record {
@@ -109,20 +119,24 @@ module _ (roots : Roots) (old new : Database) (rest : IsRest roots old.schema) (
   }
 
   collections_left : new.trees roots.collections ≡ old.trees roots.collections
-  collections_left = rows_left old new table rest.room.apart at d (collections roots.collections) (there old.schema collections_name _ rest.collections_is) from_collections
+  collections_left = rows_left old new table rest.room.apart at d (collections roots.collections) (there old.schema collections_name _ rest.collections_is)
+      from_collections
 
   batches_left : new.trees roots.batches ≡ old.trees roots.batches
   batches_left = rows_left old new table rest.room.apart at d (batches roots.batches) (there old.schema batches_name _ rest.batches_is) from_batches
 
-module _ (roots : Roots) (old new : Database) (rest : IsRest roots old.schema) (table : Table) (c : Created table old new) (alone : references_none table) (uncounted : table.is_counted ≡ false) where
+module _ (roots : Roots) (old new : Database) (rest : IsRest roots old.schema) (table : Table) (c : Created table old new) (alone : references_none table)
+    (uncounted : table.is_counted ≡ false) where
   rest_grown : IsRest roots new.schema
   rest_grown = record {
     collections_is = named_kept table old new c collections_name _ rest.collections_is;
     batches_is = named_kept table old new c batches_name _ rest.batches_is;
     room = room_after table old new c alone uncounted rest.room;
     guarded = any_kept table old new c _ rest.guarded;
-    on_collections = on_kept table old new c roots.collections (λ i. IsKey i (1 ∷ [])) (below table old new c collections_name _ rest.collections_is) rest.on_collections;
-    on_batches = on_kept table old new c roots.batches (λ i. IsKey i (1 ∷ []) ⊎ IsKey i (7 ∷ [])) (below table old new c batches_name _ rest.batches_is) rest.on_batches;
+    on_collections = on_kept table old new c roots.collections (λ i. IsKey i (1 ∷ [])) (below table old new c collections_name _ rest.collections_is)
+        rest.on_collections;
+    on_batches = on_kept table old new c roots.batches (λ i. IsKey i (1 ∷ []) ⊎ IsKey i (7 ∷ [])) (below table old new c batches_name _ rest.batches_is)
+        rest.on_batches;
   }
 
   collections_grown : new.trees roots.collections ≡ old.trees roots.collections
@@ -149,10 +163,23 @@ module _ (s : State) (d0 : Database) (keeps : KeepsOld s d0) where
   ours = keeps.ours
 
   rest0 : IsRest roots d0.schema
-  rest0 = record { collections_is = ours.collections_is; batches_is = ours.batches_is; room = ours.room; guarded = ours.guarded; on_collections = ours.on_collections; on_batches = ours.on_batches }
+  rest0 = record {
+    collections_is = ours.collections_is;
+    batches_is = ours.batches_is;
+    room = ours.room;
+    guarded = ours.guarded;
+    on_collections =
+        ours.on_collections;
+    on_batches = ours.on_batches;
+  }
 
   pub features_go : CanGo d0.schema features_name (old_features roots.features)
-  features_go = record { named = ours.features_is; uncounted = refl; free = λ t ref h known. not-true _ (test_has _ t.references ref (all_has _ d0.schema.tables t ours.room.alone h) known) }
+  features_go = record {
+    named = ours.features_is;
+    uncounted = refl;
+    free = λ t ref h known.
+        not-true _ (test_has _ t.references ref (all_has _ d0.schema.tables t ours.room.alone h) known);
+  }
 
   module _ (d1 : Database) (one : Dropped (old_features roots.features) d0 d1) where
     collections_off : roots.collections ≢ roots.features
@@ -168,13 +195,20 @@ module _ (s : State) (d0 : Database) (keeps : KeepsOld s d0) where
     features_at = there d0.schema features_name _ ours.features_is
 
     pub rest1 : IsRest roots d1.schema
-    rest1 = rest_left roots d0 d1 rest0 features_name (old_features roots.features) ours.features_is one (features_own roots.features) collections_off batches_off
+    rest1 = rest_left roots d0 d1 rest0 features_name (old_features roots.features) ours.features_is one (features_own roots.features) collections_off
+        batches_off
 
     meta1 : IsNamed d1.schema meta_name (meta roots.meta)
     meta1 = named_left d0 d1 (old_features roots.features) ours.room.apart features_at one meta_name _ ours.meta_is meta_off
 
     pub meta_goes : CanGo d1.schema meta_name (meta roots.meta)
-    meta_goes = record { named = meta1; uncounted = refl; free = λ t ref h known. not-true _ (test_has _ t.references ref (all_has _ d0.schema.tables t ours.free (was_there d0 d1 (old_features roots.features) ours.room.apart features_at one t h)) known) }
+    meta_goes = record {
+      named = meta1;
+      uncounted = refl;
+      free = λ t ref h known. not-true _
+          (test_has _ t.references ref (all_has _ d0.schema.tables t ours.free (was_there d0 d1 (old_features roots.features) ours.room.apart features_at one t
+          h)) known);
+    }
 
     module _ (d2 : Database) (two : Dropped (meta roots.meta) d1 d2) where
       collections_apart : roots.collections ≢ roots.meta
@@ -210,13 +244,15 @@ module _ (s : State) (d0 : Database) (keeps : KeepsOld s d0) where
           collections_same =
               collections_grown roots d3 d4 rest3 (features 0) four features_alone refl ∙ collections_grown roots d2 d3 rest2 (meta 0) three meta_alone refl
               ∙ collections_left roots d1 d2 rest1 meta_name (meta roots.meta) meta1 two (meta_own roots.meta) collections_apart batches_apart
-              ∙ collections_left roots d0 d1 rest0 features_name (old_features roots.features) ours.features_is one (features_own roots.features) collections_off batches_off
+              ∙ collections_left roots d0 d1 rest0 features_name (old_features roots.features) ours.features_is one (features_own roots.features)
+              collections_off batches_off
 
           batches_same : d4.trees roots.batches ≡ d0.trees roots.batches
           batches_same =
               batches_grown roots d3 d4 rest3 (features 0) four features_alone refl ∙ batches_grown roots d2 d3 rest2 (meta 0) three meta_alone refl
               ∙ batches_left roots d1 d2 rest1 meta_name (meta roots.meta) meta1 two (meta_own roots.meta) collections_apart batches_apart
-              ∙ batches_left roots d0 d1 rest0 features_name (old_features roots.features) ours.features_is one (features_own roots.features) collections_off batches_off
+              ∙ batches_left roots d0 d1 rest0 features_name (old_features roots.features) ours.features_is one (features_own roots.features) collections_off
+              batches_off
 
           pub lacks_format : LacksFormat (emptied s) d4
           lacks_format = record {
@@ -230,11 +266,13 @@ module _ (s : State) (d0 : Database) (keeps : KeepsOld s d0) where
               guarded = rest4.guarded;
               on_collections = rest4.on_collections;
               on_batches = rest4.on_batches;
-              on_features = on_new (features 0) d3 d4 four three.sound (λ i. IsKey i (1 ∷ 2 ∷ [])) (λ i h. elim h [ inl e ↦ (ap (λ j. j.columns) e, ap (λ j. j.order) e) | inr none ↦ absurd none ]);
+              on_features = on_new (features 0) d3 d4 four three.sound (λ i. IsKey i (1 ∷ 2 ∷ []))
+                  (λ i h. elim h [ inl e ↦ (ap (λ j. j.columns) e, ap (λ j. j.order) e) | inr none ↦ absurd none ]);
               alone = rest4.room.alone;
             };
             meta_empty = rows_kept (features 0) d3 d4 four meta_name (meta m) meta3 ∙ three.empty;
-            collections = holds_same first_key is_first _ _ (d0.trees roots.collections) (d4.trees roots.collections) collections_same (same_heads s) keeps.of.collections;
+            collections = holds_same first_key is_first _ _ (d0.trees roots.collections) (d4.trees roots.collections) collections_same (same_heads s)
+                keeps.of.collections;
             batches = holds_same first_key is_first _ _ (d0.trees roots.batches) (d4.trees roots.batches) batches_same (λ key. refl) keeps.of.batches;
             features = holds_none pair_key has_pair _ _ four.empty (λ p. rw (no_feature s p) refl);
             readable = emptied_read s keeps.readable;
@@ -242,5 +280,6 @@ module _ (s : State) (d0 : Database) (keeps : KeepsOld s d0) where
 
           pub others_remade : KeepsOtherTables d0 d4
           others_remade =
-              others_then d0 d2 d4 (others_then d0 d1 d2 (others_left d0 d1 (old_features roots.features) ours.room.apart features_at one features_ours) (others_left d1 d2 (meta roots.meta) rest1.room.apart (there d1.schema meta_name _ meta1) two meta_ours))
+              others_then d0 d2 d4 (others_then d0 d1 d2 (others_left d0 d1 (old_features roots.features) ours.room.apart features_at one features_ours)
+              (others_left d1 d2 (meta roots.meta) rest1.room.apart (there d1.schema meta_name _ meta1) two meta_ours))
               (others_then d2 d3 d4 (others_kept (meta 0) d2 d3 three) (others_kept (features 0) d3 d4 four))

@@ -28,7 +28,8 @@ meta_name_other : IsOther (meta 0) features_name
 unfolding everything
 meta_name_other = (refl, λ tree. refl)
 
-module _ (s : State) (d0 : Database) (keeps : KeepsOld s d0) (d1 : Database) (one : Dropped (old_features keeps.roots.features) d0 d1) (d2 : Database) (two : Dropped (meta keeps.roots.meta) d1 d2) where
+module _ (s : State) (d0 : Database) (keeps : KeepsOld s d0) (d1 : Database) (one : Dropped (old_features keeps.roots.features) d0 d1) (d2 : Database)
+    (two : Dropped (meta keeps.roots.meta) d1 d2) where
   pub meta_free : is_used d2.schema meta_name ≡ false
   meta_free = freed d1 d2 (meta keeps.roots.meta) two meta_name one.sound (meta_goes s d0 keeps d1 one).named
 
@@ -44,7 +45,8 @@ module _ (s : State) (d0 : Database) (keeps : KeepsOld s d0) (d1 : Database) (on
 
   module _ (d3 : Database) (three : Created (meta 0) d2 d3) where
     pub features_free : is_used d3.schema features_name ≡ false
-    features_free = free_still d2 d3 (meta 0) three features_name meta_name_other (free_left d1 d2 (meta keeps.roots.meta) two features_name (freed d0 d1 (old_features keeps.roots.features) one features_name keeps.sound keeps.ours.features_is))
+    features_free = free_still d2 d3 (meta 0) three features_name meta_name_other (free_left d1 d2 (meta keeps.roots.meta) two features_name
+        (freed d0 d1 (old_features keeps.roots.features) one features_name keeps.sound keeps.ours.features_is))
 
     pub reported_features : (e : Error) → IsCreateError (features 0 ∷ []) d3.schema e → IsMigrationError d0.schema e
     reported_features e h = reported_less e (reported_then d2 d3 (meta 0) three after_meta meta_others e h)

@@ -16,7 +16,8 @@ rests_still old new s same limit rests = record {
 }
 
 -- and if nothing was committed, while it is open and between two transactions
-pub rests_if_open : (old new : Seen) (s : State) → KeepsCommit old new → (IsTrue new.is_open → new.now ≡ new.committed) → new.step_limit ≡ old.step_limit → Rests old s → IsTrue new.is_open → Rests new s
+pub rests_if_open : (old new : Seen) (s : State) → KeepsCommit old new → (IsTrue new.is_open → new.now ≡ new.committed) → new.step_limit ≡ old.step_limit →
+    Rests old s → IsTrue new.is_open → Rests new s
 rests_if_open old new s keeps settled limit rests live = record {
   kept = subst (Keeps s) (rests.settled ∙ sym (settled live ∙ keeps.committed live)) rests.kept;
   settled = settled live;
@@ -25,7 +26,8 @@ rests_if_open old new s keeps settled limit rests live = record {
 }
 
 -- the first of one row or none
-pub the_row : {A : Type 0} (view : A → Row) (o : Option A) (rows : List Row) (row : Row) → rows ≡ option_to_list (option_map view o) → Some row ≡ slice_get rows 0 → (a : A) × (o ≡ Some a) × (row ≡ view a)
+pub the_row : {A : Type 0} (view : A → Row) (o : Option A) (rows : List Row) (row : Row) → rows ≡ option_to_list (option_map view o) → Some row
+    ≡ slice_get rows 0 → (a : A) × (o ≡ Some a) × (row ≡ view a)
 the_row view None rows row is first = absurd (let e = first ∙ (λ i. slice_get (is i) 0) in cc)
 the_row view (Some a) rows row is first = let e = first ∙ (λ i. slice_get (is i) 0) in let same : row ≡ view a = cc in (a, refl, same)
 

@@ -42,7 +42,8 @@ module _ (text : List ℕ) (bare : IsBare text) (old new : Seen) where
   unseen e (inl failed) other = (e, other, fails_there text bare old new old refl refl e other failed (λ live. live))
   unseen e (inr late) other = absurd (not_too_late text bare old new old refl refl e other late)
 
-  pub was_read : (r : Result (Vec Row Global) Error) → IfOk r (λ rows. Shown text [] old new rows.items) → IfErr r (λ e. FailsToQuery text [] old new e ⊎ IsTooLate text [] old new e) → ShowsRows text old new r
+  pub was_read : (r : Result (Vec Row Global) Error) → IfOk r (λ rows. Shown text [] old new rows.items) →
+      IfErr r (λ e. FailsToQuery text [] old new e ⊎ IsTooLate text [] old new e) → ShowsRows text old new r
   was_read (Ok rows) shown failed = seen rows.items shown
   was_read (Err e) shown failed = λ other. unseen e failed other
 
@@ -81,7 +82,17 @@ pub carried_there : {S : Type 0} (g : Ghosts S) (start old mid new : Held S)
     → (IsTrue (state g start).is_open → IsTrue (state g old).is_open)
     → (state g new).now ≡ (state g mid).now
     → HasCarried g start mid → HasCarried g old new
-carried_there g start old mid new same limit live ends it = (it.0, sees_there (state g start) (state g old) same limit live old_rows_text rows_bare it.0 it.1, it.2, it.3 ∙ same, it.4, it.5, it.6, it.7, ends ∙ it.8)
+carried_there g start old mid new same limit live ends it = (
+  it.0,
+  sees_there (state g start) (state g old) same limit live old_rows_text rows_bare it.0 it.1,
+  it.2,
+  it.3 ∙ same,
+  it.4,
+  it.5,
+  it.6,
+  it.7,
+  ends ∙ it.8,
+)
 
 -- a connection whose format a read shows is open
 pub reported_open : (old : Seen) (format : Option ℤ) → ShowsFormat old format → IsTrue old.is_open

@@ -30,17 +30,29 @@ makes_of (written.CreateTable def) h = record { def = def; is = refl; fresh = go
     go false e = refl
 makes_of _ h = absurd (cc)
 
-table_text : (sql : List ℕ) (table : Table) (reads : is_ok (first sql) ≡ true) → (is_create (parsed_of (first sql) reads).statement ≡ true) × ((parsed_of (first sql) reads).formats ≡ []) × (text_of sql (creating (parsed_of (first sql) reads)) ≡ sql)
+table_text : (sql : List ℕ) (table : Table) (reads : is_ok (first sql) ≡ true) → (is_create (parsed_of (first sql) reads).statement ≡ true)
+    × ((parsed_of (first sql) reads).formats ≡ []) × (text_of sql (creating (parsed_of (first sql) reads)) ≡ sql)
     → table_defined_by sql ≡ Ok table → IsTableText sql table
 table_text sql table reads says defined =
     let it = makes_of (parsed_of (first sql) reads).statement says.0 in
-    record { parsed = parsed_of (first sql) reads; is = was_parsed (first sql) reads; written = it.def; makes = it.is; fresh = it.fresh; plain = says.1; whole = says.2; defined = defined }
+    record {
+      parsed = parsed_of (first sql) reads;
+      is = was_parsed (first sql) reads;
+      written = it.def;
+      makes = it.is;
+      fresh = it.fresh;
+      plain = says.1;
+      whole =
+          says.2;
+      defined = defined;
+    }
 
 meta_reads : is_ok (first meta_text) ≡ true
 unfolding everything
 meta_reads = refl
 
-meta_says : (is_create (parsed_of (first meta_text) meta_reads).statement ≡ true) × ((parsed_of (first meta_text) meta_reads).formats ≡ []) × (text_of meta_text (creating (parsed_of (first meta_text) meta_reads)) ≡ meta_text)
+meta_says : (is_create (parsed_of (first meta_text) meta_reads).statement ≡ true) × ((parsed_of (first meta_text) meta_reads).formats ≡ [])
+    × (text_of meta_text (creating (parsed_of (first meta_text) meta_reads)) ≡ meta_text)
 unfolding everything is_create
 meta_says = (refl, refl, refl)
 
@@ -55,7 +67,9 @@ collections_reads : is_ok (first collections_text) ≡ true
 unfolding everything
 collections_reads = refl
 
-collections_says : (is_create (parsed_of (first collections_text) collections_reads).statement ≡ true) × ((parsed_of (first collections_text) collections_reads).formats ≡ []) × (text_of collections_text (creating (parsed_of (first collections_text) collections_reads)) ≡ collections_text)
+collections_says : (is_create (parsed_of (first collections_text) collections_reads).statement ≡ true)
+    × ((parsed_of (first collections_text) collections_reads).formats ≡ []) × (text_of collections_text
+    (creating (parsed_of (first collections_text) collections_reads)) ≡ collections_text)
 unfolding everything is_create
 collections_says = (refl, refl, refl)
 
@@ -70,7 +84,8 @@ batches_reads : is_ok (first batches_text) ≡ true
 unfolding everything
 batches_reads = refl
 
-batches_says : (is_create (parsed_of (first batches_text) batches_reads).statement ≡ true) × ((parsed_of (first batches_text) batches_reads).formats ≡ []) × (text_of batches_text (creating (parsed_of (first batches_text) batches_reads)) ≡ batches_text)
+batches_says : (is_create (parsed_of (first batches_text) batches_reads).statement ≡ true) × ((parsed_of (first batches_text) batches_reads).formats ≡ [])
+    × (text_of batches_text (creating (parsed_of (first batches_text) batches_reads)) ≡ batches_text)
 unfolding everything is_create
 batches_says = (refl, refl, refl)
 
@@ -85,7 +100,8 @@ features_reads : is_ok (first features_text) ≡ true
 unfolding everything
 features_reads = refl
 
-features_says : (is_create (parsed_of (first features_text) features_reads).statement ≡ true) × ((parsed_of (first features_text) features_reads).formats ≡ []) × (text_of features_text (creating (parsed_of (first features_text) features_reads)) ≡ features_text)
+features_says : (is_create (parsed_of (first features_text) features_reads).statement ≡ true) × ((parsed_of (first features_text) features_reads).formats ≡ [])
+    × (text_of features_text (creating (parsed_of (first features_text) features_reads)) ≡ features_text)
 unfolding everything is_create
 features_says = (refl, refl, refl)
 

@@ -15,7 +15,8 @@ use Rattle.streetmap_ledger.specs.State.{timed}
 use Rattle.streetmap_rows.specs.Rows.{feature_text, extent_in, seconds_in}
 use Rattle.streetmap_tables.specs.StoredFeatures.{IsTimed}
 
-pub timed_as : (property : Option Text) (f : FeatureValue) (t : Option Interval) → IsFeature f → time_of property f.properties ≡ Ok (option_map interval_value t) → IsTimed property f (option_map seconds_of (option_map interval_value t))
+pub timed_as : (property : Option Text) (f : FeatureValue) (t : Option Interval) → IsFeature f → time_of property f.properties
+    ≡ Ok (option_map interval_value t) → IsTimed property f (option_map seconds_of (option_map interval_value t))
 unfolding feature_text extent_in seconds_in
 timed_as property f t fact reported = record {
   kept = retimed f (option_map interval_value t);

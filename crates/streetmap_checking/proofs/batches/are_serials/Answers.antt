@@ -12,7 +12,8 @@ returns-then-index c =
     let from : 1 ≤ get_or serials i 0 = search rules in
     let to : get_or serials i 0 ≤ length serials = search rules in
     let place : get_or serials i 0 - 1 < length c.loop-serial.seen.items = omega (arith, from, to, c.loop-serial.invariant.long) in
-    let on : get_or c.loop-serial.seen.items (get_or serials i 0 - 1) false ≡ true = get_or_default c.loop-serial.seen.items _ false c.index.result.now place ∙ sym c.index.ensures ∙ c.if-index.true in
+    let on : get_or c.loop-serial.seen.items (get_or serials i 0 - 1) false ≡ true = get_or_default c.loop-serial.seen.items _ false c.index.result.now place
+    ∙ sym c.index.ensures ∙ c.if-index.true in
     ((λ t. absurd (cc)), (λ are. absurd (seen_again serials c.loop-serial.seen.items i low from to c.loop-serial.invariant on are)))
 
 pub returns : goal.returns

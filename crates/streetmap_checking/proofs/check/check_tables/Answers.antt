@@ -17,21 +17,26 @@ pub returns-in-Ok-clause-checks : goal.returns-in-Ok-clause-checks
 returns-in-Ok-clause-checks g c clean s rests =
     let old = state g.S.Store c.args.conn.now in
     let new = state g.S.Store c.read_all_tables.new.conn in
-    let r = c.in-Ok.ensures.shows clean in
-    (totals_of old s rests c.in-Ok.totals r.0, rests_same old new s rests (unchanged_was old new r.1 rests.settled r.1.0.is_open) c.read_all_tables.ensures.survives.limit r.1.0.is_open)
+    let r = c.in-Ok.ensures.shows clean in (
+      totals_of old s rests c.in-Ok.totals r.0,
+      rests_same old new s rests (unchanged_was old new r.1 rests.settled r.1.0.is_open)
+          c.read_all_tables.ensures.survives.limit r.1.0.is_open,
+    )
 
 pub returns-in-Err-Unread-clause-reports : goal.returns-in-Err-Unread-clause-reports
 returns-in-Err-Unread-clause-reports g c clean = damaged_reported _ _ _ c.in-Err-Unread.field-0-is (c.in-Err-Unread.ensures.shows clean)
 
 pub returns-in-Err-Unread-clause-checks : goal.returns-in-Err-Unread-clause-checks
-returns-in-Err-Unread-clause-checks g c clean s rests = never_damaged (state g.S.Store c.args.conn.now) s rests (damaged_reported _ _ _ c.in-Err-Unread.field-0-is (c.in-Err-Unread.ensures.shows clean))
+returns-in-Err-Unread-clause-checks g c clean s rests = never_damaged (state g.S.Store c.args.conn.now) s rests
+    (damaged_reported _ _ _ c.in-Err-Unread.field-0-is (c.in-Err-Unread.ensures.shows clean))
 
 pub returns-in-Err-Store-clause-reports : goal.returns-in-Err-Store-clause-reports
 returns-in-Err-Store-clause-reports g c clean =
     let mid = state g.S.Store c.read_all_tables.new.conn in
     let new = state g.S.Store c.settle.new.conn in
     let early = clean_back mid new _ c.settle.ensures.survives clean in
-    settled_by (state g.S.Store c.args.conn.now) mid new c.in-Err-Store.error c.settle.result (refused_reported _ _ _ _ c.in-Err-Store.field-0-is (c.in-Err-Store.ensures.shows early)) (c.settle.ensures.ends clean)
+    settled_by (state g.S.Store c.args.conn.now) mid new c.in-Err-Store.error c.settle.result
+    (refused_reported _ _ _ _ c.in-Err-Store.field-0-is (c.in-Err-Store.ensures.shows early)) (c.settle.ensures.ends clean)
 
 pub returns-in-Err-Store-clause-same : goal.returns-in-Err-Store-clause-same
 returns-in-Err-Store-clause-same g c clean settled live =
@@ -49,7 +54,8 @@ returns-in-Err-Store-clause-checks g c clean s rests =
     let mid = state g.S.Store c.read_all_tables.new.conn in
     let new = state g.S.Store c.settle.new.conn in
     stopped_on s old new c.settle.result (returns-in-Err-Store-clause-reports g c clean) (never_damaged old s rests)
-    (λ live. rests_same old new s rests (returns-in-Err-Store-clause-same g c clean rests.settled live) (c.settle.ensures.survives.limit ∙ c.read_all_tables.ensures.survives.limit) live)
+    (λ live. rests_same old new s rests (returns-in-Err-Store-clause-same g c clean rests.settled live)
+    (c.settle.ensures.survives.limit ∙ c.read_all_tables.ensures.survives.limit) live)
     (λ is. (subst (Settles c.in-Err-Store.error mid new) is (c.settle.ensures.ends clean)).1.0.is_open)
 
 pub returns-in-Err-Store-clause-reason : goal.returns-in-Err-Store-clause-reason
@@ -59,7 +65,8 @@ returns-in-Err-Store-clause-reason g c clean =
     let new = state g.S.Store c.settle.new.conn in
     let early = clean_back mid new _ c.settle.ensures.survives clean in
     let come = refused_for old mid _ _ c.in-Err-Store.field-0-is (c.in-Err-Store.ensures.shows early) in
-    stops_settled old mid new c.in-Err-Store.error c.settle.result _ _ c.read_all_tables.ensures.survives c.settle.ensures.survives clean come (c.settle.ensures.ends clean)
+    stops_settled old mid new c.in-Err-Store.error c.settle.result _ _ c.read_all_tables.ensures.survives c.settle.ensures.survives clean come
+    (c.settle.ensures.ends clean)
 
 pub returns-in-Ok-clause-reports : goal.returns-in-Ok-clause-reports
 returns-in-Ok-clause-reports g c clean = state_of (state g.S.Store c.args.conn.now) c.in-Ok.totals (c.in-Ok.ensures.shows clean).0

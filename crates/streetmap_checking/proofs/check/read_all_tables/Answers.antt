@@ -21,7 +21,8 @@ returns-in_err-check_format g c = record {
   shows = λ clean.
       let old = state g.S.Store c.args.conn.now in
       let one = state g.S.Store c.check_format.new.conn in
-      handed _ _ old one _ _ (is_handed _ _ c.from_residual.ensures.1) (why_for (IsDamaged old) (NoFormat old) old one c.in_err-check_format.field-0.0 (λ none. by_format none) (c.in_err-check_format.ensures.shows clean));
+      handed _ _ old one _ _ (is_handed _ _ c.from_residual.ensures.1) (why_for (IsDamaged old) (NoFormat old) old one c.in_err-check_format.field-0.0
+      (λ none. by_format none) (c.in_err-check_format.ensures.shows clean));
   mode = first_of (search rules, grind (arith, common_steps));
   survives = first_of (search rules, grind (arith, common_steps));
 }
@@ -35,7 +36,9 @@ returns-in_err-heads g c = record {
       let same = (c.in_ok-check_format.ensures.shows (clean_before one two _ c.check_collections.ensures.survives clean)).1 in
       let limit = c.check_format.ensures.survives.limit in
       handed _ _ old two _ _ (is_handed _ _ c.from_residual-in_err-heads.ensures.1)
-      (fault_on (IsDamaged old) (NoCollections one) old one two c.in_err-heads.field-0.0 same c.check_format.ensures.survives.counts c.check_collections.ensures.survives.counts (λ none. by_collections (none_on select_collections [] collections_simple AreCollectionRows old one same limit none)) (c.in_err-heads.ensures.shows clean));
+      (fault_on (IsDamaged old) (NoCollections one) old one two c.in_err-heads.field-0.0 same c.check_format.ensures.survives.counts
+      c.check_collections.ensures.survives.counts (λ none. by_collections (none_on select_collections [] collections_simple AreCollectionRows old one same
+      limit none)) (c.in_err-heads.ensures.shows clean));
   mode = first_of (search rules, grind (arith, common_steps));
   survives = first_of (search rules, grind (arith, common_steps));
 }
@@ -54,10 +57,12 @@ returns-in_err-features g c = record {
       let limit = c.check_collections.ensures.survives.limit ∙ c.check_format.ensures.survives.limit in
       let all = known c.in_ok-heads.heads.items in
       let is : c.as_slice.result.now ≡ c.in_ok-heads.heads.items = search rules in
-      let reported = subst (λ l. ShowsWhy (NoFeaturesOfAll (known l) two) two three c.in_err-features.field-0.0) is (c.in_err-features.ensures.shows clean heads.1.0.is_open) in
+      let reported = subst (λ l. ShowsWhy (NoFeaturesOfAll (known l) two) two three c.in_err-features.field-0.0) is
+      (c.in_err-features.ensures.shows clean heads.1.0.is_open) in
       let counts = counts_then old.faults one.faults two.faults c.check_format.ensures.survives.counts c.check_collections.ensures.survives.counts in
       handed _ _ old three _ _ (is_handed _ _ c.from_residual-in_err-features.ensures.1)
-      (fault_on (IsDamaged old) (NoFeaturesOfAll all two) old two three c.in_err-features.field-0.0 same counts c.check_all_features.ensures.survives.counts (λ none. by_features all (heads_on all old one first heads.0) (no_features_all_on all old two same limit none)) reported);
+      (fault_on (IsDamaged old) (NoFeaturesOfAll all two) old two three c.in_err-features.field-0.0 same counts c.check_all_features.ensures.survives.counts
+      (λ none. by_features all (heads_on all old one first heads.0) (no_features_all_on all old two same limit none)) reported);
   mode = first_of (search rules, grind (arith, common_steps));
   survives = first_of (search rules, grind (arith, common_steps));
 }
@@ -83,7 +88,8 @@ returns-in_err-check_owners g c = record {
       let counts = three_counts in
       handed _ _ old four _ _ (is_handed _ _ c.from_residual-in_err-check_owners.ensures.1)
       (fault_on (IsDamaged old) (NoOwners all three) old three four c.in_err-check_owners.field-0.0 same counts c.check_owners.ensures.survives.counts
-      (λ none. by_owners all (heads_on all old one first heads.0) (none_on select_owners [] owners_simple (AreOwnerRows (map (λ (k : Known). k.0) all)) old three same limit none)) (c.in_err-check_owners.ensures.shows clean));
+      (λ none. by_owners all (heads_on all old one first heads.0) (none_on select_owners [] owners_simple (AreOwnerRows (map (λ (k : Known). k.0) all)) old
+      three same limit none)) (c.in_err-check_owners.ensures.shows clean));
   mode = first_of (search rules, grind (arith, common_steps));
   survives = first_of (search rules, grind (arith, common_steps));
 }
@@ -105,12 +111,14 @@ returns-in_err-batches g c = record {
       let features = c.in_ok-features.ensures.shows clean3 heads.1.0.is_open in
       let owners = c.in_ok-check_owners.ensures.shows clean4 in
       let same = unchanged_then old three four (unchanged_then old two three (unchanged_then old one two first heads.1) features.1) owners.1 in
-      let limit = c.check_owners.ensures.survives.limit ∙ c.check_all_features.ensures.survives.limit ∙ c.check_collections.ensures.survives.limit ∙ c.check_format.ensures.survives.limit in
+      let limit = c.check_owners.ensures.survives.limit ∙ c.check_all_features.ensures.survives.limit ∙ c.check_collections.ensures.survives.limit
+      ∙ c.check_format.ensures.survives.limit in
       let two_counts = counts_then old.faults one.faults two.faults c.check_format.ensures.survives.counts c.check_collections.ensures.survives.counts in
       let three_counts = counts_then old.faults two.faults three.faults two_counts c.check_all_features.ensures.survives.counts in
       let counts = counts_then old.faults three.faults four.faults three_counts c.check_owners.ensures.survives.counts in
       handed _ _ old five _ _ (is_handed _ _ c.from_residual-in_err-batches.ensures.1)
-      (fault_on (IsDamaged old) (NoBatches four) old four five c.in_err-batches.field-0.0 same counts c.check_batches.ensures.survives.counts (λ none. by_batches (none_on select_batches [] batches_simple AreBatchRows old four same limit none)) (c.in_err-batches.ensures.shows clean));
+      (fault_on (IsDamaged old) (NoBatches four) old four five c.in_err-batches.field-0.0 same counts c.check_batches.ensures.survives.counts
+      (λ none. by_batches (none_on select_batches [] batches_simple AreBatchRows old four same limit none)) (c.in_err-batches.ensures.shows clean));
   mode = first_of (search rules, grind (arith, common_steps));
   survives = first_of (search rules, grind (arith, common_steps));
 }
@@ -143,7 +151,8 @@ returns g c = record {
           heads = all;
           collections = heads_on all old one format.1 heads.0;
           counted = count ∙ sym (as_many_known c.in_ok-heads.heads.items);
-          features = all_features_on all c.in_ok-features.features old two same2 (subst (λ l. SeesAllFeatures (known l) c.in_ok-features.features two) is features.0);
+          features = all_features_on all c.in_ok-features.features old two same2 (subst (λ l. SeesAllFeatures (known l) c.in_ok-features.features two) is
+              features.0);
           owners = owners_on all old three same3 owners.0;
           batches = batches_on c.in_ok-batches.batches old four same4 batches.0;
         },

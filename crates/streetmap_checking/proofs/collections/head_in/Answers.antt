@@ -20,5 +20,8 @@ returns-then-is_property c =
     let three : length c.args.row.now ≡ 3 = search rules in
     let named : IsTrue (is_collection_id (string_bytes c.in_ok-id.id)) = search rules in
     let titled : IsTrue (is_title (string_bytes c.in_ok-title.title)) = search rules in
-    let text : IsUtf8 (string_bytes c.in_ok-title.title) = search rules in
-    (string_bytes c.in_ok-title.title, head_row _ _ _ _ three c.in_ok-id.ensures.exact.1 c.in_ok-title.ensures.exact.1 c.in_ok-time.ensures.exact.1, record { named = named; titled = (titled, is_utf8-from_IsUtf8 _ text); timed = c.is_property.ensures.0 (search rules) })
+    let text : IsUtf8 (string_bytes c.in_ok-title.title) = search rules in (
+      string_bytes c.in_ok-title.title,
+      head_row _ _ _ _ three c.in_ok-id.ensures.exact.1 c.in_ok-title.ensures.exact.1 c.in_ok-time.ensures.exact.1,
+      record { named = named; titled = (titled, is_utf8-from_IsUtf8 _ text); timed = c.is_property.ensures.0 (search rules) },
+    )

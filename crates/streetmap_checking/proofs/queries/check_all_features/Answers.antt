@@ -17,7 +17,12 @@ use Rattle.streetmap_checking.proofs.queries.check_all_features.Goals as goal
 pub heads-init : goal.heads-init
 heads-init g c = (
   λ h. h,
-  record { survives = survives_still (state g.S.Store c.args.conn.now) (λ _. ⊥); sees = λ clean live. refl; same = λ clean live. unchanged (state g.S.Store c.args.conn.now) live },
+  record {
+    survives = survives_still (state g.S.Store c.args.conn.now) (λ _. ⊥);
+    sees = λ clean live. refl;
+    same = λ clean live.
+        unchanged (state g.S.Store c.args.conn.now) live;
+  },
 )
 
 pub heads-preserved : goal.heads-preserved
@@ -31,9 +36,13 @@ heads-preserved g c =
         survives = survives_on old mid new before.survives c.check_features.ensures.survives;
         sees = λ clean live.
             let early = clean_before mid new _ c.check_features.ensures.survives clean in
-            let one = features_on (known_of c.head-item.result) c.in_ok-count.count old mid (before.same early live) (c.in_ok-count.ensures.shows clean (before.same early live).0.is_open).0 in
-            subst (λ l. SeesAllFeatures l c.in_ok-features.features old) (sym (known_more c.args.heads.now c.heads.head-index c.head-item.result (search rules) c.head-item.is))
-            (subst (λ n. SeesAllFeatures (known (take c.heads.head-index c.args.heads.now) ++ known_of c.head-item.result ∷ []) n old) (sym c.in_ok-features.ensures) (more_features _ (known_of c.head-item.result) c.heads.features c.in_ok-count.count old (before.sees early live) one));
+            let one = features_on (known_of c.head-item.result) c.in_ok-count.count old mid (before.same early live)
+            (c.in_ok-count.ensures.shows clean (before.same early live).0.is_open).0 in
+            subst (λ l. SeesAllFeatures l c.in_ok-features.features old) (sym (known_more c.args.heads.now c.heads.head-index c.head-item.result (search rules)
+            c.head-item.is))
+            (subst (λ n. SeesAllFeatures (known (take c.heads.head-index c.args.heads.now) ++ known_of c.head-item.result ∷ []) n old)
+            (sym c.in_ok-features.ensures) (more_features _ (known_of c.head-item.result) c.heads.features c.in_ok-count.count old (before.sees early live)
+            one));
         same = λ clean live.
             let was = before.same (clean_before mid new _ c.check_features.ensures.survives clean) live in
             unchanged_then old mid new was (c.in_ok-count.ensures.shows clean was.0.is_open).1;
@@ -43,8 +52,11 @@ heads-preserved g c =
 pub returns : goal.returns
 returns g c = record {
   shows = λ clean live.
-      let before = c.heads.invariant.1 in
-      (subst (λ l. SeesAllFeatures (known l) c.heads.features (state g.S.Store c.args.conn.now)) (take_all c.heads.head-index c.args.heads.now (search rules)) (before.sees clean live), before.same clean live);
+      let before = c.heads.invariant.1 in (
+        subst (λ l. SeesAllFeatures (known l) c.heads.features (state g.S.Store c.args.conn.now)) (take_all c.heads.head-index c.args.heads.now (search rules))
+            (before.sees clean live),
+        before.same clean live,
+      );
   mode = first_of (search rules, grind (arith, common_steps));
   survives = first_of (search rules, grind (arith, common_steps));
 }
@@ -59,7 +71,10 @@ returns-in_err-count g c = record {
       let early = clean_before mid new _ c.check_features.ensures.survives clean in
       let same = before.same early live in
       handed _ _ old new _ _ (is_handed _ _ c.from_residual.ensures.1)
-      (fault_on (NoFeaturesOfAll (known c.args.heads.now) old) (NoFeatures (known_of c.head-item.result) mid) old mid new c.in_err-count.field-0.0 same before.survives.counts c.check_features.ensures.survives.counts (λ none. none_of_all c.args.heads.now c.heads.head-index c.head-item.result old (search rules) c.head-item.is (no_features_on (known_of c.head-item.result) old mid same before.survives.limit none)) (c.in_err-count.ensures.shows clean same.0.is_open));
+      (fault_on (NoFeaturesOfAll (known c.args.heads.now) old) (NoFeatures (known_of c.head-item.result) mid) old mid new c.in_err-count.field-0.0 same
+      before.survives.counts c.check_features.ensures.survives.counts (λ none. none_of_all c.args.heads.now c.heads.head-index c.head-item.result old
+      (search rules) c.head-item.is (no_features_on (known_of c.head-item.result) old mid same before.survives.limit none))
+      (c.in_err-count.ensures.shows clean same.0.is_open));
   mode = first_of (search rules, grind (arith, common_steps));
   survives = first_of (search rules, grind (arith, common_steps));
 }
@@ -74,7 +89,8 @@ returns-in_err-features g c = record {
       let early = clean_before mid new _ c.check_features.ensures.survives clean in
       let was = before.same early live in
       let same = unchanged_then old mid new was (c.in_ok-count.ensures.shows clean was.0.is_open).1 in
-      handed _ _ old new _ _ (is_handed _ _ c.from_residual-in_err-features.ensures.1) (stopped_then (NoFeaturesOfAll (known c.args.heads.now) old) old new c.in_err-features.field-0.0 same c.in_err-features.ensures);
+      handed _ _ old new _ _ (is_handed _ _ c.from_residual-in_err-features.ensures.1) (stopped_then (NoFeaturesOfAll (known c.args.heads.now) old) old new
+      c.in_err-features.field-0.0 same c.in_err-features.ensures);
   mode = first_of (search rules, grind (arith, common_steps));
   survives = first_of (search rules, grind (arith, common_steps));
 }

@@ -13,4 +13,5 @@ pub record SoFar (old now : Seen) (heads : List Head) (features : ℕ) : Type 0 
   pub same : HasCleanDisk now → IsTrue old.is_open → IsUnchanged old now
 
 abbrev pub invariant-heads : goal.invariant-heads
-invariant-heads g l = (l.fn.conn.in_transaction ≡ false → l.conn.in_transaction ≡ false) × SoFar (state g.S.Store l.fn.conn) (state g.S.Store l.conn) (take l.head-index l.heads) l.features
+invariant-heads g l = (l.fn.conn.in_transaction ≡ false → l.conn.in_transaction ≡ false)
+    × SoFar (state g.S.Store l.fn.conn) (state g.S.Store l.conn) (take l.head-index l.heads) l.features

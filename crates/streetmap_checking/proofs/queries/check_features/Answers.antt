@@ -24,7 +24,9 @@ returns-in_err-fold_rows g c =
     let same = ap (λ (k : Known). k.1) c.in_ok-copy.ensures in
     let took = rw (c.params-to_sql.ensures, name) at (c.in_err-fold_rows.ensures.shows clean) in
     handed _ _ old new _ _ (is_handed _ _ c.from_residual-in_err-fold_rows.ensures.1)
-    (stopped HoldsFeatureRows IsGoodFeatures select_features (Words (known_of c.args.head.now).0 ∷ []) (record { alloc = c.args.alloc; head = c.in_ok-copy.copy; last = None; count = 0 }) (AreFeatureRows (known_of c.args.head.now).1) (λ rows good. subst (λ p. AreFeatureRows p rows) (sym same) good) old new c.in_err-fold_rows.field-0.0
+    (stopped HoldsFeatureRows IsGoodFeatures select_features (Words (known_of c.args.head.now).0 ∷ [])
+    (record { alloc = c.args.alloc; head = c.in_ok-copy.copy; last = None; count = 0 }) (AreFeatureRows (known_of c.args.head.now).1)
+    (λ rows good. subst (λ p. AreFeatureRows p rows) (sym same) good) old new c.in_err-fold_rows.field-0.0
     (took (features_simple _) (record { head = refl; are = record { entries = []; are = refl; rising = tt; fine = tt }; last = refl; counted = refl }))))
 
 pub returns : goal.returns

@@ -15,7 +15,8 @@ returns-in_err-fold_rows g c =
     query_so select_formats _ formats_simple c.fold_rows.ensures (λ clean.
     let old = state g.S.Store c.args.conn.now in
     let new = state g.S.Store c.fold_rows.new.conn in
-    handed _ _ old new _ _ (is_handed _ _ c.from_residual.ensures.1) (stopped HoldsFormatRows IsGoodFormat select_formats [] (record { found = 0 }) AreFormatRows (λ rows good. good) old new c.in_err-fold_rows.field-0.0 (c.in_err-fold_rows.ensures.shows clean (formats_simple _) (inl (refl, refl)))))
+    handed _ _ old new _ _ (is_handed _ _ c.from_residual.ensures.1) (stopped HoldsFormatRows IsGoodFormat select_formats [] (record { found = 0 })
+    AreFormatRows (λ rows good. good) old new c.in_err-fold_rows.field-0.0 (c.in_err-fold_rows.ensures.shows clean (formats_simple _) (inl (refl, refl)))))
 
 pub returns-then-rows-eq0 : goal.returns-then-rows-eq0
 returns-then-rows-eq0 g c =

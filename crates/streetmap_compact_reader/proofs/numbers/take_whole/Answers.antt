@@ -15,6 +15,7 @@ loop-digit-preserved c =
     let step = c.in-Some in
     record {
       utf8 = search rules;
-      text = l.invariant.text ∙ ap (λ t. decimal l.number ++ t) step.ensures.text ∙ sym (more_digits l.number step.digit step.following.now (omega arith) (omega arith) step.ensures.bound);
+      text = l.invariant.text ∙ ap (λ t. decimal l.number ++ t) step.ensures.text ∙ sym (more_digits l.number step.digit step.following.now (omega arith)
+          (omega arith) step.ensures.bound);
       bound = omega (arith, step.ensures.bound);
     }

@@ -18,5 +18,6 @@ loop-apart-preserved c =
     record {
       utf8 = search rules;
       last_utf8 = search rules;
-      read = next_member _ _ _ _ _ c.in_ok-name-2.name.now c.in_ok-name-2.value _ _ _ c.loop-apart.invariant.read c.in-Some.ensures m.text m.utf8 m.exact (sym c.comes_before.ensures ∙ less) c.found_with-found-in-Some.ensures;
+      read = next_member _ _ _ _ _ c.in_ok-name-2.name.now c.in_ok-name-2.value _ _ _ c.loop-apart.invariant.read c.in-Some.ensures m.text m.utf8 m.exact
+          (sym c.comes_before.ensures ∙ less) c.found_with-found-in-Some.ensures;
     }

@@ -26,7 +26,8 @@ loop-apart-preserved c =
       others = kept.others;
       holes = kept.holes ++ (h.first ∷ h.others) ∷ [];
       text = listed_more line_data _ _ _ _ ((kept.first ∷ kept.others) ∷ kept.holes) (h.first ∷ h.others) kept.text c.in-Some.ensures h.text;
-      are = next_ring kept.first kept.others kept.holes _ _ _ _ _ _ _ kept.are h (omega (arith, c.in_ok-count.ensures)) (omega arith) c.union-extent.ensures.value;
+      are = next_ring kept.first kept.others kept.holes _ _ _ _ _ _ _ kept.are h (omega (arith, c.in_ok-count.ensures)) (omega arith)
+          c.union-extent.ensures.value;
     }
 
 pub returns : goal.returns

@@ -4,7 +4,8 @@ use Rattle.std.specs.Io.KnownBytes.{Appends}
 use Rattle.streetmap_ledger.specs.PageView.{page_value}
 use Rattle.streetmap_text_lines.specs.Written.{AppendsBeginning, AppendsLess}
 use Rattle.streetmap_exchange.proofs.ExportLemmas.{Underway, is_any, begins, begins_early, begins_less, breaks_off, breaks_off_less}
-use Rattle.streetmap_exchange.proofs.ExportLemmas.{less_written, part_written, write_reads, end_reads, goes_further, write_ends, page_ends, end_exports, page_part, some_before, some_here}
+use Rattle.streetmap_exchange.proofs.ExportLemmas.{less_written, part_written, write_reads, end_reads, goes_further, write_ends, page_ends, end_exports}
+use Rattle.streetmap_exchange.proofs.ExportLemmas.{page_part, some_before, some_here}
 use Rattle.streetmap_replay.specs.Calls.{AreReads}
 use Rattle.streetmap_replay.proofs.CallsInTurn.{no_reads_open, no_fault_read, reads_then}
 use Rattle.streetmap_exchange.specs.ExportFaults.{export_answer}
@@ -14,13 +15,15 @@ use Rattle.streetmap_exchange.proofs.exports.write_pages.Goals.{then-later, else
 pub returns-in_err-write_bytes-clause-exports : goal.returns-in_err-write_bytes-clause-exports
 returns-in_err-write_bytes-clause-exports g c = λ h s e first.
     let p = err_from_is_err_and c.from_residual.result c.from_residual.ensures.1 in
-    write_ends s _ c.from_residual.result c.in_err-write_bytes.field-0.0 _ _ (p.1 ∙ ap (λ x. Err x) p.2) c.in_err-write_bytes.ensures.fault (begins_early s _ _ _ _ first c.in_err-write_bytes.ensures.err)
+    write_ends s _ c.from_residual.result c.in_err-write_bytes.field-0.0 _ _ (p.1 ∙ ap (λ x. Err x) p.2) c.in_err-write_bytes.ensures.fault
+    (begins_early s _ _ _ _ first c.in_err-write_bytes.ensures.err)
     (λ is. begins_less s _ _ _ _ first (c.in_err-write_bytes.ensures.less (ap (λ x. Err x) is)))
 
 pub returns-in_err-write_bytes-clause-reads : goal.returns-in_err-write_bytes-clause-reads
 returns-in_err-write_bytes-clause-reads g c =
     let p = err_from_is_err_and c.from_residual.result c.from_residual.ensures.1 in
-    write_reads c.from_residual.result c.in_err-write_bytes.field-0.0 (p.1 ∙ ap (λ x. Err x) p.2) c.in_err-write_bytes.ensures.fault (no_reads_open c.args.keeper.now c.requires)
+    write_reads c.from_residual.result c.in_err-write_bytes.field-0.0 (p.1 ∙ ap (λ x. Err x) p.2) c.in_err-write_bytes.ensures.fault
+    (no_reads_open c.args.keeper.now c.requires)
 
 pub loop-turn-init : goal.loop-turn-init
 loop-turn-init g c = record {
@@ -43,7 +46,8 @@ returns-in_err-write_part-clause-exports g c = λ h s e first.
     let part = subst (AppendsBeginning before after)
     (page_part c.loop-turn.later c.as_slice.result.now _ c.as_slice.ensures.value)
     c.in_err-write_part.ensures.err in
-    write_ends s _ c.from_residual-in_err-write_part.result c.in_err-write_part.field-0.0 _ _ (p.1 ∙ ap (λ x. Err x) p.2) c.in_err-write_part.ensures.fault (breaks_off s _ _ before after _ _ (inv.underway h s e first) part)
+    write_ends s _ c.from_residual-in_err-write_part.result c.in_err-write_part.field-0.0 _ _ (p.1 ∙ ap (λ x. Err x) p.2) c.in_err-write_part.ensures.fault
+    (breaks_off s _ _ before after _ _ (inv.underway h s e first) part)
     (λ is. breaks_off_less s _ _ before after _ _ (inv.underway h s e first)
     (subst (AppendsLess before after)
     (page_part c.loop-turn.later c.as_slice.result.now _ c.as_slice.ensures.value)
@@ -66,7 +70,8 @@ returns-in_err-page-in-Some-clause-exports g c = λ h s e first.
     let before = g.W.Write.contents c.loop-turn.writer in
     let after = g.W.Write.contents c.write_part.new.writer in
     let part = subst (Appends before after) (page_part c.loop-turn.later c.as_slice.result.now _ c.as_slice.ensures.value) c.in_ok-write_part.ensures.ok in
-    page_ends s _ (Some c.in-Some.id) r.result c.in_err-page-in-Some.field-0.0 _ _ (p.1 ∙ ap (λ x. Err x) p.2) (says.shows h s (inv.reads.stays began s e)) (part_written s _ _ before after _ _ (inv.underway began s e first) part)
+    page_ends s _ (Some c.in-Some.id) r.result c.in_err-page-in-Some.field-0.0 _ _ (p.1 ∙ ap (λ x. Err x) p.2) (says.shows h s (inv.reads.stays began s e))
+    (part_written s _ _ before after _ _ (inv.underway began s e first) part)
 
 pub returns-in-None-clause-reads : goal.returns-in-None-clause-reads
 returns-in-None-clause-reads g c = end_reads c.write_end.result c.write_end.ensures.fault c.loop-turn.invariant.reads
@@ -77,7 +82,9 @@ returns-in-None-clause-exports g c = λ h s e first.
     let before = g.W.Write.contents c.loop-turn.writer in
     let after = g.W.Write.contents c.write_part.new.writer in
     let part = subst (Appends before after) (page_part c.loop-turn.later c.as_slice.result.now _ c.as_slice.ensures.value) c.in_ok-write_part.ensures.ok in
-    end_exports s _ _ before after (g.W.Write.contents c.write_end.new.writer) _ _ c.write_end.result (inv.underway h s e first) (sym c.next_id.ensures ∙ c.in-None.is) part c.write_end.ensures.ok c.write_end.ensures.err c.write_end.ensures.less c.write_end.ensures.flush c.write_end.ensures.fault
+    end_exports s _ _ before after (g.W.Write.contents c.write_end.new.writer) _ _ c.write_end.result (inv.underway h s e first)
+    (sym c.next_id.ensures ∙ c.in-None.is) part c.write_end.ensures.ok c.write_end.ensures.err c.write_end.ensures.less c.write_end.ensures.flush
+    c.write_end.ensures.fault
 
 pub loop-turn-preserved : goal.loop-turn-preserved
 loop-turn-preserved g c =
@@ -90,7 +97,8 @@ loop-turn-preserved g c =
     let more : page.next ≡ Some c.in-Some.id = sym c.next_id.ensures ∙ c.in-Some.is in
     let later : (c.loop-turn.later || is_any page.features) ≡ c.if-later.later = elim c.if-later.branch [
       | then-later w ↦ some_before c.loop-turn.later c.if-later.later (is_any page.features) w.if-later.true w.later-is
-      | else-later w ↦ some_here c.loop-turn.later c.if-later.later w.is_empty.result page.features (vec_len c.loop-turn.page.features) w.if-later.false (omega (arith, c.loop-turn.page.features.ok.0)) w.is_empty.ensures w.later-is
+      | else-later w ↦ some_here c.loop-turn.later c.if-later.later w.is_empty.result page.features (vec_len c.loop-turn.page.features) w.if-later.false
+          (omega (arith, c.loop-turn.page.features.ok.0)) w.is_empty.ensures w.later-is
     ] in
     record {
       reads = reads_then (no_fault_read inv.reads) says.reads;

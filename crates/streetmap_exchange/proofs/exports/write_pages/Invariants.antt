@@ -13,6 +13,7 @@ invariant-loop-turn g l =
     let model = g.K.Keeper.model in
     record {
       reads : AreReads model l.fn.keeper l.keeper (Some (Ok tt));
-      underway : model.is_clean l.keeper → (s : State) → model.represents l.fn.keeper s → page_in s l.collection (part_query None) ≡ Some (page_value l.fn.first)
+      underway : model.is_clean l.keeper → (s : State) → model.represents l.fn.keeper s → page_in s l.collection (part_query None)
+          ≡ Some (page_value l.fn.first)
           → Underway s l.collection (g.W.Write.contents l.fn.writer) (g.W.Write.contents l.writer) l.later (page_value l.page);
     }

@@ -30,4 +30,5 @@ returns-in_err-batch-clause-imports g c = λ h s e.
     (unread_imports g.K.Keeper.model k s c.in_err-batch.field-0.0 _ c.in_err-batch.ensures.exact e)
 
 pub returns-clause-imports : goal.returns-clause-imports
-returns-clause-imports g c = λ h s e. read_imports g.K.Keeper.model c.args.keeper.now c.apply_import.new.keeper s _ _ _ c.in_ok-batch.ensures.exact (c.apply_import.ensures.imports h s e)
+returns-clause-imports g c = λ h s e. read_imports g.K.Keeper.model c.args.keeper.now c.apply_import.new.keeper s _ _ _ c.in_ok-batch.ensures.exact
+    (c.apply_import.ensures.imports h s e)

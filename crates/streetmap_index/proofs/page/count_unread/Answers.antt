@@ -10,4 +10,5 @@ returns-clause-counted c = λ t fs f is made held.
       | else-following-via-then-following+else-not-is_full w ↦ w.is_full.ensures.0 w.if-not-is_full.false
       | else-following-via-else-following w ↦ cc (following, w.if-following.false)
     ] in
-    c.count_hidden.ensures (query_value c.args.query.now) fs f held (c.is_selected.ensures c.if-not-is_selected.false f is made) (sym (c.comes_after-following.ensures f is)) full
+    c.count_hidden.ensures (query_value c.args.query.now) fs f held (c.is_selected.ensures c.if-not-is_selected.false f is made)
+    (sym (c.comes_after-following.ensures f is)) full

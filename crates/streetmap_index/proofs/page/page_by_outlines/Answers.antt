@@ -24,7 +24,8 @@ loop-chunk-init g c = no_read c.args.keeper.now tt c.requires (λ s e d there kn
       met = [];
       left = values d.features;
       whole = refl {a = values d.features};
-      pairs = paired (joined c.as_slice-chunks.result.now) d (subst (λ cs. AreOutlines (joined cs) d.features) (sym c.as_slice-chunks.ensures.value) known.chunks.outlines) (sound.made _ d there).holds;
+      pairs = paired (joined c.as_slice-chunks.result.now) d (subst (λ cs. AreOutlines (joined cs) d.features) (sym c.as_slice-chunks.ensures.value)
+          known.chunks.outlines) (sound.made _ d there).holds;
       holds = record { holds = c.new-fold.ensures; whole = refl {a = []} };
     })
 
@@ -40,7 +41,8 @@ loop-chunk-preserved-then-is_passed_over g c =
     let bounded = subst IsBounded (sym c.chunk-item.is) (subst AreBounded (sym c.as_slice-chunks.ensures.value) known.chunks.bounded i chunk (omega arith)) in
     goes_on_after q fold fold d.features (values d.features) chunk.outlines.items (joined (drop (i + 1) cs))
     (subst (Going q fold d.features (values d.features)) (next_chunk cs i chunk chunk.outlines.items (omega arith) c.chunk-item.is refl) (going d there known))
-    (passed_over (λ o. LiesWithin o.extent chunk.bounds) c.args.query.now fold d.features (c.is_passed_over.ensures c.if-is_passed_over.true) chunk.outlines.items bounded.within))
+    (passed_over (λ o. LiesWithin o.extent chunk.bounds) c.args.query.now fold d.features (c.is_passed_over.ensures c.if-is_passed_over.true)
+    chunk.outlines.items bounded.within))
 
 pub loop-chunk-preserved-then-count_chunk : goal.loop-chunk-preserved-then-count_chunk
 loop-chunk-preserved-then-count_chunk g c =
@@ -51,9 +53,11 @@ loop-chunk-preserved-then-count_chunk g c =
     let chunk = c.chunk-item.result in
     read_so inv (λ s _ e going d there known.
     let bounded = subst IsBounded (sym c.chunk-item.is) (subst AreBounded (sym c.as_slice-chunks.ensures.value) known.chunks.bounded i chunk (omega arith)) in
-    let order = chunk_in_order cs i chunk d.features (subst (λ xs. AreOutlines (joined xs) d.features) (sym c.as_slice-chunks.ensures.value) known.chunks.outlines) (omega arith) c.chunk-item.is in
+    let order = chunk_in_order cs i chunk d.features (subst (λ xs. AreOutlines (joined xs) d.features) (sym c.as_slice-chunks.ensures.value)
+    known.chunks.outlines) (omega arith) c.chunk-item.is in
     goes_on_after q c.loop-chunk.fold c.count_chunk.new.fold d.features (values d.features) chunk.outlines.items (joined (drop (i + 1) cs))
-    (subst (Going q c.loop-chunk.fold d.features (values d.features)) (next_chunk cs i chunk chunk.outlines.items (omega arith) c.chunk-item.is refl) (going d there known))
+    (subst (Going q c.loop-chunk.fold d.features (values d.features)) (next_chunk cs i chunk chunk.outlines.items (omega arith) c.chunk-item.is refl)
+    (going d there known))
     (c.count_chunk.ensures.counted c.if-count_chunk.true bounded order d.features))
 
 pub loop-chunk-preserved-then-is_unmarked : goal.loop-chunk-preserved-then-is_unmarked
@@ -65,10 +69,12 @@ loop-chunk-preserved-then-is_unmarked g c =
     let chunk = c.chunk-item.result in
     let outlines = c.args.outlines.now in
     let off : is_marked_if c.marks-found.result chunk.number ≡ false =
-    not-true (is_marked_if c.marks-found.result chunk.number) (ap (λ (m : Option Marks). not (is_marked_if m chunk.number)) (sym c.as_ref-marks.ensures.value) ∙ (sym c.is_unmarked.ensures ∙ c.if-is_unmarked.true)) in
+    not-true (is_marked_if c.marks-found.result chunk.number) (ap (λ (m : Option Marks). not (is_marked_if m chunk.number)) (sym c.as_ref-marks.ensures.value)
+    ∙ (sym c.is_unmarked.ensures ∙ c.if-is_unmarked.true)) in
     read_so inv (λ s _ e going d there known.
     let fold = c.loop-chunk.fold in
-    let listed = subst (IsListedChunk outlines.cells) (sym c.chunk-item.is) (subst (AreListed outlines.cells) (sym c.as_slice-chunks.ensures.value) known.listed i chunk (omega arith)) in
+    let listed = subst (IsListedChunk outlines.cells) (sym c.chunk-item.is) (subst (AreListed outlines.cells) (sym c.as_slice-chunks.ensures.value) known.listed
+    i chunk (omega arith)) in
     goes_on_after q fold fold d.features (values d.features) chunk.outlines.items (joined (drop (i + 1) cs))
     (subst (Going q fold d.features (values d.features)) (next_chunk cs i chunk chunk.outlines.items (omega arith) c.chunk-item.is refl) (going d there known))
     (unmarked_over outlines c.args.query.now c.marks-found.result c.marks-found.ensures fold d.features chunk off listed))
@@ -83,7 +89,8 @@ loop-chunk-preserved g c =
     read_after inv c.in-Ok-true.ensures (λ s e going takes d there known.
     let bounded = subst IsBounded (sym c.chunk-item.is) (subst AreBounded (sym c.as_slice-chunks.ensures.value) known.chunks.bounded i chunk (omega arith)) in
     goes_on_after q c.loop-chunk.fold c.take_outlined.new.fold d.features (values d.features) chunk.outlines.items (joined (drop (i + 1) cs))
-    (subst (Going q c.loop-chunk.fold d.features (values d.features)) (next_chunk cs i chunk chunk.outlines.items (omega arith) c.chunk-item.is refl) (going d there known))
+    (subst (Going q c.loop-chunk.fold d.features (values d.features)) (next_chunk cs i chunk chunk.outlines.items (omega arith) c.chunk-item.is refl)
+    (going d there known))
     (λ met fs pairs held.
     takes c.in-Ok-true.field-0-test d met fs there bounded pairs
     (subst (λ fold. HoldsCandidates q fold met) (sym (c.count_chunk.ensures.unchanged c.if-count_chunk.false)) held)))
@@ -101,6 +108,8 @@ returns-in-Ok g c =
     let q = query_value c.args.query.now in
     let cs = c.as_slice-chunks.result.now in
     read_made c.loop-chunk.invariant (λ s e going d there known.
-    let all = subst (Going q c.loop-chunk.fold d.features (values d.features)) (ap joined (drop_all c.loop-chunk.chunk-index cs (omega arith))) (going d there known) in
+    let all = subst (Going q c.loop-chunk.fold d.features (values d.features)) (ap joined (drop_all c.loop-chunk.chunk-index cs (omega arith)))
+    (going d there known) in
     let met = candidates q all.met in
-    c.in-Ok.ensures q met all.holds.holds ∙ (same_page q (length met) met all.met all.holds.whole ∙ ap (page_over q) (all_met q c.loop-chunk.fold d.features (values d.features) all)))
+    c.in-Ok.ensures q met all.holds.holds ∙ (same_page q (length met) met all.met all.holds.whole
+    ∙ ap (page_over q) (all_met q c.loop-chunk.fold d.features (values d.features) all)))

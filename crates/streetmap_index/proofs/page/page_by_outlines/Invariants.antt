@@ -10,4 +10,5 @@ use Rattle.streetmap_index.proofs.page.page_by_outlines.Given as goal
 -- the fold holds the page of the features met so far
 abbrev pub invariant-loop-chunk : goal.invariant-loop-chunk
 invariant-loop-chunk g l = IsRead {T = Unit {0}} g.K.Keeper.model l.fn.keeper l.keeper (Ok tt) (λ s _.
-    (c : Collection) → get s.collections l.collection ≡ Some c → AreListedChunksOf l.outlines c.features → Going (query_value l.query) l.fold c.features (values c.features) (joined (drop l.chunk-index l.chunks)))
+    (c : Collection) → get s.collections l.collection ≡ Some c → AreListedChunksOf l.outlines c.features →
+    Going (query_value l.query) l.fold c.features (values c.features) (joined (drop l.chunk-index l.chunks)))

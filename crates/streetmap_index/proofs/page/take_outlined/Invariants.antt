@@ -15,7 +15,8 @@ abbrev pub invariant-loop-place : goal.invariant-loop-place
 invariant-loop-place g l = record {
   within : l.place ≤ length l.outlines;
   was_read : IsRead {T = Unit {0}} g.K.Keeper.model l.fn.keeper l.keeper (Ok tt) (λ s _.
-      (c : Collection) (met fs : List FeatureValue) → get s.collections l.collection ≡ Some c → IsBounded l.chunk → Pairs c.features l.outlines fs → HoldsCandidates (query_value l.query) l.fn.fold met → Going (query_value l.query) l.fold c.features (met ++ fs) (drop l.place l.outlines));
+      (c : Collection) (met fs : List FeatureValue) → get s.collections l.collection ≡ Some c → IsBounded l.chunk → Pairs c.features l.outlines fs →
+      HoldsCandidates (query_value l.query) l.fn.fold met → Going (query_value l.query) l.fold c.features (met ++ fs) (drop l.place l.outlines));
 }
 
 abbrev pub decreases-loop-place : goal.decreases-loop-place

@@ -14,5 +14,6 @@ loop-feature-preserved c =
       goes = search rules;
       ends = search rules;
       long = omega (arith, long, c.in-Some.ensures.steps.1, inv.long);
-      so_far = one_more_taken c.args.outlines.now all (into_iter_items c.next.new.self) c.args.fold.now c.loop-feature.fold c.take.new.self c.loop-feature.place c.in-Some.feature is.0 so is.1 is.2 (λ q fs held. c.in_ok-take.ensures.ok q fs held);
+      so_far = one_more_taken c.args.outlines.now all (into_iter_items c.next.new.self) c.args.fold.now c.loop-feature.fold c.take.new.self c.loop-feature.place
+          c.in-Some.feature is.0 so is.1 is.2 (λ q fs held. c.in_ok-take.ensures.ok q fs held);
     }

@@ -13,6 +13,7 @@ returns-in-Ok g c =
     read_made c.in-Ok-Some.ensures (λ s e run taken d q met fs there pairs held.
     let took = c.in-Ok.ensures taken in
     let holds = ((g.K.Keeper.model.well_formed c.args.keeper.now s e).made name d there).holds in
-    let all = run_there s name c.args.first.now c.args.last.now d gs there holds (ap (option_map (λ (fs : Vec FeatureValue Global). fs.items)) (sym c.in-Ok-Some.field-0-is) ∙ run) in
+    let all = run_there s name c.args.first.now c.args.last.now d gs there holds (ap (option_map (λ (fs : Vec FeatureValue Global). fs.items))
+    (sym c.in-Ok-Some.field-0-is) ∙ run) in
     let same = run_is d.features c.args.outlines.now fs gs pairs took.0 all in
     subst (λ l. IsFoldOf q c.take_all.new.fold (met ++ l)) (sym same) (took.1 q met held))

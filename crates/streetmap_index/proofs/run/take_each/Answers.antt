@@ -14,9 +14,11 @@ loop-outline-preserved g c =
     let o = c.outline-item.result in
     let old = c.args.fold.now in
     let new = c.take_one.new.fold in
-    let next : take (i + 1) os ≡ take i os ++ o ∷ [] = take_more os i o c.loop-outline-test.true ∙ ap (λ (x : FeatureOutline). take i os ++ x ∷ []) (sym c.outline-item.is) in
+    let next : take (i + 1) os ≡ take i os ++ o ∷ [] = take_more os i o c.loop-outline-test.true
+    ∙ ap (λ (x : FeatureOutline). take i os ++ x ∷ []) (sym c.outline-item.is) in
     read_after c.loop-outline.invariant c.in-Ok-true.ensures
-    (λ s e so_far one. subst (λ xs. TakesRun name xs old new s true) (sym next) (taken_after s name (take i os) (o ∷ []) old c.loop-outline.fold new so_far (λ _. one c.in-Ok-true.field-0-test)))
+    (λ s e so_far one. subst (λ xs. TakesRun name xs old new s true) (sym next) (taken_after s name (take i os) (o ∷ []) old c.loop-outline.fold new so_far
+    (λ _. one c.in-Ok-true.field-0-test)))
 
 pub returns-in-Err : goal.returns-in-Err
 returns-in-Err g c =

@@ -6,4 +6,5 @@ returns-then-not-is_open g c = shut_read c.args.keeper.now (shut_of _ _ c.is_ope
 
 pub returns-in-Ok : goal.returns-in-Ok
 returns-in-Ok g c =
-    no_read c.args.keeper.now _ (open_of _ _ c.is_open.ensures c.if-not-is_open.false) (λ s e known all. c.in-Ok.ensures s (g.K.Keeper.model.well_formed c.args.keeper.now s e) known all)
+    no_read c.args.keeper.now _ (open_of _ _ c.is_open.ensures c.if-not-is_open.false) (λ s e known all.
+    c.in-Ok.ensures s (g.K.Keeper.model.well_formed c.args.keeper.now s e) known all)

@@ -17,10 +17,12 @@ loop-chunk-preserved c = λ bounded features fs pairs.
     let os = chunk.outlines.items in
     let here = subst IsBounded (sym c.chunk-item.is) (bounded i chunk (omega arith)) in
     grows_after [] c.loop-chunk.bounds c.bounds_of_both-bounds.result features fs os (joined (drop (i + 1) cs))
-    (subst (Growing [] c.loop-chunk.bounds features fs) (next_chunk cs i chunk os (omega arith) c.chunk-item.is refl) (c.loop-chunk.invariant bounded features fs pairs))
+    (subst (Growing [] c.loop-chunk.bounds features fs) (next_chunk cs i chunk os (omega arith) c.chunk-item.is refl)
+    (c.loop-chunk.invariant bounded features fs pairs))
     (λ vs gs there are. c.bounds_of_both-bounds.ensures.exact vs (all_vertices gs) are (here.exact features gs there))
 
 pub returns : goal.returns
 returns c = λ bounded features fs pairs.
     let cs = c.args.chunks.now in
-    all_bounds [] c.loop-chunk.bounds features fs (subst (Growing [] c.loop-chunk.bounds features fs) (ap joined (drop_all c.loop-chunk.chunk-index cs (omega arith))) (c.loop-chunk.invariant bounded features fs pairs))
+    all_bounds [] c.loop-chunk.bounds features fs (subst (Growing [] c.loop-chunk.bounds features fs)
+    (ap joined (drop_all c.loop-chunk.chunk-index cs (omega arith))) (c.loop-chunk.invariant bounded features fs pairs))

@@ -16,9 +16,11 @@ loop-id-init c = λ s sound known all.
 pub loop-id-preserved : goal.loop-id-preserved
 loop-id-preserved c = λ s sound known all.
     let telling = subst (λ (es : Known). IsReporting s c.loop-id.made.items es) c.in-Some.ensures.steps (c.loop-id.invariant s sound known all) in
-    reports_on s c.loop-id.made.items c.push.new.self.items c.in-Some.id.now c.in-Some.outlined.now c.next.new.self c.in_ok-summary.field-0 telling c.in_ok-push.ensures.items
+    reports_on s c.loop-id.made.items c.push.new.self.items c.in-Some.id.now c.in-Some.outlined.now c.next.new.self c.in_ok-summary.field-0 telling
+    c.in_ok-push.ensures.items
     (λ d at is. c.in_ok-summary.ensures d is (sound.made _ d at).holds ∙ ap (λ i. summary_of i d) c.as_str.ensures.value)
 
 pub returns : goal.returns
 returns c = λ s sound known all.
-    none_left s c.loop-id.made.items (subst (λ (es : Known). IsReporting s c.loop-id.made.items es) c.in-None.ensures.steps.0 (c.loop-id.invariant s sound known all))
+    none_left s c.loop-id.made.items (subst (λ (es : Known). IsReporting s c.loop-id.made.items es) c.in-None.ensures.steps.0
+    (c.loop-id.invariant s sound known all))

@@ -14,4 +14,6 @@ returns c = λ d known holds.
     same_summary _ _ c.in_ok-from_str.ensures.ok
     (c.in_ok-from_str-2.ensures.ok ∙ (c.as_str.ensures.value ∙ known.title))
     (c.in_ok-owned.ensures ∙ (c.as_deref.ensures.value ∙ known.time))
-    (bounds_extent (all_vertices fs) c.extent_of.result (c.extent_of.ensures (subst AreBounded (sym c.as_slice.ensures.value) known.outlines.chunks.bounded) d.features fs (subst (λ xs. Pairs d.features (joined xs) fs) (sym c.as_slice.ensures.value) (paired (joined c.args.outlined.now.outlines.chunks.items) d known.outlines.chunks.outlines holds))))
+    (bounds_extent (all_vertices fs) c.extent_of.result (c.extent_of.ensures (subst AreBounded (sym c.as_slice.ensures.value) known.outlines.chunks.bounded)
+    d.features fs (subst (λ xs. Pairs d.features (joined xs) fs) (sym c.as_slice.ensures.value)
+    (paired (joined c.args.outlined.now.outlines.chunks.items) d known.outlines.chunks.outlines holds))))

@@ -13,7 +13,8 @@ invariant-loop-turn g l =
       reads : AreReads model l.fn.keeper l.keeper None;
       after : l.journal.after ≡ l.fn.journal.after;
       behind : l.journal.is_behind ≡ l.fn.journal.is_behind;
-      reported : WriterIsInformed g.W.JournalWriter.reported g.W.JournalWriter.is_kept l.fn.journal → WriterIsInformed g.W.JournalWriter.reported g.W.JournalWriter.is_kept l.journal;
+      reported : WriterIsInformed g.W.JournalWriter.reported g.W.JournalWriter.is_kept l.fn.journal →
+          WriterIsInformed g.W.JournalWriter.reported g.W.JournalWriter.is_kept l.journal;
       goes : g.W.JournalWriter.goes l.fn.journal.writer l.journal.writer;
       holds : model.is_clean l.keeper → (s : State) → model.represents l.fn.keeper s →
           HoldsIn g.W.JournalWriter.contents l.fn.journal s → HoldsIn g.W.JournalWriter.contents l.journal s;

@@ -6,7 +6,8 @@ use Rattle.streetmap_journal.proofs.OneLineFurther.{kept_line_is}
 use Rattle.streetmap_journal.proofs.completion.kept_line.Goals as goal
 
 pub returns-in-Ok : goal.returns-in-Ok
-returns-in-Ok g c = read_made c.in-Ok-Some.ensures (λ s e is. kept_line_is s c.args.serial (keyed_batch c.in-Ok-Some.kept) c.as_slice.result.now c.in-Ok.line.items
+returns-in-Ok g c = read_made c.in-Ok-Some.ensures (λ s e is. kept_line_is s c.args.serial (keyed_batch c.in-Ok-Some.kept) c.as_slice.result.now
+    c.in-Ok.line.items
     (ap (option_map keyed_batch) (sym c.in-Ok-Some.field-0-is) ∙ is) c.as_slice.ensures.value c.in-Ok.ensures)
 
 pub returns-in-Ok-None : goal.returns-in-Ok-None

@@ -68,4 +68,5 @@ pub returns-in_default-clause-call : goal.returns-in_default-clause-call
 returns-in_default-clause-call g c = call_from c.refuse.ensures.calls
 
 pub returns-in_default-clause-writes : goal.returns-in_default-clause-writes
-returns-in_default-clause-writes g c = λ h s e. not_requested g.K.Keeper.model c.args.keeper.now c.refuse.new.keeper s (batch_value c.args.batch.now) c.refuse.result (c.refuse.ensures.stays h s e)
+returns-in_default-clause-writes g c = λ h s e. not_requested g.K.Keeper.model c.args.keeper.now c.refuse.new.keeper s (batch_value c.args.batch.now)
+    c.refuse.result (c.refuse.ensures.stays h s e)

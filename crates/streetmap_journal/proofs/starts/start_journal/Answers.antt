@@ -19,13 +19,16 @@ returns-in_err-check_end-clause-reads g c =
     let r = c.from_residual-in_err-check_end in
     let p = err_from_is_err_and r.result r.ensures.1 in
     subst (λ x. AreReads g.K.Keeper.model c.args.keeper.now c.match_place.new.keeper (start_answer x)) (sym (p.1 ∙ ap (λ x. Err x) p.2))
-    (ended_reads (Unit {0}) c.in_ok-after.after c.in_ok-matched.matched c.in_err-check_end.field-0.0 c.in_err-check_end.ensures (answered_read c.in-Ok.ensures) c.in_ok-matched.ensures.reads)
+    (ended_reads (Unit {0}) c.in_ok-after.after c.in_ok-matched.matched c.in_err-check_end.field-0.0 c.in_err-check_end.ensures (answered_read c.in-Ok.ensures)
+    c.in_ok-matched.ensures.reads)
 
 pub returns-in-Ok-begin-clause-reads : goal.returns-in-Ok-begin-clause-reads
-returns-in-Ok-begin-clause-reads g c = answered_then (answered_then (answered_read c.in-Ok.ensures) (whole_reads _ c.in_ok-check_end.ensures c.in_ok-matched.ensures.reads)) c.in-Ok-begin.ensures.reads
+returns-in-Ok-begin-clause-reads g c = answered_then (answered_then (answered_read c.in-Ok.ensures)
+    (whole_reads _ c.in_ok-check_end.ensures c.in_ok-matched.ensures.reads)) c.in-Ok-begin.ensures.reads
 
 pub returns-in-Err-begin-clause-reads : goal.returns-in-Err-begin-clause-reads
-returns-in-Err-begin-clause-reads g c = reads_then (whole_reads _ c.in_ok-check_end.ensures (reads_then (read_of c.in-Ok.ensures) c.in_ok-matched.ensures.reads)) c.in-Err-begin.ensures.reads
+returns-in-Err-begin-clause-reads g c = reads_then (whole_reads _ c.in_ok-check_end.ensures
+    (reads_then (read_of c.in-Ok.ensures) c.in_ok-matched.ensures.reads)) c.in-Err-begin.ensures.reads
 
 pub returns-in-Ok-begin-clause-starts : goal.returns-in-Ok-begin-clause-starts
 returns-in-Ok-begin-clause-starts g c = λ h s e.

@@ -44,6 +44,8 @@ returns-clause-ends g c h s e =
           let wrote = w.in-Err.ensures in
           let b = batch_value w.batch-item.result in
           let more : take (i + 1) all ≡ take i all ++ b ∷ [] = taken c.args.batches.now i w.batch-item.result (omega arith) w.batch-item.is in
-          let ended = ends_at model _ _ _ s all (length c.loop-batch.replies.items) i b w.in-Err.stopped inv.count more (model.fails_later _ _ _ inv.preserved wrote.call.preserved) (wrote.writes clean _ (inv.represents (wrote.call.began_clean clean) s e)) in
-          rw w.fault-is (subst (λ k. RunEnds model c.args.keeper.now k s all (length c.loop-batch.replies.items) (Some w.in-Err.stopped)) (sym w.keeper-is) ended)
+          let ended = ends_at model _ _ _ s all (length c.loop-batch.replies.items) i b w.in-Err.stopped inv.count more
+          (model.fails_later _ _ _ inv.preserved wrote.call.preserved) (wrote.writes clean _ (inv.represents (wrote.call.began_clean clean) s e)) in
+          rw w.fault-is (subst (λ k. RunEnds model c.args.keeper.now k s all (length c.loop-batch.replies.items) (Some w.in-Err.stopped)) (sym w.keeper-is)
+          ended)
     ]

@@ -15,6 +15,8 @@ invariant-loop-batch g l =
       preserved : k.preserves l.fn.keeper l.keeper;
       clean : k.is_clean l.keeper → k.is_clean l.fn.keeper;
       cause : k.cause l.keeper ≡ k.cause l.fn.keeper;
-      represents : k.is_clean l.keeper → (s : State) → k.represents l.fn.keeper s → k.represents l.keeper (after_all s (take l.batch-index (map batch_value l.batches)));
-      replies : k.is_clean l.keeper → (s : State) → k.represents l.fn.keeper s → l.replies.items ≡ replies_of s (take l.batch-index (map batch_value l.batches));
+      represents : k.is_clean l.keeper → (s : State) → k.represents l.fn.keeper s → k.represents l.keeper
+          (after_all s (take l.batch-index (map batch_value l.batches)));
+      replies : k.is_clean l.keeper → (s : State) → k.represents l.fn.keeper s → l.replies.items
+          ≡ replies_of s (take l.batch-index (map batch_value l.batches));
     }

@@ -9,4 +9,5 @@ use Rattle.streetmap_ledger.proofs.selection.lies_within_box.Goals as goal
 pub returns-in-Some-extent : goal.returns-in-Some-extent
 returns-in-Some-extent c = λ within geometry is made.
     ap (λ (o : Option GridBox). passes geometry_meets geometry (option_map box_value o)) c.in-Some.is
-    ∙ within_passes geometry c.in-Some-extent.extent c.in-Some.area (ap (option_map box_value) (sym c.in-Some-extent.is) ∙ is) made (sym c.is_within.ensures.test ∙ within)
+    ∙ within_passes geometry c.in-Some-extent.extent c.in-Some.area (ap (option_map box_value) (sym c.in-Some-extent.is) ∙ is) made
+    (sym c.is_within.ensures.test ∙ within)

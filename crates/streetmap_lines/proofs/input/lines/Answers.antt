@@ -12,7 +12,8 @@ use Rattle.streetmap_lines.proofs.input.lines.Goals as goal
 
 pub loop-turn-init : goal.loop-turn-init
 loop-turn-init g c = record {
-  answered = answered_none (g.R.Read.remaining c.args.reader.now) (g.W.Write.contents c.args.writer.now) (plain_state c.new-keeper.result) c.new-keeper.ensures.is;
+  answered = answered_none (g.R.Read.remaining c.args.reader.now) (g.W.Write.contents c.args.writer.now) (plain_state c.new-keeper.result)
+      c.new-keeper.ensures.is;
   represented = represents_own c.new-keeper.result _ c.new-keeper.ensures;
 }
 
@@ -20,7 +21,8 @@ pub returns-in_err-next_line-clause-read_failed : goal.returns-in_err-next_line-
 returns-in_err-next_line-clause-read_failed g c = λ _. answered_first _ _ _ _ (plain_state c.loop-turn.keeper) c.loop-turn.invariant.answered
 
 pub returns-in_err-next_line-clause-err : goal.returns-in_err-next_line-clause-err
-returns-in_err-next_line-clause-err g c = on_err c.from_residual.result _ (answered_begun _ _ _ _ (plain_state c.loop-turn.keeper) c.loop-turn.invariant.answered)
+returns-in_err-next_line-clause-err g c = on_err c.from_residual.result _ (answered_begun _ _ _ _ (plain_state c.loop-turn.keeper)
+    c.loop-turn.invariant.answered)
 
 pub returns-in_err-write_answer-in-Text-clause-err : goal.returns-in_err-write_answer-in-Text-clause-err
 returns-in_err-write_answer-in-Text-clause-err g c =
@@ -33,7 +35,8 @@ returns-in_err-write_answer-in-Text-clause-err g c =
     (g.W.Write.contents c.write_answer.new.writer) (answer_text (line_answer before l)))
     c.as_slice.ensures.value (c.in_err-write_answer-in-Text.ensures.err c.loop-turn.invariant.represented) in
     on_err c.from_residual-in_err-write_answer-in-Text.result _
-    (answered_partly (g.R.Read.remaining c.args.reader.now) rest later (g.W.Write.contents c.args.writer.now) _ (g.W.Write.contents c.write_answer.new.writer) line before
+    (answered_partly (g.R.Read.remaining c.args.reader.now) rest later (g.W.Write.contents c.args.writer.now) _ (g.W.Write.contents c.write_answer.new.writer)
+    line before
     c.loop-turn.invariant.answered taken partly)
 
 pub returns-in_err-write_answer-in-Text-clause-write_failed : goal.returns-in_err-write_answer-in-Text-clause-write_failed
@@ -46,9 +49,11 @@ returns-in_err-write_answer-in-Text-clause-write_failed g c = λ is.
     let r = c.from_residual-in_err-write_answer-in-Text in
     let p = err_from_is_err_and r.result r.ensures.1 in
     let failed = sym (p.1 ∙ ap (λ x. Err x) p.2) ∙ is in
-    let less = subst (λ l. AppendsLess (g.W.Write.contents c.loop-turn.writer) (g.W.Write.contents c.write_answer.new.writer) (answer_text (line_answer before l)))
+    let less = subst (λ l. AppendsLess (g.W.Write.contents c.loop-turn.writer) (g.W.Write.contents c.write_answer.new.writer)
+    (answer_text (line_answer before l)))
     c.as_slice.ensures.value (c.in_err-write_answer-in-Text.ensures.less c.loop-turn.invariant.represented failed) in
-    answered_less (g.R.Read.remaining c.args.reader.now) rest later (g.W.Write.contents c.args.writer.now) _ (g.W.Write.contents c.write_answer.new.writer) line before
+    answered_less (g.R.Read.remaining c.args.reader.now) rest later (g.W.Write.contents c.args.writer.now) _ (g.W.Write.contents c.write_answer.new.writer) line
+    before
     c.loop-turn.invariant.answered taken less
 
 pub returns-in_err-write_answer-in-Text-clause-flush_failed : goal.returns-in_err-write_answer-in-Text-clause-flush_failed
@@ -61,10 +66,13 @@ returns-in_err-write_answer-in-Text-clause-flush_failed g c = λ is.
     let r = c.from_residual-in_err-write_answer-in-Text in
     let p = err_from_is_err_and r.result r.ensures.1 in
     let failed = sym (p.1 ∙ ap (λ x. Err x) p.2) ∙ is in
-    let written = subst (λ l. Appends (g.W.Write.contents c.loop-turn.writer) (g.W.Write.contents c.write_answer.new.writer) (answer_text (line_answer before l)))
+    let written = subst (λ l. Appends (g.W.Write.contents c.loop-turn.writer) (g.W.Write.contents c.write_answer.new.writer)
+    (answer_text (line_answer before l)))
     c.as_slice.ensures.value (c.in_err-write_answer-in-Text.ensures.flush c.loop-turn.invariant.represented failed) in
-    answered_first (g.R.Read.remaining c.args.reader.now) later (g.W.Write.contents c.args.writer.now) (g.W.Write.contents c.write_answer.new.writer) (state_after before line)
-    (answered_more (g.R.Read.remaining c.args.reader.now) rest later (g.W.Write.contents c.args.writer.now) _ (g.W.Write.contents c.write_answer.new.writer) line before
+    answered_first (g.R.Read.remaining c.args.reader.now) later (g.W.Write.contents c.args.writer.now) (g.W.Write.contents c.write_answer.new.writer)
+    (state_after before line)
+    (answered_more (g.R.Read.remaining c.args.reader.now) rest later (g.W.Write.contents c.args.writer.now) _ (g.W.Write.contents c.write_answer.new.writer)
+    line before
     (state_after before line) c.loop-turn.invariant.answered taken written refl)
 
 pub loop-turn-preserved : goal.loop-turn-preserved
@@ -74,11 +82,14 @@ loop-turn-preserved g c =
     let before = plain_state c.loop-turn.keeper in
     let line = c.in-Text.line.items in
     let taken = subst (TakesLine 8388608 rest later) c.in-Text.is c.in_ok-next_line.ensures.taken in
-    let written = subst (λ l. Appends (g.W.Write.contents c.loop-turn.writer) (g.W.Write.contents c.write_answer.new.writer) (answer_text (line_answer before l)))
+    let written = subst (λ l. Appends (g.W.Write.contents c.loop-turn.writer) (g.W.Write.contents c.write_answer.new.writer)
+    (answer_text (line_answer before l)))
     c.as_slice.ensures.value (c.in_ok-write_answer-in-Text.ensures.ok c.loop-turn.invariant.represented) in
-    let state = subst (λ l. IsPlainState c.write_answer.new.keeper (state_after before l)) c.as_slice.ensures.value (c.in_ok-write_answer-in-Text.ensures.state c.loop-turn.invariant.represented) in
+    let state = subst (λ l. IsPlainState c.write_answer.new.keeper (state_after before l)) c.as_slice.ensures.value
+    (c.in_ok-write_answer-in-Text.ensures.state c.loop-turn.invariant.represented) in
     record {
-      answered = answered_more (g.R.Read.remaining c.args.reader.now) rest later (g.W.Write.contents c.args.writer.now) _ (g.W.Write.contents c.write_answer.new.writer) line before
+      answered = answered_more (g.R.Read.remaining c.args.reader.now) rest later (g.W.Write.contents c.args.writer.now) _
+          (g.W.Write.contents c.write_answer.new.writer) line before
           (plain_state c.write_answer.new.keeper) c.loop-turn.invariant.answered taken written state.is;
       represented = represents_own c.write_answer.new.keeper _ state;
     }

@@ -16,7 +16,8 @@ returns-in-Some g c =
     let line = c.args.line.now in
     let old = g.W.Write.contents c.args.writer.now in
     let new = g.W.Write.contents c.write_line.new.writer in
-    let answer : IsPlainState old_keeper s → IsLineAnswer s line _ t = λ represented. subst (λ o. IsLineAnswer s line o t) c.in-Some.is (line_answered s old_keeper t line c.in_ok-answer.field-0 represented (c.in_ok-answer.ensures.answered s represented) c.in_ok-answer.ensures.empty) in
+    let answer : IsPlainState old_keeper s → IsLineAnswer s line _ t = λ represented. subst (λ o. IsLineAnswer s line o t) c.in-Some.is
+    (line_answered s old_keeper t line c.in_ok-answer.field-0 represented (c.in_ok-answer.ensures.answered s represented) c.in_ok-answer.ensures.empty) in
     let text : IsPlainState old_keeper s → c.as_str.result.now ++ 10 ∷ [] ≡ answer_text (line_answer s line) =
     λ represented. ap (λ l. l ++ 10 ∷ []) c.as_str.ensures.value ∙ said_text (line_answer s line) (string_bytes c.in-Some.answer) (answer represented).said in
     record {
@@ -36,7 +37,8 @@ returns-in-None g c =
     let old_keeper = c.args.keeper.now in
     let line = c.args.line.now in
     let old = g.W.Write.contents c.args.writer.now in
-    let answer : IsPlainState old_keeper s → IsLineAnswer s line _ t = λ represented. subst (λ o. IsLineAnswer s line o t) c.in-None.is (line_answered s old_keeper t line c.in_ok-answer.field-0 represented (c.in_ok-answer.ensures.answered s represented) c.in_ok-answer.ensures.empty) in
+    let answer : IsPlainState old_keeper s → IsLineAnswer s line _ t = λ represented. subst (λ o. IsLineAnswer s line o t) c.in-None.is
+    (line_answered s old_keeper t line c.in_ok-answer.field-0 represented (c.in_ok-answer.ensures.answered s represented) c.in_ok-answer.ensures.empty) in
     record {
       ok = λ represented. subst (Appends old old) (said_none (line_answer s line) (answer represented).said) (Appends-nil old);
       state = λ represented. (answer represented).state;

@@ -8,11 +8,13 @@ use Rattle.streetmap_lines.specs.declared.request.Request.{Request}
 use Rattle.streetmap_lines.proofs.Requests.{request_of-found, request_of-only}
 use Rattle.streetmap_lines.proofs.request.read_request.Goals as goal
 
-found : (line : Text) (o : Option Request) → (IsUtf8 line → option_map request_value o ≡ request_of line) → (IsSome o → IsUtf8 line) → IfSome o (λ r. IsRequestLine line (request_value r))
+found : (line : Text) (o : Option Request) → (IsUtf8 line → option_map request_value o ≡ request_of line) → (IsSome o → IsUtf8 line) →
+    IfSome o (λ r. IsRequestLine line (request_value r))
 found line None e is_text = tt
 found line (Some r) e is_text = (is_text refl, request_of-found line (request_value r) (sym (e (is_text refl))))
 
-value : (v : Bool) (line : Text) (o : Option Request) → is_utf8 line ≡ v → (IsUtf8 line → option_map request_value o ≡ request_of line) → (¬ (IsUtf8 line) → o ≡ None)
+value : (v : Bool) (line : Text) (o : Option Request) → is_utf8 line ≡ v → (IsUtf8 line → option_map request_value o ≡ request_of line) →
+    (¬ (IsUtf8 line) → o ≡ None)
     → option_map request_value o ≡ cond v (request_of line) None
 value true line o e text other = text (IsUtf8-from_is_utf8 line e)
 value false line o e text other = ap (option_map request_value) (other (λ utf8. let k : is_utf8 line ≡ true = is_utf8-from_IsUtf8 line utf8 in cc))

@@ -13,6 +13,7 @@ loop-slot-preserved-in-Some-slot c =
     let met : c.loop-slot.slot-iterator ≡ c.in-Some.slot.now ∷ c.next.new.self = search rules in
     let P : List PositionValue → Type 0 = λ vs. AreBounds vs c.grown-bounds.result in (
       fs ++ f ∷ [],
-      append_assoc fs (f ∷ []) (live_values c.next.new.self) ∙ (ap (λ o. fs ++ live_values (o ∷ c.next.new.self)) (sym c.in-Some-slot.is) ∙ (ap (λ os. fs ++ live_values os) (sym met) ∙ c.loop-slot.invariant.1)),
+      append_assoc fs (f ∷ []) (live_values c.next.new.self) ∙ (ap (λ o. fs ++ live_values (o ∷ c.next.new.self)) (sym c.in-Some-slot.is)
+          ∙ (ap (λ os. fs ++ live_values os) (sym met) ∙ c.loop-slot.invariant.1)),
       subst P (flat_map_more feature_vertices [] fs f) (c.grown-bounds.ensures (all_vertices fs) c.loop-slot.invariant.2),
     )

@@ -18,7 +18,8 @@ loop-slot-preserved-in-Continue-1 c =
     let f = c.in-Some-slot.feature in
     let met : c.loop-slot.slot-iterator ≡ c.in-Some.slot.now ∷ c.next.new.self = search rules in (
       fs ++ f ∷ [],
-      append_assoc fs (f ∷ []) (live_values c.next.new.self) ∙ (ap (λ o. fs ++ live_values (o ∷ c.next.new.self)) (sym c.in-Some-slot.is) ∙ (ap (λ os. fs ++ live_values os) (sym met) ∙ c.loop-slot.invariant.1)),
+      append_assoc fs (f ∷ []) (live_values c.next.new.self) ∙ (ap (λ o. fs ++ live_values (o ∷ c.next.new.self)) (sym c.in-Some-slot.is)
+          ∙ (ap (λ os. fs ++ live_values os) (sym met) ∙ c.loop-slot.invariant.1)),
       c.in_ok-examine.ensures (query_value c.args.query.now) fs c.loop-slot.invariant.2,
     )
 
@@ -37,5 +38,7 @@ returns-clause-page c =
     let held = c.loop-slot.invariant.2 in
     let q = query_value c.args.query.now in
     let none : c.loop-slot.slot-iterator ≡ [] = search rules in
-    let whole : fs ≡ live_values (values_of c.args.slots.now.entries) = sym (append-nil fs) ∙ (ap (λ os. fs ++ live_values os) (sym none) ∙ c.loop-slot.invariant.1) in
-    IfOk-weaker c.end.result _ _ (λ page is. is ∙ (same_page q (length (candidates q fs)) (candidates q fs) fs held.whole ∙ ap (page_over q) whole)) (c.end.ensures q (candidates q fs) held.holds)
+    let whole : fs ≡ live_values (values_of c.args.slots.now.entries) = sym (append-nil fs)
+    ∙ (ap (λ os. fs ++ live_values os) (sym none) ∙ c.loop-slot.invariant.1) in
+    IfOk-weaker c.end.result _ _ (λ page is. is ∙ (same_page q (length (candidates q fs)) (candidates q fs) fs held.whole ∙ ap (page_over q) whole))
+    (c.end.ensures q (candidates q fs) held.holds)

@@ -10,4 +10,5 @@ returns-clause-ok c =
     let m = map_of c.args.collections.now.entries in
     map_put c.args.collections.now.entries c.insert.new.self.entries (string_bytes c.in_ok-key.key) c.new-collection.result says.updates.3 says.updates.1
     ∙ (ap (λ k. insert m k c.new-collection.result) c.in_ok-key.ensures.ok ∙ ap (insert m c.args.name.now) (c.new-collection.ensures
-    ∙ (ap (λ t. record { title = t; time = option_map string_bytes c.in_ok-owned.field-0; slots = empty }) c.in_ok-from_str.ensures.ok ∙ ap (λ t. record { title = c.args.title.now; time = t; slots = empty }) c.in_ok-owned.ensures)))
+    ∙ (ap (λ t. record { title = t; time = option_map string_bytes c.in_ok-owned.field-0; slots = empty }) c.in_ok-from_str.ensures.ok
+    ∙ ap (λ t. record { title = c.args.title.now; time = t; slots = empty }) c.in_ok-owned.ensures)))

@@ -22,9 +22,12 @@ loop-edit-preserved c =
       count = search rules;
       place = omega arith;
       room = search rules;
-      back = ap (λ us. rewound us new) c.push_reserved.ensures.items ∙ (rewound_last c.loop-edit.log.items c.in-Ok-Done.undo new ∙ (ap (rewound c.loop-edit.log.items) does.1 ∙ inv.back));
-      rest = λ keys. inv.rest keys ∙ (ap (λ es. edited c.loop-edit.place (state_of old keys) (map edit_value es)) (drop_more c.args.edits.now i edit (omega arith) ∙ ap (λ x. x ∷ drop (i + 1) c.args.edits.now) (sym c.edit-item.is))
-          ∙ edited_more (state_of old keys) (state_of new keys) c.loop-edit.place (edit_value edit) (map edit_value (drop (i + 1) c.args.edits.now)) (does.0 keys));
+      back = ap (λ us. rewound us new) c.push_reserved.ensures.items ∙ (rewound_last c.loop-edit.log.items c.in-Ok-Done.undo new
+          ∙ (ap (rewound c.loop-edit.log.items) does.1 ∙ inv.back));
+      rest = λ keys. inv.rest keys ∙ (ap (λ es. edited c.loop-edit.place (state_of old keys) (map edit_value es))
+          (drop_more c.args.edits.now i edit (omega arith) ∙ ap (λ x. x ∷ drop (i + 1) c.args.edits.now) (sym c.edit-item.is))
+          ∙ edited_more (state_of old keys) (state_of new keys) c.loop-edit.place (edit_value edit) (map edit_value (drop (i + 1) c.args.edits.now))
+          (does.0 keys));
     }
 
 pub returns-clause-done : goal.returns-clause-done

@@ -12,5 +12,6 @@ invariant-loop-edit l = record {
   place : l.place ≡ l.edit-index + 1;
   room : vec_capacity l.log ≡ length l.edits;
   back : rewound l.log.items (map_of l.collections.entries) ≡ map_of l.fn.collections.entries;
-  rest : (keys : Keys) → edited 1 (state_of (map_of l.fn.collections.entries) keys) (map edit_value l.edits) ≡ edited l.place (state_of (map_of l.collections.entries) keys) (map edit_value (drop l.edit-index l.edits));
+  rest : (keys : Keys) → edited 1 (state_of (map_of l.fn.collections.entries) keys) (map edit_value l.edits)
+      ≡ edited l.place (state_of (map_of l.collections.entries) keys) (map edit_value (drop l.edit-index l.edits));
 }

@@ -9,21 +9,28 @@ use Rattle.streetmap_memory.proofs.edits.act_insert.Goals as goal
 pub returns-in-NoCollection-clause-done : goal.returns-in-NoCollection-clause-done
 returns-in-NoCollection-clause-done c =
     let t = map_of c.args.collections.now.entries in
-    let f = c.args.feature.now in
-    (λ keys. insert_step t keys c.args.name.now f ∙ ap (λ w. insert_gives t keys c.args.name.now w (timed_in t c.args.name.now f)) (ap (found_in t c.args.name.now) (sym c.id-id.ensures) ∙ sym c.in-NoCollection.ensures), refl)
+    let f = c.args.feature.now in (
+      λ keys. insert_step t keys c.args.name.now f ∙ ap (λ w. insert_gives t keys c.args.name.now w (timed_in t c.args.name.now f))
+          (ap (found_in t c.args.name.now) (sym c.id-id.ensures) ∙ sym c.in-NoCollection.ensures),
+      refl,
+    )
 
 pub returns-in-There-clause-done : goal.returns-in-There-clause-done
 returns-in-There-clause-done c =
     let t = map_of c.args.collections.now.entries in
-    let f = c.args.feature.now in
-    (λ keys. insert_step t keys c.args.name.now f ∙ ap (λ w. insert_gives t keys c.args.name.now w (timed_in t c.args.name.now f)) (ap (found_in t c.args.name.now) (sym c.id-id.ensures) ∙ sym c.in-There.ensures), refl)
+    let f = c.args.feature.now in (
+      λ keys. insert_step t keys c.args.name.now f ∙ ap (λ w. insert_gives t keys c.args.name.now w (timed_in t c.args.name.now f))
+          (ap (found_in t c.args.name.now) (sym c.id-id.ensures) ∙ sym c.in-There.ensures),
+      refl,
+    )
 
 pub returns-in-None-clause-done : goal.returns-in-None-clause-done
 returns-in-None-clause-done c =
     let t = map_of c.args.collections.now.entries in
     let f = c.args.feature.now in (
       λ keys. insert_step t keys c.args.name.now f
-          ∙ (ap (λ w. insert_gives t keys c.args.name.now w (timed_in t c.args.name.now f)) (ap (found_in t c.args.name.now) (sym c.id-id.ensures) ∙ sym c.in-NoFeature.ensures)
+          ∙ (ap (λ w. insert_gives t keys c.args.name.now w (timed_in t c.args.name.now f))
+          (ap (found_in t c.args.name.now) (sym c.id-id.ensures) ∙ sym c.in-NoFeature.ensures)
           ∙ ap (insert_gives t keys c.args.name.now found.NoFeature) (sym c.in_ok-packed-in-NoFeature.ensures ∙ c.in-None.is)),
       refl,
     )

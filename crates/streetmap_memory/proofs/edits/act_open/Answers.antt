@@ -13,8 +13,10 @@ open-requires c = get_of c.args.collections.now.entries c.args.name.now ∙ sym 
 
 pub returns-in-Some-clause-done : goal.returns-in-Some-clause-done
 returns-in-Some-clause-done c =
-    let t = map_of c.args.collections.now.entries in
-    (λ keys. open_refused t keys c.args.name.now c.args.title.now _ _ (get_of c.args.collections.now.entries c.args.name.now ∙ sym c.in-Some.ensures.value), refl)
+    let t = map_of c.args.collections.now.entries in (
+      λ keys. open_refused t keys c.args.name.now c.args.title.now _ _ (get_of c.args.collections.now.entries c.args.name.now ∙ sym c.in-Some.ensures.value),
+      refl,
+    )
 
 pub returns-in_ok-open-in-None-clause-done : goal.returns-in_ok-open-in-None-clause-done
 returns-in_ok-open-in-None-clause-done c =
@@ -23,7 +25,8 @@ returns-in_ok-open-in-None-clause-done c =
     let title = c.args.title.now in
     let time = option_copied c.args.time in
     let none = get_of c.args.collections.now.entries name ∙ sym c.in-None.ensures.value in
-    does t (map_of c.open.new.collections.entries) (insert t name (record { title = title; time = time; slots = empty })) (edit.«open» name title time) (Open c.args.name)
+    does t (map_of c.open.new.collections.entries) (insert t name (record { title = title; time = time; slots = empty })) (edit.«open» name title time)
+    (Open c.args.name)
     (λ keys. open_step t keys name title time none)
     c.in_ok-open-in-None.ensures.ok
     (remove_inserted t name (record { title = title; time = time; slots = empty }) none)

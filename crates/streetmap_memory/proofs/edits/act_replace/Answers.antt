@@ -9,21 +9,28 @@ use Rattle.streetmap_memory.proofs.edits.act_replace.Goals as goal
 pub returns-in-NoCollection-clause-done : goal.returns-in-NoCollection-clause-done
 returns-in-NoCollection-clause-done c =
     let t = map_of c.args.collections.now.entries in
-    let f = c.args.feature.now in
-    (λ keys. replace_step t keys c.args.name.now f ∙ ap (λ w. replace_gives t keys c.args.name.now w (timed_in t c.args.name.now f)) (ap (found_in t c.args.name.now) (sym c.id-id.ensures) ∙ sym c.in-NoCollection.ensures), refl)
+    let f = c.args.feature.now in (
+      λ keys. replace_step t keys c.args.name.now f ∙ ap (λ w. replace_gives t keys c.args.name.now w (timed_in t c.args.name.now f))
+          (ap (found_in t c.args.name.now) (sym c.id-id.ensures) ∙ sym c.in-NoCollection.ensures),
+      refl,
+    )
 
 pub returns-in-NoFeature-clause-done : goal.returns-in-NoFeature-clause-done
 returns-in-NoFeature-clause-done c =
     let t = map_of c.args.collections.now.entries in
-    let f = c.args.feature.now in
-    (λ keys. replace_step t keys c.args.name.now f ∙ ap (λ w. replace_gives t keys c.args.name.now w (timed_in t c.args.name.now f)) (ap (found_in t c.args.name.now) (sym c.id-id.ensures) ∙ sym c.in-NoFeature.ensures), refl)
+    let f = c.args.feature.now in (
+      λ keys. replace_step t keys c.args.name.now f ∙ ap (λ w. replace_gives t keys c.args.name.now w (timed_in t c.args.name.now f))
+          (ap (found_in t c.args.name.now) (sym c.id-id.ensures) ∙ sym c.in-NoFeature.ensures),
+      refl,
+    )
 
 pub returns-in-None-clause-done : goal.returns-in-None-clause-done
 returns-in-None-clause-done c =
     let t = map_of c.args.collections.now.entries in
     let f = c.args.feature.now in (
       λ keys. replace_step t keys c.args.name.now f
-          ∙ (ap (λ w. replace_gives t keys c.args.name.now w (timed_in t c.args.name.now f)) (ap (found_in t c.args.name.now) (sym c.id-id.ensures) ∙ sym c.in-There.ensures)
+          ∙ (ap (λ w. replace_gives t keys c.args.name.now w (timed_in t c.args.name.now f))
+          (ap (found_in t c.args.name.now) (sym c.id-id.ensures) ∙ sym c.in-There.ensures)
           ∙ ap (replace_gives t keys c.args.name.now found.There) (sym c.in_ok-packed-in-There.ensures ∙ c.in-None.is)),
       refl,
     )

@@ -18,7 +18,8 @@ loop-outline-preserved c =
     let says = c.bounds_of_seconds_too-bounds.ensures in
     let Old : FeatureOutline → Type 0 = λ o. IsTimedBy o.seconds old in
     let New : FeatureOutline → Type 0 = λ o. IsTimedBy o.seconds new in
-    All-more New os i o (omega arith) (All-weaker Old New (λ o held. says.bounds o.seconds held) (take i os) c.loop-outline.invariant) (subst New c.outline-item.is says.seconds)
+    All-more New os i o (omega arith) (All-weaker Old New (λ o held. says.bounds o.seconds held) (take i os) c.loop-outline.invariant)
+    (subst New c.outline-item.is says.seconds)
 
 pub returns : goal.returns
 returns c =

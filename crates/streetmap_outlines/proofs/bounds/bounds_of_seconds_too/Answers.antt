@@ -4,7 +4,8 @@ use Rattle.streetmap_outlines.specs.Outlines.{IsTimedBy}
 use Rattle.streetmap_outlines.proofs.bounds.bounds_of_seconds_too.Goals as goal
 
 -- seconds within bounds lie within wider ones
-wider : (s b : Option (ℤ × ℤ)) (first last most least : ℤ) → b ≡ Some (first, last) → first ≤ℤ most → least ≤ℤ last → IsTimedBy s b → IsTimedBy s (Some (most, least))
+wider : (s b : Option (ℤ × ℤ)) (first last most least : ℤ) → b ≡ Some (first, last) → first ≤ℤ most → least ≤ℤ last → IsTimedBy s b →
+    IsTimedBy s (Some (most, least))
 wider s b first last most least is p q within = by s (subst (IsTimedBy s) is within) where
   by : (s : Option (ℤ × ℤ)) → IsTimedBy s (Some (first, last)) → IsTimedBy s (Some (most, least))
   by None h = h

@@ -16,7 +16,14 @@ turn os i o within is = drop_more os i o within ∙ ap (λ (x : FeatureOutline).
 
 pub loop-outline-init : goal.loop-outline-init
 loop-outline-init c = record {
-  exact = λ features ps fs pairs bounds. record { met = []; left = fs; whole = refl {a = fs}; pairs = pairs; bounds_are = subst (λ vs. AreBounds vs c.args.bounds) (sym (append-nil ps)) bounds };
+  exact = λ features ps fs pairs bounds. record {
+    met = [];
+    left = fs;
+    whole = refl {a = fs};
+    pairs = pairs;
+    bounds_are =
+        subst (λ vs. AreBounds vs c.args.bounds) (sym (append-nil ps)) bounds;
+  };
   within = All-nil (λ (o : FeatureOutline). LiesWithin o.extent c.args.bounds);
 }
 
@@ -29,18 +36,21 @@ loop-outline-preserved c =
     let old = c.loop-outline.bounds in
     let new = c.bounds_of_both-bounds.result in
     let says = c.bounds_of_both-bounds.ensures in
-    let exact = subst (λ (e : Option GridBox). (vs qs : List PositionValue) → AreBounds vs old → AreBounds qs e → AreBounds (vs ++ qs) new) c.extent.ensures says.exact in
+    let exact = subst (λ (e : Option GridBox). (vs qs : List PositionValue) → AreBounds vs old → AreBounds qs e → AreBounds (vs ++ qs) new) c.extent.ensures
+    says.exact in
     let other = subst (λ (e : Option GridBox). LiesWithin e new) c.extent.ensures says.other in
     let In : FeatureOutline → Type 0 = λ o. LiesWithin o.extent new in
     record {
-      exact = λ features ps fs pairs bounds. grows_on ps old new features fs o (drop (i + 1) os) (subst (Growing ps old features fs) (turn os i o (omega arith) c.outline-item.is) (inv.exact features ps fs pairs bounds)) exact;
+      exact = λ features ps fs pairs bounds. grows_on ps old new features fs o (drop (i + 1) os)
+          (subst (Growing ps old features fs) (turn os i o (omega arith) c.outline-item.is) (inv.exact features ps fs pairs bounds)) exact;
       within = All-more In os i o (omega arith) (lie_too (take i os) old new inv.within says.one) (subst In c.outline-item.is other);
     }
 
 pub returns-clause-exact : goal.returns-clause-exact
 returns-clause-exact c = λ features ps fs pairs bounds.
     let os = c.args.outlines.now in
-    all_bounds ps c.loop-outline.bounds features fs (subst (Growing ps c.loop-outline.bounds features fs) (drop_all c.loop-outline.outline-index os (omega arith)) (c.loop-outline.invariant.exact features ps fs pairs bounds))
+    all_bounds ps c.loop-outline.bounds features fs (subst (Growing ps c.loop-outline.bounds features fs)
+    (drop_all c.loop-outline.outline-index os (omega arith)) (c.loop-outline.invariant.exact features ps fs pairs bounds))
 
 pub returns-clause-within : goal.returns-clause-within
 returns-clause-within c =

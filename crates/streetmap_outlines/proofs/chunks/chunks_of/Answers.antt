@@ -21,7 +21,8 @@ loop-run-preserved c =
     record {
       goes = tt;
       ends = tt;
-      same = run_taken chunks c.push.new.self.items made rest run _ pushes c.new.ensures.same (ap (λ rs. joined chunks ++ joined_runs rs) (sym next) ∙ inv.same);
+      same = run_taken chunks c.push.new.self.items made rest run _ pushes c.new.ensures.same
+          (ap (λ rs. joined chunks ++ joined_runs rs) (sym next) ∙ inv.same);
       filled = λ all.
           let so_far = inv.filled all in
           let left = subst (All HasOutlines) next so_far.1 in

@@ -16,5 +16,7 @@ loop-outline-preserved c =
     let items = c.in-Ok.ensures.items in
     record {
       count = search rules;
-      kept = subst (λ es. AreExtentsOf es os) (sym items) (one_more c.loop-outline.extents.items os c.loop-outline.outline-index c.envelope_of.result c.outline-item.result inv.count (omega arith) c.outline-item.is inv.kept (subst (IsExtentIf c.envelope_of.result) c.extent.ensures c.envelope_of.ensures));
+      kept = subst (λ es. AreExtentsOf es os) (sym items) (one_more c.loop-outline.extents.items os c.loop-outline.outline-index c.envelope_of.result
+          c.outline-item.result inv.count (omega arith) c.outline-item.is inv.kept (subst (IsExtentIf c.envelope_of.result) c.extent.ensures
+          c.envelope_of.ensures));
     }

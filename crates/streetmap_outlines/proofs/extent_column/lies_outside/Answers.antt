@@ -14,7 +14,8 @@ returns-in-Some-get-clause-passed_over c = λ test q os o f requested kept there
     let window = c.in-Some.window in
     let found = c.in-Some-get.ensures.lookup in
     let off : overlaps e window ≡ false = sym c.overlaps.ensures ∙ not-true c.overlaps.result test in
-    off_window q window e o f (subst (IsWindowOf q) c.in-Some.is requested) off (kept place e o (slice_get_read es (length es) place e refl found.3.0 found.1) there) known
+    off_window q window e o f (subst (IsWindowOf q) c.in-Some.is requested) off (kept place e o (slice_get_read es (length es) place e refl found.3.0 found.1)
+    there) known
 
 pub returns-in-Some-get-clause-exact : goal.returns-in-Some-get-clause-exact
 returns-in-Some-get-clause-exact c = λ within q os o f requested kept there known.
@@ -23,4 +24,5 @@ returns-in-Some-get-clause-exact c = λ within q os o f requested kept there kno
     let e = c.in-Some-get.extent.now in
     let window = c.in-Some.window in
     let found = c.in-Some-get.ensures.lookup in
-    ap not (c.overlaps.ensures ∙ overlaps_requested q window e o f (subst (IsWindowOf q) c.in-Some.is requested) (kept place e o (slice_get_read es (length es) place e refl found.3.0 found.1) there) known)
+    ap not (c.overlaps.ensures ∙ overlaps_requested q window e o f (subst (IsWindowOf q) c.in-Some.is requested)
+    (kept place e o (slice_get_read es (length es) place e refl found.3.0 found.1) there) known)

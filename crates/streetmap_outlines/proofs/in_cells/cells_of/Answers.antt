@@ -15,7 +15,8 @@ loop-chunk-preserved c =
     let chunk = c.chunk-item.result in
     let new = c.list_outlines.new.cells in
     let here = subst (AreListedUnder new chunk.number) c.as_slice.ensures.value c.in_ok-list_outlines.ensures.listed in
-    All-more (IsListedChunk new) cs i chunk (omega arith) (still_listed c.loop-chunk.cells new c.list_outlines.ensures.kept (take i cs) c.loop-chunk.invariant) (subst (IsListedChunk new) c.chunk-item.is here)
+    All-more (IsListedChunk new) cs i chunk (omega arith) (still_listed c.loop-chunk.cells new c.list_outlines.ensures.kept (take i cs) c.loop-chunk.invariant)
+    (subst (IsListedChunk new) c.chunk-item.is here)
 
 pub returns : goal.returns
 returns c =

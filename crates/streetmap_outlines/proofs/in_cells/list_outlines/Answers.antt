@@ -19,11 +19,13 @@ loop-outline-preserved c =
     let keeps = c.list_extent.ensures.kept in
     record {
       kept = λ n box h. keeps n box (inv.kept n box h);
-      listed = All-more (Listed new number) os i c.outline-item.result (omega arith) (still_under old new keeps number (take i os) inv.listed) (subst (Listed new number) c.outline-item.is (subst (IsListedIf new number) c.extent.ensures c.in_ok-list_extent.ensures.listed));
+      listed = All-more (Listed new number) os i c.outline-item.result (omega arith) (still_under old new keeps number (take i os) inv.listed)
+          (subst (Listed new number) c.outline-item.is (subst (IsListedIf new number) c.extent.ensures c.in_ok-list_extent.ensures.listed));
     }
 
 pub returns-in_err-list_extent-clause-kept : goal.returns-in_err-list_extent-clause-kept
 returns-in_err-list_extent-clause-kept c = λ n box h. c.list_extent.ensures.kept n box (c.loop-outline.invariant.kept n box h)
 
 pub returns-clause-listed : goal.returns-clause-listed
-returns-clause-listed c = subst (AreListedUnder c.loop-outline.cells c.args.number) (take_all c.loop-outline.outline-index c.args.outlines.now (omega arith)) c.loop-outline.invariant.listed
+returns-clause-listed c = subst (AreListedUnder c.loop-outline.cells c.args.number) (take_all c.loop-outline.outline-index c.args.outlines.now (omega arith))
+    c.loop-outline.invariant.listed

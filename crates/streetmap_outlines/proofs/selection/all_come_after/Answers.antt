@@ -16,4 +16,5 @@ returns-then-not-reaches c = λ order.
 pub returns-then-begins_after : goal.returns-then-begins_after
 returns-then-begins_after c = λ order.
     let os = c.args.chunk.now.outlines.items in
-    all_come_after (query_value c.args.query.now) c.in-Some.id c.in-Some.is os order (subst (λ k. BeginsAfter k os) c.as_str-in-Some.ensures.value (c.begins_after.ensures c.if-begins_after.true))
+    all_come_after (query_value c.args.query.now) c.in-Some.id c.in-Some.is os order (subst (λ k. BeginsAfter k os) c.as_str-in-Some.ensures.value
+    (c.begins_after.ensures c.if-begins_after.true))

@@ -8,7 +8,8 @@ pub returns-in-None : goal.returns-in-None
 returns-in-None c = λ bounded.
     let q = c.args.query.now in
     let chunk = c.args.chunk.now in
-    let whole = counts_whole q chunk bounded (c.lies_whole_within_box.ensures c.if-not-lies_whole_within_box.false) (c.reaches_into_interval.ensures c.if-not-reaches_into_interval.false) in
+    let whole = counts_whole q chunk bounded (c.lies_whole_within_box.ensures c.if-not-lies_whole_within_box.false)
+    (c.reaches_into_interval.ensures c.if-not-reaches_into_interval.false) in
     let len : c.len.result ≡ length chunk.outlines.items = search rules in
     subst (CountsWhole (query_value q) chunk) (counts_all q c.in-None.is chunk.outlines.items ∙ sym len) whole
 
@@ -16,5 +17,6 @@ pub returns-in-Some : goal.returns-in-Some
 returns-in-Some c = λ bounded.
     let q = c.args.query.now in
     let chunk = c.args.chunk.now in
-    let whole = counts_whole q chunk bounded (c.lies_whole_within_box.ensures c.if-not-lies_whole_within_box.false) (c.reaches_into_interval.ensures c.if-not-reaches_into_interval.false) in
+    let whole = counts_whole q chunk bounded (c.lies_whole_within_box.ensures c.if-not-lies_whole_within_box.false)
+    (c.reaches_into_interval.ensures c.if-not-reaches_into_interval.false) in
     subst (CountsWhole (query_value q) chunk) (counts_extents q _ c.in-Some.is chunk.outlines.items ∙ sym bounded.counted) whole

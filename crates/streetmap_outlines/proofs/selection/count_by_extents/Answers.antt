@@ -24,5 +24,7 @@ returns-in-Some c = λ bounded.
     let says = c.count_in_window.ensures in
     let value = c.as_slice.ensures.value in
     let long : length es ≡ length chunk.outlines.items = search rules in
-    if_counted (CountsWhole (query_value q) chunk) counted (count_by (λ e. overlaps e window) es) (subst (λ (xs : List Envelope). IfSome counted (λ count. count ≡ count_by (λ e. overlaps e window) xs)) value says.count)
-    (λ some. counts_kept q c.in-Some.area window c.in-Some.is c.of.ensures chunk bounded long (subst (All (λ e. DecidesMeeting e window)) value (says.reported.0 some)) (c.reaches_into_interval.ensures c.if-not-reaches_into_interval.false))
+    if_counted (CountsWhole (query_value q) chunk) counted (count_by (λ e. overlaps e window) es)
+    (subst (λ (xs : List Envelope). IfSome counted (λ count. count ≡ count_by (λ e. overlaps e window) xs)) value says.count)
+    (λ some. counts_kept q c.in-Some.area window c.in-Some.is c.of.ensures chunk bounded long
+    (subst (All (λ e. DecidesMeeting e window)) value (says.reported.0 some)) (c.reaches_into_interval.ensures c.if-not-reaches_into_interval.false))

@@ -12,5 +12,6 @@ returns c = λ passed outline f within known.
     let bounds = c.args.chunk.now.bounds in
     let off : c.overlaps_box.result ≡ false = none_overlaps c.overlaps_box.result passed in
     let extent = ap (λ (v : FeatureOutlineValue). v.extent) known in
-    let none = none_passes outline.extent bounds c.args.query.now.bbox f.geometry (spanning bounds) within extent (spanning_extent bounds) (sym (c.overlaps_box.ensures (spanning bounds) (spanning_extent bounds)) ∙ off) in
+    let none = none_passes outline.extent bounds c.args.query.now.bbox f.geometry (spanning bounds) within extent (spanning_extent bounds)
+    (sym (c.overlaps_box.ensures (spanning bounds) (spanning_extent bounds)) ∙ off) in
     rw none refl

@@ -15,7 +15,8 @@ use Rattle.streetmap_outlines.specs.Outlines.{LiesWithin, has_extent}
 use Rattle.streetmap_outlines.proofs.selection.lies_whole_within_box.Goals as goal
 
 -- what lies within bounds that lie within a box meets it
-inner : (e : Option GridBox) (bounds area : GridBox) (g : Option GeometryValue) → LiesWithin e (Some bounds) → IsWithin (box_value bounds) (box_value area) → option_map box_value e ≡ option_map extent_of g → IsGeometryIf g
+inner : (e : Option GridBox) (bounds area : GridBox) (g : Option GeometryValue) → LiesWithin e (Some bounds) → IsWithin (box_value bounds) (box_value area) →
+    option_map box_value e ≡ option_map extent_of g → IsGeometryIf g
     → is_some e ≡ true → passes geometry_meets g (Some (box_value area)) ≡ true
 inner None bounds area g lies within is made some = absurd cc
 inner (Some e) bounds area g lies within is made some =
@@ -29,4 +30,5 @@ returns-in-Some-bounds c = λ inside outline f lies known made counted.
     let within : IsWithin (box_value bounds) (box_value area) = c.is_within.ensures.points.0 inside in
     let here = subst (LiesWithin outline.extent) c.in-Some-bounds.is lies in
     ap (λ (o : Option GridBox). passes geometry_meets f.geometry (option_map box_value o)) c.in-Some.is
-    ∙ inner outline.extent bounds area f.geometry here within (ap (λ (v : FeatureOutlineValue). v.extent) known) made.made (subst (λ (o : Option GridBox). (is_none (option_map box_value o) || has_extent outline) ≡ true) c.in-Some.is counted)
+    ∙ inner outline.extent bounds area f.geometry here within (ap (λ (v : FeatureOutlineValue). v.extent) known) made.made
+    (subst (λ (o : Option GridBox). (is_none (option_map box_value o) || has_extent outline) ≡ true) c.in-Some.is counted)

@@ -1,4 +1,5 @@
-use Rattle.std.proofs.Common.{◌≡◌, ℤ, pos, negsuc, ◌<ℤ◌, ◌≤ℤ◌, Option, None, Some, option_map, Bool, true, false, refl, sym, ap, subst, ◌∙◌, arith, rules, SFits, w64}
+use Rattle.std.proofs.Common.{◌≡◌, ℤ, pos, negsuc, ◌<ℤ◌, ◌≤ℤ◌, Option, None, Some, option_map, Bool, true, false, refl, sym, ap, subst, ◌∙◌, arith, rules}
+use Rattle.std.proofs.Common.{SFits, w64}
 use Rattle.std.specs.Prelude.{int_lt}
 use Rattle.std.proofs.lemmas.Int.{ints, to_z-of_z}
 use Rattle.std.proofs.lemmas.Option.{same_Some}
@@ -29,7 +30,8 @@ begins None e h = refl
 begins (Some s) None h = refl
 begins (Some s) (Some e) h = not_less s e (earlier s e h) (int_lt e s) refl
 
-reaches : (t : Option IntervalValue) (d : IntervalValue) (first last start end : ℤ) → Some (first, last) ≡ option_map seconds_of t → first_second d.start ≡ start → last_second d.end ≡ end → first <ℤ end → start <ℤ last → passes meets t (Some d) ≡ true
+reaches : (t : Option IntervalValue) (d : IntervalValue) (first last start end : ℤ) → Some (first, last) ≡ option_map seconds_of t → first_second d.start
+    ≡ start → last_second d.end ≡ end → first <ℤ end → start <ℤ last → passes meets t (Some d) ≡ true
 reaches None d first last start end is a b h k = absurd cc
 reaches (Some t) d first last start end is a b h k =
     let pair : ◌≡◌ {A = ℤ × ℤ} (first, last) (seconds_of t) = same_Some _ _ is in
@@ -40,7 +42,8 @@ reaches (Some t) d first last start end is a b h k =
     rw (p, q) refl
 
 -- so does each time with seconds within such bounds
-timed : (o : Option (ℤ × ℤ)) (t : Option IntervalValue) (d : IntervalValue) (first last start end : ℤ) → IsTimedBy o (Some (first, last)) → o ≡ option_map seconds_of t
+timed : (o : Option (ℤ × ℤ)) (t : Option IntervalValue) (d : IntervalValue) (first last start end : ℤ) → IsTimedBy o (Some (first, last)) → o
+    ≡ option_map seconds_of t
     → first_second d.start ≡ start → last_second d.end ≡ end → first <ℤ end → start <ℤ last → passes meets t (Some d) ≡ true
 timed None t d first last start end within is a b h k = absurd within
 timed (Some (x, y)) t d first last start end within is a b h k =
@@ -63,4 +66,5 @@ returns-then-first-end c = λ less outline f within is.
     let before : first <ℤ end = (let test = c.if-first-end.true in grind (arith, ints, to_z-of_z)) in
     let following : start <ℤ last = grind (arith, ints, to_z-of_z) in
     ap (λ (o : Option Datetime). passes meets f.time (option_map (λ (v : DatetimeValue). v.interval) (option_map datetime_value o))) c.in-Some.is
-    ∙ timed outline.seconds f.time d first last start end (subst (IsTimedBy outline.seconds) c.in-Some-seconds.is within) (ap (λ (o : FeatureOutlineValue). o.seconds) is) (sym (ap (λ p. p.0) value)) (sym (ap (λ p. p.1) value)) before following
+    ∙ timed outline.seconds f.time d first last start end (subst (IsTimedBy outline.seconds) c.in-Some-seconds.is within)
+    (ap (λ (o : FeatureOutlineValue). o.seconds) is) (sym (ap (λ p. p.0) value)) (sym (ap (λ p. p.1) value)) before following

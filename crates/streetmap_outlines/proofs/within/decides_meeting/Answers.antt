@@ -9,4 +9,5 @@ use Rattle.streetmap_outlines.proofs.within.decides_meeting.Goals as goal
 pub returns-in-Some-extent : goal.returns-in-Some-extent
 returns-in-Some-extent c = λ within geometry is made.
     ap (λ (o : Option GridBox). passes geometry_meets geometry (option_map box_value o)) c.in-Some.is
-    ∙ three_bounds_pass geometry c.in-Some-extent.extent c.in-Some.area _ _ (ap (option_map box_value) (sym c.in-Some-extent.is) ∙ is) made c.of.ensures c.of-in-Some-extent.ensures (c.has_three_bounds_in.ensures.0 within)
+    ∙ three_bounds_pass geometry c.in-Some-extent.extent c.in-Some.area _ _ (ap (option_map box_value) (sym c.in-Some-extent.is) ∙ is) made c.of.ensures
+    c.of-in-Some-extent.ensures (c.has_three_bounds_in.ensures.0 within)

@@ -24,7 +24,8 @@ row_of f = extent_row (feature_extent f)
 
 pub returns : goal.returns
 returns g c =
-    reads_by select_extents_in_turn _ c.in_ok-fold_rows.ensures (λ s keeps. (extents_in_turn_at _ s keeps c.args.collection.now).plain) (λ clean took s limit keeps.
+    reads_by select_extents_in_turn _ c.in_ok-fold_rows.ensures (λ s keeps. (extents_in_turn_at _ s keeps c.args.collection.now).plain)
+    (λ clean took s limit keeps.
     let name = c.args.collection.now in
     let old = state g.S.Store c.args.conn.now in
     let new = state g.S.Store c.fold_rows.new.conn in
@@ -41,7 +42,8 @@ returns g c =
 
 pub returns-in_err-fold_rows : goal.returns-in_err-fold_rows
 returns-in_err-fold_rows g c =
-    reads_by select_extents_in_turn _ c.in_err-fold_rows.ensures (λ s keeps. (extents_in_turn_at _ s keeps c.args.collection.now).plain) (λ clean took s limit keeps.
+    reads_by select_extents_in_turn _ c.in_err-fold_rows.ensures (λ s keeps. (extents_in_turn_at _ s keeps c.args.collection.now).plain)
+    (λ clean took s limit keeps.
     let name = c.args.collection.now in
     let old = state g.S.Store c.args.conn.now in
     let new = state g.S.Store c.fold_rows.new.conn in

@@ -7,7 +7,8 @@ use Rattle.streetmap_reading.proofs.feature.text_row_at.Goals as goal
 
 pub returns : goal.returns
 returns g c =
-    reads_by select_text_at _ c.only_row.ensures (λ s keeps. (text_at_rowid _ s keeps c.args.collection.now c.args.id.now c.args.rowid).plain) (λ clean took s limit keeps.
+    reads_by select_text_at _ c.only_row.ensures (λ s keeps. (text_at_rowid _ s keeps c.args.collection.now c.args.id.now c.args.rowid).plain)
+    (λ clean took s limit keeps.
     let name = c.args.collection.now in
     let id = c.args.id.now in
     let only = rw (c.params-to_sql.ensures, c.params-to_sql-2.ensures, c.params-to_sql-3.ensures, to_z-of_z c.ranges.rowid) at took in

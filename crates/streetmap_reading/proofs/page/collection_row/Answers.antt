@@ -15,11 +15,16 @@ pub returns-in-Ok : goal.returns-in-Ok
 returns-in-Ok g c =
     read_by select_collection _ c.in-Ok.ensures.mode c.in-Ok.ensures.survives (λ s keeps. select_collection_plain _ s keeps) (λ clean s limit keeps.
     let ran = rw (c.params-to_sql.ensures) at (c.in-Ok.ensures.ok clean) in
-    let shown = answered select_collection (Words c.args.id.now ∷ []) (state g.S.Store c.args.conn.now) (state g.S.Store c.query_all.new.self) _ (collection_at _ s keeps c.args.id.now) c.in-Ok.rows.items ran in
-    (popped (option_map collection_view (get s.collections c.args.id.now)) c.pop.result c.pop.new.self.items c.in-Ok.rows.items _ _ shown.0 c.pop.ensures.items (sym c.in-Ok.rows.ok.0) c.pop.ensures.cases, shown.1))
+    let shown = answered select_collection (Words c.args.id.now ∷ []) (state g.S.Store c.args.conn.now) (state g.S.Store c.query_all.new.self) _
+    (collection_at _ s keeps c.args.id.now) c.in-Ok.rows.items ran in (
+      popped (option_map collection_view (get s.collections c.args.id.now)) c.pop.result c.pop.new.self.items c.in-Ok.rows.items _ _ shown.0 c.pop.ensures.items
+          (sym c.in-Ok.rows.ok.0) c.pop.ensures.cases,
+      shown.1,
+    ))
 
 pub returns-in-Err : goal.returns-in-Err
 returns-in-Err g c =
     read_by select_collection _ c.in-Err.ensures.mode c.in-Err.ensures.survives (λ s keeps. select_collection_plain _ s keeps) (λ clean s limit keeps.
     let ran = rw (c.params-to_sql.ensures) at (c.in-Err.ensures.err clean) in
-    reported select_collection (Words c.args.id.now ∷ []) (state g.S.Store c.args.conn.now) (state g.S.Store c.query_all.new.self) _ (collection_at _ s keeps c.args.id.now) limit c.in-Err.error ran)
+    reported select_collection (Words c.args.id.now ∷ []) (state g.S.Store c.args.conn.now) (state g.S.Store c.query_all.new.self) _
+    (collection_at _ s keeps c.args.id.now) limit c.in-Err.error ran)

@@ -13,8 +13,11 @@ pub returns-in-Ok : goal.returns-in-Ok
 returns-in-Ok g c =
     reads_on c.in_ok-take_candidates.ensures (λ clean shows s d limit keeps there property.
     let q = query_value c.args.query.now in
-    let took = shows q s d limit keeps there property c.new-fold.ensures in
-    (c.in-Ok.ensures q (chosen_of q.bbox (requested_interval q) d) took.0 ∙ page_is c.args.query.now d.time (values d.features) (stored s _ keeps c.args.collection.now d there), took.1))
+    let took = shows q s d limit keeps there property c.new-fold.ensures in (
+      c.in-Ok.ensures q (chosen_of q.bbox (requested_interval q) d) took.0 ∙ page_is c.args.query.now d.time (values d.features)
+          (stored s _ keeps c.args.collection.now d there),
+      took.1,
+    ))
 
 pub returns : goal.returns
 returns g c =

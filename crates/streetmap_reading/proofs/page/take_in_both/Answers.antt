@@ -17,5 +17,21 @@ returns g c =
     let f3 : SFits w64 c.args.area.now.y1 = search rules in
     let f4 : SFits w64 c.seconds-start.result.0 = search rules in
     let f5 : SFits w64 c.seconds-start.result.1 = search rules in
-    let all = rw (c.params-to_sql.ensures, c.params-to_sql-2.ensures, c.params-to_sql-3.ensures, c.params-to_sql-4.ensures, c.params-to_sql-5.ensures, c.params-to_sql-6.ensures, c.params-to_sql-7.ensures, to_z-of_z w64 c.args.area.now.x0 f0, to_z-of_z w64 c.args.area.now.x1 f1, to_z-of_z w64 c.args.area.now.y0 f2, to_z-of_z w64 c.args.area.now.y1 f3, to_z-of_z w64 c.seconds-start.result.0 f4, to_z-of_z w64 c.seconds-start.result.1 f5, c.seconds-start.ensures.value) at took in
-    takes_by select_in_both _ (Some (box_value c.args.area.now)) (Some (interval_value c.args.interval.now)) c.args.collection.now _ _ c.args.page.now _ _ all (λ s d keeps there. both_at _ s keeps c.args.collection.now d there (box_value c.args.area.now) (interval_value c.args.interval.now)))
+    let all = rw (
+      c.params-to_sql.ensures,
+      c.params-to_sql-2.ensures,
+      c.params-to_sql-3.ensures,
+      c.params-to_sql-4.ensures,
+      c.params-to_sql-5.ensures,
+      c.params-to_sql-6.ensures,
+      c.params-to_sql-7.ensures,
+      to_z-of_z w64 c.args.area.now.x0 f0,
+      to_z-of_z w64 c.args.area.now.x1 f1,
+      to_z-of_z w64 c.args.area.now.y0 f2,
+      to_z-of_z w64 c.args.area.now.y1 f3,
+      to_z-of_z w64 c.seconds-start.result.0 f4,
+      to_z-of_z w64 c.seconds-start.result.1 f5,
+      c.seconds-start.ensures.value,
+    ) at took in
+    takes_by select_in_both _ (Some (box_value c.args.area.now)) (Some (interval_value c.args.interval.now)) c.args.collection.now _ _ c.args.page.now _ _ all
+    (λ s d keeps there. both_at _ s keeps c.args.collection.now d there (box_value c.args.area.now) (interval_value c.args.interval.now)))

@@ -14,5 +14,17 @@ returns g c =
     let f1 : SFits w64 c.args.area.now.x1 = search rules in
     let f2 : SFits w64 c.args.area.now.y0 = search rules in
     let f3 : SFits w64 c.args.area.now.y1 = search rules in
-    let all = rw (c.params-to_sql.ensures, c.params-to_sql-2.ensures, c.params-to_sql-3.ensures, c.params-to_sql-4.ensures, c.params-to_sql-5.ensures, to_z-of_z w64 c.args.area.now.x0 f0, to_z-of_z w64 c.args.area.now.x1 f1, to_z-of_z w64 c.args.area.now.y0 f2, to_z-of_z w64 c.args.area.now.y1 f3) at took in
-    takes_by select_in_box _ (Some (box_value c.args.area.now)) None c.args.collection.now _ _ c.args.page.now _ _ all (λ s d keeps there. box_at _ s keeps c.args.collection.now d there (box_value c.args.area.now)))
+    let all = rw (
+      c.params-to_sql.ensures,
+      c.params-to_sql-2.ensures,
+      c.params-to_sql-3.ensures,
+      c.params-to_sql-4.ensures,
+      c.params-to_sql-5.ensures,
+      to_z-of_z w64 c.args.area.now.x0 f0,
+      to_z-of_z w64 c.args.area.now.x1 f1,
+      to_z-of_z w64 c.args.area.now.y0 f2,
+      to_z-of_z w64 c.args.area.now.y1 f3,
+    ) at
+    took in
+    takes_by select_in_box _ (Some (box_value c.args.area.now)) None c.args.collection.now _ _ c.args.page.now _ _ all
+    (λ s d keeps there. box_at _ s keeps c.args.collection.now d there (box_value c.args.area.now)))

@@ -14,7 +14,8 @@ returns-in_err-head g c =
     let found = shows s limit keeps in
     let it = there_is (get s.collections c.args.id.now) c.in-Some.row (sym c.in-Some.is ∙ found.0) in
     let known = c.in_err-head.ensures it.0 it.2 (keeps.rows.readable.collections c.args.id.now it.0 it.1) in
-    handed_on _ _ _ _ c.from_residual-in_err-head.ensures.1 (subst (Stopped (state g.S.Store c.args.conn.now) (state g.S.Store c.collection_row.new.conn)) (sym known) found.1))
+    handed_on _ _ _ _ c.from_residual-in_err-head.ensures.1 (subst (Stopped (state g.S.Store c.args.conn.now) (state g.S.Store c.collection_row.new.conn))
+    (sym known) found.1))
 
 pub returns : goal.returns
 returns g c =

@@ -28,7 +28,8 @@ loop-turn-preserved g c =
       underway = λ h s e.
           let it = inv.underway (says.followed.calls.began_clean h) s e in
           let reported = is_reported c.report.result _ c.if-is_ok.ensures.value c.report.ensures in
-          let line = subst (λ (bytes : List ℕ). FollowsLine model c.loop-turn.keeper c.follow_line.new.keeper bytes (Ok c.in-Ok.it)) c.as_slice.ensures.value says in
+          let line = subst (λ (bytes : List ℕ). FollowsLine model c.loop-turn.keeper c.follow_line.new.keeper bytes (Ok c.in-Ok.it)) c.as_slice.ensures.value
+          says in
           further model c.loop-turn.keeper c.loop-turn.keeper c.follow_line.new.keeper s _ (g.R.Read.remaining c.loop-turn.reader)
           (g.R.Read.remaining c.next_whole_line.new.reader) g.T.Replies.reports _ _ c.report.new.self c.loop-turn.turn it
           c.in-Ok-Line.line.items c.in-Ok.it line h took.1 took.2 took.0 reported;
@@ -43,7 +44,8 @@ returns-in-loop-turn-clause-calls g c =
             | in-Ok+else-is_ok v ↦ rw (w.keeper-is, w.fault-is, v.fault-is) (calls_then inv.calls (no_fault v.in-Ok.ensures.followed.calls))
             | in-Err-follow_line v ↦
                 rw (w.keeper-is, w.fault-is, v.fault-is)
-                (calls_then inv.calls (ends_by v.in-Err-follow_line.fault v.in-Err-follow_line.ensures.followed.of_line v.in-Err-follow_line.ensures.followed.calls))
+                (calls_then inv.calls (ends_by v.in-Err-follow_line.fault v.in-Err-follow_line.ensures.followed.of_line
+                v.in-Err-follow_line.ensures.followed.calls))
           ]
       | in-Ok-Cut w ↦ rw (w.keeper-is, w.fault-is) inv.calls
       | in-Ok-End w ↦ rw (w.keeper-is, w.fault-is) inv.calls
@@ -70,12 +72,14 @@ returns-in-loop-turn-clause-follows g c = λ h s e.
             | in-Ok+else-is_ok v ↦
                 let line = subst (λ (bytes : List ℕ). FollowsLine model k after bytes (Ok v.in-Ok.it)) w.as_slice.ensures.value v.in-Ok.ensures in
                 rw (w.keeper-is, w.replies-is, w.fault-is, v.replies-is, v.fault-is)
-                (not_reported model first k after s _ now later g.T.Replies.reports _ reported v.report.new.self turn it w.in-Ok-Line.line.items v.in-Ok.it line clean took.1 took.2 took.0)
+                (not_reported model first k after s _ now later g.T.Replies.reports _ reported v.report.new.self turn it w.in-Ok-Line.line.items v.in-Ok.it line
+                clean took.1 took.2 took.0)
             | in-Err-follow_line v ↦
                 let fault = v.in-Err-follow_line.fault in
                 let line = subst (λ (bytes : List ℕ). FollowsLine model k after bytes (Err fault)) w.as_slice.ensures.value v.in-Err-follow_line.ensures in
                 rw (w.keeper-is, w.replies-is, w.fault-is, v.replies-is, v.fault-is)
-                (stopped model first k after s _ now later g.T.Replies.reports _ reported reported turn it w.in-Ok-Line.line.items fault inv.calls line clean took.1 took.2 took.0)
+                (stopped model first k after s _ now later g.T.Replies.reports _ reported reported turn it w.in-Ok-Line.line.items fault inv.calls line clean
+                took.1 took.2 took.0)
           ]
       | in-Ok-Cut w ↦
           let it = inv.underway (rw w.keeper-is at h) s e in
@@ -104,7 +108,8 @@ returns-clause-follows g c = λ h s e.
     omega (arith, c.loop-turn-test.false, c.loop-turn.auto.turn-end) in
     subst (λ (n : ℕ). FollowsLines model c.args.keeper.now k s (g.R.Read.remaining c.args.reader.now) now g.T.Replies.reports
     c.args.replies.now c.loop-turn.replies (record { count = n; fault = Some (ends.NotRead ReadFailed) })) last
-    (unread model c.args.keeper.now k k s _ now now g.T.Replies.reports _ c.loop-turn.replies c.loop-turn.replies c.loop-turn.turn it ReadFailed (λ no. absurd cc))
+    (unread model c.args.keeper.now k k s _ now now g.T.Replies.reports _ c.loop-turn.replies c.loop-turn.replies c.loop-turn.turn it ReadFailed
+    (λ no. absurd cc))
 
 pub returns-in-loop-turn-clause-beginnings : goal.returns-in-loop-turn-clause-beginnings
 returns-in-loop-turn-clause-beginnings g c = λ h bs k lines sound represents of.

@@ -19,7 +19,8 @@ returns-in-Ok-ran g c = record {
       let name = c.args.collection.now in
       let fine = rows_fine es c.args.rows.now are in
       let given = rows_bound name es c.args.rows.now are in
-      let ran = subst (λ row. ExecutesInside 0 insert_features row old new (Ok c.in-Ok-ran.field-0)) (ap bound c.as_slice.ensures.value ∙ c.in-Ok.ensures ∙ given) (c.in-Ok-ran.ensures.runs clean inside) in
+      let ran = subst (λ row. ExecutesInside 0 insert_features row old new (Ok c.in-Ok-ran.field-0))
+      (ap bound c.as_slice.ensures.value ∙ c.in-Ok.ensures ∙ given) (c.in-Ok-ran.ensures.runs clean inside) in
       put_represented old new s represented limit name es (are_given name es (fine.1 ∙ c.requires)) d there fine.0 _ ran.0;
   inside = first_of (search rules, grind (arith, common_steps));
   kept = first_of (search rules, grind (arith, common_steps));
@@ -33,7 +34,8 @@ returns-in-Err g c = record {
   does = first_of (search rules, grind (arith, common_steps));
   inside = first_of (search rules, grind (arith, common_steps));
   kept = first_of (search rules, grind (arith, common_steps));
-  reason = λ clean. run_inside (state g.S.Store c.args.tx.now.conn.now) (state g.S.Store c.execute-ran.new.self.conn.now) _ _ _ c.in-Err.ensures.ended (c.in-Err.ensures.runs clean);
+  reason = λ clean. run_inside (state g.S.Store c.args.tx.now.conn.now) (state g.S.Store c.execute-ran.new.self.conn.now) _ _ _ c.in-Err.ensures.ended
+      (c.in-Err.ensures.runs clean);
   survives = first_of (search rules, grind (arith, common_steps));
 }
 
@@ -41,7 +43,8 @@ pub returns : goal.returns
 returns g c = record {
   same_reference = first_of (search rules, grind (arith, common_steps));
   does = λ clean inside es are limit s d represented there.
-      elim (of_store_or_same (state g.S.Store c.args.tx.now.conn.now) (state g.S.Store c.execute-ran.new.self.conn.now) 0 _ _ _ (c.in-Err-2.ensures.runs clean inside)) [
+      elim (of_store_or_same (state g.S.Store c.args.tx.now.conn.now) (state g.S.Store c.execute-ran.new.self.conn.now) 0 _ _ _
+      (c.in-Err-2.ensures.runs clean inside)) [
         | inl of_store ↦ absurd (
             let same : c.in-Err.error ≡ c.in-Err-2.field-0 = let is = sym c.in-Err.is ∙ c.in-Err-2.is in cc in
             let reported : IsTrue c.is_of_store.result = c.is_of_store.ensures.1 (subst IsOfStore (sym same) of_store) in
@@ -49,7 +52,8 @@ returns g c = record {
         | inr same ↦ same
       ];
   inside = λ clean inside.
-      elim (of_store_or_same (state g.S.Store c.args.tx.now.conn.now) (state g.S.Store c.execute-ran.new.self.conn.now) 0 _ _ _ (c.in-Err-2.ensures.runs clean inside)) [
+      elim (of_store_or_same (state g.S.Store c.args.tx.now.conn.now) (state g.S.Store c.execute-ran.new.self.conn.now) 0 _ _ _
+      (c.in-Err-2.ensures.runs clean inside)) [
         | inl of_store ↦ absurd (
             let same : c.in-Err.error ≡ c.in-Err-2.field-0 = let is = sym c.in-Err.is ∙ c.in-Err-2.is in cc in
             let reported : IsTrue c.is_of_store.result = c.is_of_store.ensures.1 (subst IsOfStore (sym same) of_store) in

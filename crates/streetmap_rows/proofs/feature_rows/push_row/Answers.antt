@@ -16,4 +16,6 @@ returns c =
     let e8 : c.map-5.result ≡ option_map (λ (s : ℤ × ℤ). s.0) row.seconds = search rules in
     let e9 : c.map-6.result ≡ option_map (λ (s : ℤ × ℤ). s.1) row.seconds = search rules in
     added c.extend_from_slice.result c.args.values.now.items c.extend_from_slice.new.self.items _ _ c.extend_from_slice.ensures.items
-    (nine c.params-to_sql.ensures c.params-to_sql-2.ensures c.params-to_sql-3.ensures (c.params-to_sql-4.ensures ∙ ap (or_null Int) e4) (c.params-to_sql-5.ensures ∙ ap (or_null Int) e5) (c.params-to_sql-6.ensures ∙ ap (or_null Int) e6) (c.params-to_sql-7.ensures ∙ ap (or_null Int) e7) (c.params-to_sql-8.ensures ∙ ap (or_null Int) e8) (c.params-to_sql-9.ensures ∙ ap (or_null Int) e9) ∙ nine_whole _ _ _ _ _ _ _ _ _)
+    (nine c.params-to_sql.ensures c.params-to_sql-2.ensures c.params-to_sql-3.ensures (c.params-to_sql-4.ensures ∙ ap (or_null Int) e4)
+    (c.params-to_sql-5.ensures ∙ ap (or_null Int) e5) (c.params-to_sql-6.ensures ∙ ap (or_null Int) e6) (c.params-to_sql-7.ensures ∙ ap (or_null Int) e7)
+    (c.params-to_sql-8.ensures ∙ ap (or_null Int) e8) (c.params-to_sql-9.ensures ∙ ap (or_null Int) e9) ∙ nine_whole _ _ _ _ _ _ _ _ _)

@@ -16,6 +16,9 @@ returns g c =
     let ok = rw c.params-to_sql.ensures at (run.ok clean) in
     let err = rw c.params-to_sql.ensures at (run.err clean) in
     record {
-      rows = λ limit s represented. by_result c.query_all.result _ _ _ _ ok err (λ rows ran. collection_shown old new s represented c.args.collection.now rows.items ran) (λ e ran. collection_reported_inside old new s represented limit c.args.collection.now e ran);
-      same = on_ok c.query_all.result _ _ (run.ok clean) (λ rows shown. (leaves_unchanged select_collection (select_bare selects_collection select_collection_is) _ old new rows.items shown).0.now_is);
+      rows = λ limit s represented. by_result c.query_all.result _ _ _ _ ok err (λ rows ran.
+          collection_shown old new s represented c.args.collection.now rows.items ran) (λ e ran.
+          collection_reported_inside old new s represented limit c.args.collection.now e ran);
+      same = on_ok c.query_all.result _ _ (run.ok clean) (λ rows shown. (leaves_unchanged select_collection
+          (select_bare selects_collection select_collection_is) _ old new rows.items shown).0.now_is);
     })

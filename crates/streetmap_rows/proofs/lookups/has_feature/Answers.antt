@@ -15,8 +15,11 @@ returns g c = record {
   same_reference = first_of (search rules, grind (arith, common_steps));
   does = λ clean limit s represented.
       let ran = rw (c.params-to_sql.ensures, c.params-to_sql-2.ensures) at (c.in_ok-rows.ensures.ok clean) in
-      let r = id_shown (state g.S.Store c.args.tx.now.conn.now) (state g.S.Store c.query_all.new.self.conn.now) s represented (c.args.collection.now, c.args.id.now) _ ran in
-      (none_empty (λ (f : FeatureValue). Words c.args.id.now ∷ []) (feature_at s (c.args.collection.now, c.args.id.now)) _ r.0 c.is_empty.result (search rules), r.1);
+      let r = id_shown (state g.S.Store c.args.tx.now.conn.now) (state g.S.Store c.query_all.new.self.conn.now) s represented
+      (c.args.collection.now, c.args.id.now) _ ran in (
+        none_empty (λ (f : FeatureValue). Words c.args.id.now ∷ []) (feature_at s (c.args.collection.now, c.args.id.now)) _ r.0 c.is_empty.result (search rules),
+        r.1,
+      );
   reason = first_of (search rules, grind (arith, common_steps));
   survives = first_of (search rules, grind (arith, common_steps));
 }
@@ -26,7 +29,11 @@ returns-in_err-rows g c = record {
   same_reference = first_of (search rules, grind (arith, common_steps));
   does = λ clean limit s represented.
       let ran = rw (c.params-to_sql.ensures, c.params-to_sql-2.ensures) at (c.in_err-rows.ensures.err clean) in
-      handed_on c.from_residual.result c.in_err-rows.field-0.0 _ _ c.from_residual.ensures.1 (id_reported (state g.S.Store c.args.tx.now.conn.now) (state g.S.Store c.query_all.new.self.conn.now) s represented limit (c.args.collection.now, c.args.id.now) _ ran);
-  reason = λ clean. err_handed_on c.from_residual.result c.in_err-rows.field-0.0 _ c.from_residual.ensures.1 (queried_inside (state g.S.Store c.args.tx.now.conn.now) (state g.S.Store c.query_all.new.self.conn.now) _ _ c.in_err-rows.field-0.0 (c.in_err-rows.ensures.err clean));
+      handed_on c.from_residual.result c.in_err-rows.field-0.0 _ _ c.from_residual.ensures.1
+      (id_reported (state g.S.Store c.args.tx.now.conn.now) (state g.S.Store c.query_all.new.self.conn.now) s represented limit
+      (c.args.collection.now, c.args.id.now) _ ran);
+  reason = λ clean. err_handed_on c.from_residual.result c.in_err-rows.field-0.0 _ c.from_residual.ensures.1
+      (queried_inside (state g.S.Store c.args.tx.now.conn.now) (state g.S.Store c.query_all.new.self.conn.now) _ _ c.in_err-rows.field-0.0
+      (c.in_err-rows.ensures.err clean));
   survives = first_of (search rules, grind (arith, common_steps));
 }

@@ -16,10 +16,12 @@ pub returns-clause-kept : goal.returns-clause-kept
 returns-clause-kept g c clean =
     let old = state g.S.Store c.args.conn.now in
     let new = state g.S.Store c.prepare.new.self in
-    by_either c.prepare.result _ _ _ (c.prepare.ensures.ok clean) (c.prepare.ensures.err clean) (λ prepared same. unchanged_keeps old new (inl same.1)) (λ e failed. commit_keeps old new e failed)
+    by_either c.prepare.result _ _ _ (c.prepare.ensures.ok clean) (c.prepare.ensures.err clean) (λ prepared same. unchanged_keeps old new (inl same.1))
+    (λ e failed. commit_keeps old new e failed)
 
 pub returns-clause-reason : goal.returns-clause-reason
 returns-clause-reason g c clean =
     let old = state g.S.Store c.args.conn.now in
     let new = state g.S.Store c.prepare.new.self in
-    if_err c.prepare.result c.map-probed.result _ _ _ c.map-probed.ensures.cases (c.prepare.ensures.err clean) (λ e failed. not_run old new commit_text [] e (failed []))
+    if_err c.prepare.result c.map-probed.result _ _ _ c.map-probed.ensures.cases (c.prepare.ensures.err clean)
+    (λ e failed. not_run old new commit_text [] e (failed []))

@@ -14,7 +14,8 @@ returns g c =
     let old = state g.S.Store c.args.tx.now.conn.now in
     let new = state g.S.Store c.execute.new.self.conn.now in
     let ran = rw (c.params-to_sql.ensures, c.params-to_sql-2.ensures) at (c.in_ok-execute.ensures.runs clean inside) in
-    subst (λ x. StandsFor x new.now × IsSameElsewhere old.now new.now) (sym leads.is) (delete_represented old new s represented limit (c.args.collection.now, c.args.id.now) leads.collection leads.there leads.feature leads.found _ ran.0))
+    subst (λ x. StandsFor x new.now × IsSameElsewhere old.now new.now) (sym leads.is) (delete_represented old new s represented limit
+    (c.args.collection.now, c.args.id.now) leads.collection leads.there leads.feature leads.found _ ran.0))
 
 pub returns-in_err-execute : goal.returns-in_err-execute
 returns-in_err-execute g c =
@@ -23,4 +24,5 @@ returns-in_err-execute g c =
     let old = state g.S.Store c.args.tx.now.conn.now in
     let new = state g.S.Store c.execute.new.self.conn.now in
     let ran = rw (c.params-to_sql.ensures, c.params-to_sql-2.ensures) at (c.in_err-execute.ensures.runs clean inside) in
-    handed_on c.from_residual.result c.in_err-execute.field-0.0 _ _ c.from_residual.ensures.1 (delete_reported old new s represented limit (c.args.collection.now, c.args.id.now) leads.collection leads.there leads.feature leads.found _ ran))
+    handed_on c.from_residual.result c.in_err-execute.field-0.0 _ _ c.from_residual.ensures.1
+    (delete_reported old new s represented limit (c.args.collection.now, c.args.id.now) leads.collection leads.there leads.feature leads.found _ ran))

@@ -23,8 +23,10 @@ returns g c =
     let e5 : owned c.params-to_sql-5.result ≡ Int (pos c.args.counts.replaced) = search rules in
     let e6 : owned c.params-to_sql-6.result ≡ Int (pos c.args.counts.deleted) = search rules in
     let e7 : owned c.params-to_sql-7.result ≡ Int (pos c.args.serial) = search rules in
-    let ran = subst (λ row. ExecutesInside 0 insert_batch row old new (Ok c.in_ok-execute.field-0)) (seven c.params-to_sql.ensures c.params-to_sql-2.ensures e3 e4 e5 e6 e7) (c.in_ok-execute.ensures.runs clean inside) in
-    subst (λ x. StandsFor x new.now × IsSameElsewhere old.now new.now) (sym leads.is) (keep_represented old new s represented limit c.args.key.now (record { text = c.args.text.now; counts = c.args.counts; serial = c.args.serial }) leads.absent leads.next leads.counted _ ran.0))
+    let ran = subst (λ row. ExecutesInside 0 insert_batch row old new (Ok c.in_ok-execute.field-0))
+    (seven c.params-to_sql.ensures c.params-to_sql-2.ensures e3 e4 e5 e6 e7) (c.in_ok-execute.ensures.runs clean inside) in
+    subst (λ x. StandsFor x new.now × IsSameElsewhere old.now new.now) (sym leads.is) (keep_represented old new s represented limit c.args.key.now
+    (record { text = c.args.text.now; counts = c.args.counts; serial = c.args.serial }) leads.absent leads.next leads.counted _ ran.0))
 
 pub returns-in_err-execute : goal.returns-in_err-execute
 returns-in_err-execute g c =
@@ -37,5 +39,8 @@ returns-in_err-execute g c =
     let e5 : owned c.params-to_sql-5.result ≡ Int (pos c.args.counts.replaced) = search rules in
     let e6 : owned c.params-to_sql-6.result ≡ Int (pos c.args.counts.deleted) = search rules in
     let e7 : owned c.params-to_sql-7.result ≡ Int (pos c.args.serial) = search rules in
-    let ran = subst (λ row. ExecutesInside 0 insert_batch row old new (Err c.in_err-execute.field-0.0)) (seven c.params-to_sql.ensures c.params-to_sql-2.ensures e3 e4 e5 e6 e7) (c.in_err-execute.ensures.runs clean inside) in
-    handed_on c.from_residual.result c.in_err-execute.field-0.0 _ _ c.from_residual.ensures.1 (keep_reported old new s represented limit c.args.key.now (record { text = c.args.text.now; counts = c.args.counts; serial = c.args.serial }) leads.absent leads.next leads.counted _ ran))
+    let ran = subst (λ row. ExecutesInside 0 insert_batch row old new (Err c.in_err-execute.field-0.0))
+    (seven c.params-to_sql.ensures c.params-to_sql-2.ensures e3 e4 e5 e6 e7) (c.in_err-execute.ensures.runs clean inside) in
+    handed_on c.from_residual.result c.in_err-execute.field-0.0 _ _ c.from_residual.ensures.1
+    (keep_reported old new s represented limit c.args.key.now (record { text = c.args.text.now; counts = c.args.counts; serial = c.args.serial })
+    leads.absent leads.next leads.counted _ ran))

@@ -14,8 +14,10 @@ returns g c =
     ran_inside _ _ run.same_reference run.survives _ run.runs (λ clean inside limit s t represented leads.
     let old = state g.S.Store c.args.tx.now.conn.now in
     let new = state g.S.Store c.execute.new.self.conn.now in
-    let ran = rw (c.params-to_sql.ensures, c.params-to_sql-2.ensures, c.params-to_sql-3.ensures, text_bound c.args.time) at (c.in_ok-execute.ensures.runs clean inside) in
-    subst (λ x. StandsFor x new.now × IsSameElsewhere old.now new.now) (sym leads.is) (open_represented old new s represented limit c.args.name.now c.args.title.now _ leads.absent leads.id leads.words leads.property _ ran.0))
+    let ran = rw (c.params-to_sql.ensures, c.params-to_sql-2.ensures, c.params-to_sql-3.ensures, text_bound c.args.time) at
+    (c.in_ok-execute.ensures.runs clean inside) in
+    subst (λ x. StandsFor x new.now × IsSameElsewhere old.now new.now) (sym leads.is) (open_represented old new s represented limit c.args.name.now
+    c.args.title.now _ leads.absent leads.id leads.words leads.property _ ran.0))
 
 pub returns-in_err-execute : goal.returns-in_err-execute
 returns-in_err-execute g c =
@@ -23,5 +25,7 @@ returns-in_err-execute g c =
     failed_inside _ _ run.same_reference run.survives run.ended run.runs c.from_residual.ensures.1 (λ clean inside limit s t represented leads.
     let old = state g.S.Store c.args.tx.now.conn.now in
     let new = state g.S.Store c.execute.new.self.conn.now in
-    let ran = rw (c.params-to_sql.ensures, c.params-to_sql-2.ensures, c.params-to_sql-3.ensures, text_bound c.args.time) at (c.in_err-execute.ensures.runs clean inside) in
-    handed_on c.from_residual.result c.in_err-execute.field-0.0 _ _ c.from_residual.ensures.1 (open_reported old new s represented limit c.args.name.now c.args.title.now _ leads.absent _ ran))
+    let ran = rw (c.params-to_sql.ensures, c.params-to_sql-2.ensures, c.params-to_sql-3.ensures, text_bound c.args.time) at
+    (c.in_err-execute.ensures.runs clean inside) in
+    handed_on c.from_residual.result c.in_err-execute.field-0.0 _ _ c.from_residual.ensures.1
+    (open_reported old new s represented limit c.args.name.now c.args.title.now _ leads.absent _ ran))

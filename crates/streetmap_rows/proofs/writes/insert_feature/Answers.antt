@@ -28,8 +28,15 @@ returns g c =
           let e7 : c.map-4.result ≡ option_map (λ (b : BoxValue). b.y1) (option_map box_value c.args.extent) = search rules in
           let e8 : c.map-5.result ≡ option_map (λ (s : ℤ × ℤ). s.0) c.args.seconds = search rules in
           let e9 : c.map-6.result ≡ option_map (λ (s : ℤ × ℤ). s.1) c.args.seconds = search rules in
-          let ran = subst (λ row. ExecutesInside 0 insert_feature row old new (Ok c.in_ok-execute.field-0)) (nine c.params-to_sql.ensures c.params-to_sql-2.ensures c.params-to_sql-3.ensures (c.params-to_sql-4.ensures ∙ ap (or_null Int) e4) (c.params-to_sql-5.ensures ∙ ap (or_null Int) e5) (c.params-to_sql-6.ensures ∙ ap (or_null Int) e6) (c.params-to_sql-7.ensures ∙ ap (or_null Int) e7) (c.params-to_sql-8.ensures ∙ ap (or_null Int) e8) (c.params-to_sql-9.ensures ∙ ap (or_null Int) e9) ∙ feature_bound (c.args.collection.now, c.args.id.now) f _ _ _ is) (c.in_ok-execute.ensures.runs clean inside) in
-          subst (λ x. StandsFor x new.now × IsSameElsewhere old.now new.now) (sym leads.is) (insert_represented old new s represented limit (c.args.collection.now, c.args.id.now) leads.collection leads.there f leads.absent leads.fine _ ran.0);
+          let ran = subst (λ row. ExecutesInside 0 insert_feature row old new (Ok c.in_ok-execute.field-0))
+          (nine c.params-to_sql.ensures c.params-to_sql-2.ensures c.params-to_sql-3.ensures (c.params-to_sql-4.ensures ∙ ap (or_null Int) e4)
+          (c.params-to_sql-5.ensures ∙ ap (or_null Int) e5) (c.params-to_sql-6.ensures ∙ ap (or_null Int) e6)
+          (c.params-to_sql-7.ensures ∙ ap (or_null Int) e7) (c.params-to_sql-8.ensures ∙ ap (or_null Int) e8)
+          (c.params-to_sql-9.ensures ∙ ap (or_null Int) e9) ∙ feature_bound (c.args.collection.now, c.args.id.now) f _ _ _ is)
+          (c.in_ok-execute.ensures.runs clean inside) in
+          subst (λ x. StandsFor x new.now × IsSameElsewhere old.now new.now) (sym leads.is)
+          (insert_represented old new s represented limit (c.args.collection.now, c.args.id.now) leads.collection leads.there f leads.absent leads.fine _
+          ran.0);
       ran = λ inside.
           let ran = rw (c.params-to_sql.ensures, c.params-to_sql-2.ensures, c.params-to_sql-3.ensures) at (c.in_ok-execute.ensures.runs clean inside) in
           (_, c.in_ok-execute.field-0, ran);
@@ -48,7 +55,13 @@ returns-in_err-execute g c =
           let e7 : c.map-4.result ≡ option_map (λ (b : BoxValue). b.y1) (option_map box_value c.args.extent) = search rules in
           let e8 : c.map-5.result ≡ option_map (λ (s : ℤ × ℤ). s.0) c.args.seconds = search rules in
           let e9 : c.map-6.result ≡ option_map (λ (s : ℤ × ℤ). s.1) c.args.seconds = search rules in
-          let ran = subst (λ row. ExecutesInside 0 insert_feature row old new (Err c.in_err-execute.field-0.0)) (nine c.params-to_sql.ensures c.params-to_sql-2.ensures c.params-to_sql-3.ensures (c.params-to_sql-4.ensures ∙ ap (or_null Int) e4) (c.params-to_sql-5.ensures ∙ ap (or_null Int) e5) (c.params-to_sql-6.ensures ∙ ap (or_null Int) e6) (c.params-to_sql-7.ensures ∙ ap (or_null Int) e7) (c.params-to_sql-8.ensures ∙ ap (or_null Int) e8) (c.params-to_sql-9.ensures ∙ ap (or_null Int) e9) ∙ feature_bound (c.args.collection.now, c.args.id.now) f _ _ _ is) (c.in_err-execute.ensures.runs clean inside) in
-          handed_on c.from_residual.result c.in_err-execute.field-0.0 _ _ c.from_residual.ensures.1 (insert_reported old new s represented limit (c.args.collection.now, c.args.id.now) leads.collection leads.there f leads.absent _ ran);
+          let ran = subst (λ row. ExecutesInside 0 insert_feature row old new (Err c.in_err-execute.field-0.0))
+          (nine c.params-to_sql.ensures c.params-to_sql-2.ensures c.params-to_sql-3.ensures (c.params-to_sql-4.ensures ∙ ap (or_null Int) e4)
+          (c.params-to_sql-5.ensures ∙ ap (or_null Int) e5) (c.params-to_sql-6.ensures ∙ ap (or_null Int) e6)
+          (c.params-to_sql-7.ensures ∙ ap (or_null Int) e7) (c.params-to_sql-8.ensures ∙ ap (or_null Int) e8)
+          (c.params-to_sql-9.ensures ∙ ap (or_null Int) e9) ∙ feature_bound (c.args.collection.now, c.args.id.now) f _ _ _ is)
+          (c.in_err-execute.ensures.runs clean inside) in
+          handed_on c.from_residual.result c.in_err-execute.field-0.0 _ _ c.from_residual.ensures.1
+          (insert_reported old new s represented limit (c.args.collection.now, c.args.id.now) leads.collection leads.there f leads.absent _ ran);
       ran = first_of (search rules, grind (arith, common_steps));
     })

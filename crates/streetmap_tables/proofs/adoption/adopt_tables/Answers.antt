@@ -17,8 +17,12 @@ returns-in-Ok-clause-adopts g c clean s rests =
     let still = c.in-Ok.ensures.unchanged clean in
     let live = still.0.is_open in
     let same = same_unchanged old mid new (c.in-Ok-Keys.ensures.same early) still rests.settled live in
-    let there = rests_same old new s rests same (c.probe.ensures.survives.limit ∙ c.find_alone.ensures.survives.limit) live in
-    (one_count c.in-Ok-Keys.field-0 c.in-Ok-Keys.count (len s.keys) c.in-Ok-Keys.field-0-is found, there, may_leave_it new s there (g.met.S.Store.stays store live), leaves_only new s there (λ trees may. g.met.S.Store.settled store trees live may))
+    let there = rests_same old new s rests same (c.probe.ensures.survives.limit ∙ c.find_alone.ensures.survives.limit) live in (
+      one_count c.in-Ok-Keys.field-0 c.in-Ok-Keys.count (len s.keys) c.in-Ok-Keys.field-0-is found,
+      there,
+      may_leave_it new s there (g.met.S.Store.stays store live),
+      leaves_only new s there (λ trees may. g.met.S.Store.settled store trees live may),
+    )
 
 pub returns-in-Memory-clause-adopts : goal.returns-in-Memory-clause-adopts
 returns-in-Memory-clause-adopts g c clean s rests =

@@ -11,4 +11,5 @@ returns-clause-reports g c clean =
     let start = state g.S.Store c.transaction-tx.result.conn.now in
     let mid = state g.S.Store c.find_inside-found.new.tx.conn.now in
     let early : HasCleanDisk mid = clean_back mid _ _ c.rollback.ensures.survives (search rules) in
-    found_there start (state g.S.Store c.args.conn.now) (rw begun refl) (rw begun refl) (λ live. rw begun at live) c.find_inside-found.result ((c.find_inside-found.ensures.runs.does early).reports)
+    found_there start (state g.S.Store c.args.conn.now) (rw begun refl) (rw begun refl) (λ live. rw begun at live) c.find_inside-found.result
+    ((c.find_inside-found.ensures.runs.does early).reports)

@@ -40,7 +40,8 @@ returns-clause-runs g c = record {
         let same = reported.1.0 in
         let format : format_in c.in_ok-rows.rows.items ≡ Some (pos 2) = search rules in
         unread_found old c.unread_by.result c.in-Err.error c.unread_by.ensures (c.in_ok-rows.rows.items, reported.0, format)
-        (λ other. unseen_serials_there mid old same.now_is c.read_format.ensures.survives.limit (λ _. same.was_open) ((c.in-Err.ensures.does clean).reports other));
+        (λ other. unseen_serials_there mid old same.now_is c.read_format.ensures.survives.limit (λ _. same.was_open)
+        ((c.in-Err.ensures.does clean).reports other));
   };
   reason = λ clean.
       let old = state g.S.Store c.args.tx.now.conn.now in
@@ -64,6 +65,13 @@ returns-in-Ok-clause-runs g c =
           let reported = (c.in_ok-rows.ensures.does early).reports in
           let same = reported.1.0 in
           let format : format_in c.in_ok-rows.rows.items ≡ Some (pos 2) = search rules in
-          let counted : c.len.result ≡ length c.in-Ok.serials.items = search rules in
-          ((c.in_ok-rows.rows.items, reported.0, format), (c.in-Ok.serials.items, serials_there mid old same.now_is c.read_format.ensures.survives.limit (λ _. same.was_open) c.in-Ok.serials.items ((c.in-Ok.ensures.does clean).reports).0, counted));
+          let counted : c.len.result ≡ length c.in-Ok.serials.items = search rules in (
+            (c.in_ok-rows.rows.items, reported.0, format),
+            (
+              c.in-Ok.serials.items,
+              serials_there mid old same.now_is c.read_format.ensures.survives.limit
+                  (λ _. same.was_open) c.in-Ok.serials.items ((c.in-Ok.ensures.does clean).reports).0,
+              counted,
+            ),
+          );
     })

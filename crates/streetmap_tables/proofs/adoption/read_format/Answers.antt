@@ -13,6 +13,7 @@ returns g c =
     let new = state g.S.Store c.query_all.new.self.conn.now in
     let run = c.query_all.ensures in
     query_inside select_format [] run.same_reference run.ok run.err run.survives (λ clean. record {
-      finds = λ s limit keeps. by_result c.query_all.result _ _ _ _ (run.ok clean) (run.err clean) (λ rows shown. format_shown old new s keeps rows.items shown) (λ e failed. format_reported old new s keeps limit e failed);
+      finds = λ s limit keeps. by_result c.query_all.result _ _ _ _ (run.ok clean) (run.err clean) (λ rows shown. format_shown old new s keeps rows.items shown)
+          (λ e failed. format_reported old new s keeps limit e failed);
       reports = was_read select_format format_bare old new c.query_all.result (run.ok clean) (run.err clean);
     })

@@ -11,7 +11,9 @@ returns-in-Ok-act_by_key-clause-reason g c clean =
     let mid = state g.S.Store c.act_by_key.new.conn in
     let new = state g.S.Store c.probe.new.conn in
     let early : HasCleanDisk mid = omega (arith, clean, c.probe.ensures.survives.clean) in
-    stops_by_cause old new c.in-Err-probe.error c.cause_of.result c.cause_of.ensures.cause (reason_later old mid new c.in-Err-probe.error _ c.act_by_key.ensures.survives early c.probe.ensures.survives.counts (c.in-Err-probe.ensures.reason clean))
+    stops_by_cause old new c.in-Err-probe.error c.cause_of.result c.cause_of.ensures.cause
+    (reason_later old mid new c.in-Err-probe.error _ c.act_by_key.ensures.survives early c.probe.ensures.survives.counts
+    (c.in-Err-probe.ensures.reason clean))
 
 pub returns-in-Ok-probe-clause-survives : goal.returns-in-Ok-probe-clause-survives
 returns-in-Ok-probe-clause-survives g c =

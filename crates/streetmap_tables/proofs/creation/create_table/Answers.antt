@@ -12,7 +12,8 @@ pub returns-clause-runs : goal.returns-clause-runs
 returns-clause-runs g c =
     let run = c.in_ok-execute.ensures in
     ran_inside _ _ run.same_reference run.survives _ run.runs (λ clean. record {
-      makes = λ inside table text counts. created_by c.args.sql.now table text (state g.S.Store c.args.tx.now.conn.now) (state g.S.Store c.execute.new.self.conn.now) counts _ (c.in_ok-execute.ensures.runs clean inside).0;
+      makes = λ inside table text counts. created_by c.args.sql.now table text (state g.S.Store c.args.tx.now.conn.now)
+          (state g.S.Store c.execute.new.self.conn.now) counts _ (c.in_ok-execute.ensures.runs clean inside).0;
       reported = first_of (search rules, grind (arith, common_steps));
     })
 
@@ -24,7 +25,8 @@ returns-in_err-execute-clause-runs g c =
       reported = λ inside table ours free counts.
           let e = c.in_err-execute.field-0.0 in
           let handed = is_handed c.from_residual.result e c.from_residual.ensures.1 in
-          rw handed (reported_created c.args.sql.now table (allowed_if_ours c.args.sql.now table ours) (state g.S.Store c.args.tx.now.conn.now) (state g.S.Store c.execute.new.self.conn.now) free counts e (c.in_err-execute.ensures.runs clean inside));
+          rw handed (reported_created c.args.sql.now table (allowed_if_ours c.args.sql.now table ours) (state g.S.Store c.args.tx.now.conn.now)
+          (state g.S.Store c.execute.new.self.conn.now) free counts e (c.in_err-execute.ensures.runs clean inside));
     })
 
 pub returns-clause-ran : goal.returns-clause-ran

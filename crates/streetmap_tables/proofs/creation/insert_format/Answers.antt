@@ -10,7 +10,8 @@ pub returns-clause-runs : goal.returns-clause-runs
 returns-clause-runs g c =
     let run = c.in_ok-execute.ensures in
     ran_inside _ _ run.same_reference run.survives _ run.runs (λ clean. record {
-      put = λ inside limit s lacks sound. format_put s (state g.S.Store c.args.tx.now.conn.now) (state g.S.Store c.execute.new.self.conn.now) limit lacks sound _ (c.in_ok-execute.ensures.runs clean inside).0;
+      put = λ inside limit s lacks sound. format_put s (state g.S.Store c.args.tx.now.conn.now) (state g.S.Store c.execute.new.self.conn.now) limit lacks sound
+          _ (c.in_ok-execute.ensures.runs clean inside).0;
       reported = first_of (search rules, grind (arith, common_steps));
     })
 
@@ -22,7 +23,8 @@ returns-in_err-execute-clause-runs g c =
       reported = λ inside limit s lacks sound.
           let e = c.in_err-execute.field-0.0 in
           let handed = is_handed c.from_residual.result e c.from_residual.ensures.1 in
-          rw handed (format_reported s (state g.S.Store c.args.tx.now.conn.now) (state g.S.Store c.execute.new.self.conn.now) limit lacks sound e (c.in_err-execute.ensures.runs clean inside));
+          rw handed (format_reported s (state g.S.Store c.args.tx.now.conn.now) (state g.S.Store c.execute.new.self.conn.now) limit lacks sound e
+          (c.in_err-execute.ensures.runs clean inside));
     })
 
 pub returns-clause-ran : goal.returns-clause-ran

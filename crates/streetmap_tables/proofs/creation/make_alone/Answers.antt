@@ -11,7 +11,8 @@ returns-in_err-commit-in-Ok-clause-made g c clean ready =
     let mid = state g.S.Store c.make_inside.new.tx.conn.now in
     let early : HasCleanDisk mid = clean_back mid _ _ c.in_err-commit-in-Ok.ensures.survives (search rules) in
     let inside = c.in-Ok.ensures.inside early (rw begun refl) in
-    let it = same_after_commit (state g.S.Store c.args.conn.now) start mid _ c.in_err-commit-in-Ok.field-0.0 (rw begun refl) (c.in-Ok.ensures.kept early (rw begun refl)) inside (c.in_err-commit-in-Ok.ensures.err (search rules)) ready.settled in
+    let it = same_after_commit (state g.S.Store c.args.conn.now) start mid _ c.in_err-commit-in-Ok.field-0.0 (rw begun refl)
+    (c.in-Ok.ensures.kept early (rw begun refl)) inside (c.in_err-commit-in-Ok.ensures.err (search rules)) ready.settled in
     let handed = is_handed c.from_residual.result c.in_err-commit-in-Ok.field-0.0 c.from_residual.ensures.1 in
     rw handed (search (rules, it))
 
@@ -23,5 +24,6 @@ returns-in_err-commit-in-Ok-clause-same g c clean =
     let early : HasCleanDisk mid = clean_back mid _ _ c.in_err-commit-in-Ok.ensures.survives (search rules) in
     let inside = c.in-Ok.ensures.inside early (rw begun refl) in
     let handed = is_handed c.from_residual.result c.in_err-commit-in-Ok.field-0.0 c.from_residual.ensures.1 in
-    let it = same_after_commit (state g.S.Store c.args.conn.now) start mid _ c.in_err-commit-in-Ok.field-0.0 (rw begun refl) (c.in-Ok.ensures.kept early (rw begun refl)) inside (c.in_err-commit-in-Ok.ensures.err (search rules)) in
+    let it = same_after_commit (state g.S.Store c.args.conn.now) start mid _ c.in_err-commit-in-Ok.field-0.0 (rw begun refl)
+    (c.in-Ok.ensures.kept early (rw begun refl)) inside (c.in_err-commit-in-Ok.ensures.err (search rules)) in
     rw handed (λ settled. search (rules, it settled))

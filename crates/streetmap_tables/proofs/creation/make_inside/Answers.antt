@@ -8,7 +8,8 @@ use Rattle.streetmap_tables.proofs.TableTexts.{meta_is, collections_is, batches_
 use Rattle.streetmap_tables.proofs.OurTablesMade.{meta_counts, collections_counts, batches_counts, features_counts, room_one, room_two, room_three, are_made}
 use Rattle.streetmap_tables.proofs.PutFormat.{lacks_format}
 use Rattle.streetmap_tables.proofs.BeforeCleanEnd.{clean_back, ok_then, err_then, is_handed}
-use Rattle.streetmap_tables.proofs.Refusals.{meta_free, reported_one, collections_free, reported_two, batches_free, reported_three, features_free, reported_four}
+use Rattle.streetmap_tables.proofs.Refusals.{meta_free, reported_one, collections_free, reported_two, batches_free, reported_three, features_free}
+use Rattle.streetmap_tables.proofs.Refusals.{reported_four}
 use Rattle.streetmap_tables.proofs.OtherTables.{others_then, others_elsewhere}
 use Rattle.streetmap_tables.proofs.OneTableMore.{others_kept}
 use Rattle.streetmap_rows.proofs.CallsInside.{stays_so, stays_err, stays_both}
@@ -16,7 +17,8 @@ use Rattle.streetmap_tables.proofs.creation.make_inside.Goals as goal
 
 pub returns : goal.returns
 returns g c =
-    stays_so (stays_both (stays_both (stays_both (stays_both c.in_ok-create_table.ensures.runs c.in_ok-create_table-2.ensures.runs) c.in_ok-create_table-3.ensures.runs) c.in_ok-create_table-4.ensures.runs) c.insert_format.ensures.runs) (λ clean. record {
+    stays_so (stays_both (stays_both (stays_both (stays_both c.in_ok-create_table.ensures.runs c.in_ok-create_table-2.ensures.runs)
+    c.in_ok-create_table-3.ensures.runs) c.in_ok-create_table-4.ensures.runs) c.insert_format.ensures.runs) (λ clean. record {
       made = λ inside limit room.
           let s0 = state g.S.Store c.args.tx.now.conn.now in
           let s1 = state g.S.Store c.create_table.new.tx.conn.now in
@@ -39,11 +41,17 @@ returns g c =
           let r3 = room_three s0.now s1.now one room s2.now two s3.now three in
           let four = (c.in_ok-create_table-4.ensures.runs.does k4).makes i3 (features 0) features_is (features_counts s3.now.schema r3) in
           let i4 = c.in_ok-create_table-4.ensures.runs.inside k4 i3 in
-          let unlimited = c.create_table-4.ensures.runs.survives.limit ∙ c.create_table-3.ensures.runs.survives.limit ∙ c.create_table-2.ensures.runs.survives.limit ∙ c.create_table.ensures.runs.survives.limit ∙ limit in
-          let grown = others_then s0.now s2.now s4.now (others_then s0.now s1.now s2.now (others_kept (meta 0) s0.now s1.now one) (others_kept (collections 0) s1.now s2.now two))
+          let unlimited = c.create_table-4.ensures.runs.survives.limit ∙ c.create_table-3.ensures.runs.survives.limit
+          ∙ c.create_table-2.ensures.runs.survives.limit ∙ c.create_table.ensures.runs.survives.limit ∙ limit in
+          let grown = others_then s0.now s2.now s4.now (others_then s0.now s1.now s2.now (others_kept (meta 0) s0.now s1.now one)
+          (others_kept (collections 0) s1.now s2.now two))
           (others_then s2.now s3.now s4.now (others_kept (batches 0) s2.now s3.now three) (others_kept (features 0) s3.now s4.now four)) in
-          let put = (c.insert_format.ensures.runs.does clean).put i4 unlimited opening_state (lacks_format s4.now (are_made s0.now s1.now one room s2.now two s3.now three s4.now four)) four.sound in
-          ok_then _ _ c.insert_format.result put (λ h. (record { well = opening_sound; rows = h.0 }, others_then s0.now s4.now s5.now grown (others_elsewhere s4.now s5.now h.1)));
+          let put = (c.insert_format.ensures.runs.does clean).put i4 unlimited opening_state
+          (lacks_format s4.now (are_made s0.now s1.now one room s2.now two s3.now three s4.now four)) four.sound in
+          ok_then _ _ c.insert_format.result put (λ h. (
+            record { well = opening_sound; rows = h.0 },
+            others_then s0.now s4.now s5.now grown (others_elsewhere s4.now s5.now h.1),
+          ));
       reported = λ inside limit room free.
           let s0 = state g.S.Store c.args.tx.now.conn.now in
           let s1 = state g.S.Store c.create_table.new.tx.conn.now in
@@ -66,8 +74,10 @@ returns g c =
           let r3 = room_three s0.now s1.now one room s2.now two s3.now three in
           let four = (c.in_ok-create_table-4.ensures.runs.does k4).makes i3 (features 0) features_is (features_counts s3.now.schema r3) in
           let i4 = c.in_ok-create_table-4.ensures.runs.inside k4 i3 in
-          let unlimited = c.create_table-4.ensures.runs.survives.limit ∙ c.create_table-3.ensures.runs.survives.limit ∙ c.create_table-2.ensures.runs.survives.limit ∙ c.create_table.ensures.runs.survives.limit ∙ limit in
-          err_then _ _ c.insert_format.result ((c.insert_format.ensures.runs.does clean).reported i4 unlimited opening_state (lacks_format s4.now (are_made s0.now s1.now one room s2.now two s3.now three s4.now four)) four.sound) (λ e store. inl store);
+          let unlimited = c.create_table-4.ensures.runs.survives.limit ∙ c.create_table-3.ensures.runs.survives.limit
+          ∙ c.create_table-2.ensures.runs.survives.limit ∙ c.create_table.ensures.runs.survives.limit ∙ limit in
+          err_then _ _ c.insert_format.result ((c.insert_format.ensures.runs.does clean).reported i4 unlimited opening_state
+          (lacks_format s4.now (are_made s0.now s1.now one room s2.now two s3.now three s4.now four)) four.sound) (λ e store. inl store);
     })
 
 pub returns-in_err-create_table : goal.returns-in_err-create_table
@@ -78,12 +88,14 @@ returns-in_err-create_table g c =
           let s0 = state g.S.Store c.args.tx.now.conn.now in
           let e = c.in_err-create_table.field-0.0 in
           let handed = is_handed c.from_residual.result e c.from_residual.ensures.1 in
-          rw handed (reported_one s0.now free e ((c.in_err-create_table.ensures.runs.does clean).reported inside (meta 0) (inl (refl, refl)) (meta_free s0.now free) (meta_counts s0.now.schema room)));
+          rw handed (reported_one s0.now free e ((c.in_err-create_table.ensures.runs.does clean).reported inside (meta 0) (inl (refl, refl))
+          (meta_free s0.now free) (meta_counts s0.now.schema room)));
     })
 
 pub returns-in_err-create_table-2 : goal.returns-in_err-create_table-2
 returns-in_err-create_table-2 g c =
-    stays_err (stays_both c.in_ok-create_table.ensures.runs c.in_err-create_table-2.ensures.runs) c.from_residual-in_err-create_table-2.ensures.1 (λ clean. record {
+    stays_err (stays_both c.in_ok-create_table.ensures.runs c.in_err-create_table-2.ensures.runs) c.from_residual-in_err-create_table-2.ensures.1
+    (λ clean. record {
       made = first_of (search rules, grind (arith, common_steps));
       reported = λ inside limit room free.
           let s0 = state g.S.Store c.args.tx.now.conn.now in
@@ -95,12 +107,14 @@ returns-in_err-create_table-2 g c =
           let r1 = room_one s0.now s1.now one room in
           let e = c.in_err-create_table-2.field-0.0 in
           let handed = is_handed c.from_residual-in_err-create_table-2.result e c.from_residual-in_err-create_table-2.ensures.1 in
-          rw handed (reported_two s0.now free s1.now one e ((c.in_err-create_table-2.ensures.runs.does clean).reported i1 (collections 0) (inr (inl (refl, refl))) (collections_free s0.now free s1.now one) (collections_counts s1.now.schema r1)));
+          rw handed (reported_two s0.now free s1.now one e ((c.in_err-create_table-2.ensures.runs.does clean).reported i1 (collections 0)
+          (inr (inl (refl, refl))) (collections_free s0.now free s1.now one) (collections_counts s1.now.schema r1)));
     })
 
 pub returns-in_err-create_table-3 : goal.returns-in_err-create_table-3
 returns-in_err-create_table-3 g c =
-    stays_err (stays_both (stays_both c.in_ok-create_table.ensures.runs c.in_ok-create_table-2.ensures.runs) c.in_err-create_table-3.ensures.runs) c.from_residual-in_err-create_table-3.ensures.1 (λ clean. record {
+    stays_err (stays_both (stays_both c.in_ok-create_table.ensures.runs c.in_ok-create_table-2.ensures.runs) c.in_err-create_table-3.ensures.runs)
+    c.from_residual-in_err-create_table-3.ensures.1 (λ clean. record {
       made = first_of (search rules, grind (arith, common_steps));
       reported = λ inside limit room free.
           let s0 = state g.S.Store c.args.tx.now.conn.now in
@@ -117,12 +131,14 @@ returns-in_err-create_table-3 g c =
           let r2 = room_two s0.now s1.now one room s2.now two in
           let e = c.in_err-create_table-3.field-0.0 in
           let handed = is_handed c.from_residual-in_err-create_table-3.result e c.from_residual-in_err-create_table-3.ensures.1 in
-          rw handed (reported_three s0.now free s1.now one s2.now two e ((c.in_err-create_table-3.ensures.runs.does clean).reported i2 (batches 0) (inr (inr (inl (refl, refl)))) (batches_free s0.now free s1.now one s2.now two) (batches_counts s2.now.schema r2)));
+          rw handed (reported_three s0.now free s1.now one s2.now two e ((c.in_err-create_table-3.ensures.runs.does clean).reported i2 (batches 0)
+          (inr (inr (inl (refl, refl)))) (batches_free s0.now free s1.now one s2.now two) (batches_counts s2.now.schema r2)));
     })
 
 pub returns-in_err-create_table-4 : goal.returns-in_err-create_table-4
 returns-in_err-create_table-4 g c =
-    stays_err (stays_both (stays_both (stays_both c.in_ok-create_table.ensures.runs c.in_ok-create_table-2.ensures.runs) c.in_ok-create_table-3.ensures.runs) c.in_err-create_table-4.ensures.runs) c.from_residual-in_err-create_table-4.ensures.1 (λ clean. record {
+    stays_err (stays_both (stays_both (stays_both c.in_ok-create_table.ensures.runs c.in_ok-create_table-2.ensures.runs) c.in_ok-create_table-3.ensures.runs)
+    c.in_err-create_table-4.ensures.runs) c.from_residual-in_err-create_table-4.ensures.1 (λ clean. record {
       made = first_of (search rules, grind (arith, common_steps));
       reported = λ inside limit room free.
           let s0 = state g.S.Store c.args.tx.now.conn.now in
@@ -144,5 +160,6 @@ returns-in_err-create_table-4 g c =
           let r3 = room_three s0.now s1.now one room s2.now two s3.now three in
           let e = c.in_err-create_table-4.field-0.0 in
           let handed = is_handed c.from_residual-in_err-create_table-4.result e c.from_residual-in_err-create_table-4.ensures.1 in
-          rw handed (reported_four s0.now free s1.now one s2.now two s3.now three e ((c.in_err-create_table-4.ensures.runs.does clean).reported i3 (features 0) (inr (inr (inr (refl, refl)))) (features_free s0.now free s1.now one s2.now two s3.now three) (features_counts s3.now.schema r3)));
+          rw handed (reported_four s0.now free s1.now one s2.now two s3.now three e ((c.in_err-create_table-4.ensures.runs.does clean).reported i3 (features 0)
+          (inr (inr (inr (refl, refl)))) (features_free s0.now free s1.now one s2.now two s3.now three) (features_counts s3.now.schema r3)));
     })

@@ -8,8 +8,11 @@ pub returns-in_default-clause-made : goal.returns-in_default-clause-made
 returns-in_default-clause-made g c clean ready =
     let seen = state g.S.Store c.make_alone.new.conn in
     let rests = (c.in_default.ensures.made clean ready).0 in
-    let store = c.make_alone.new.conn.store in
-    (rests, may_leave_it seen opening_state rests (g.met.S.Store.stays store rests.live), leaves_only seen opening_state rests (λ trees may. g.met.S.Store.settled store trees rests.live may))
+    let store = c.make_alone.new.conn.store in (
+      rests,
+      may_leave_it seen opening_state rests (g.met.S.Store.stays store rests.live),
+      leaves_only seen opening_state rests (λ trees may. g.met.S.Store.settled store trees rests.live may),
+    )
 
 pub returns-in-Err-probe-clause-made : goal.returns-in-Err-probe-clause-made
 returns-in-Err-probe-clause-made g c clean ready =

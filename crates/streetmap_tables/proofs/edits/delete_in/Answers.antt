@@ -9,11 +9,13 @@ use Rattle.streetmap_tables.proofs.edits.delete_in.Goals as goal
 
 pub returns-in_err-has_collection : goal.returns-in_err-has_collection
 returns-in_err-has_collection g c =
-    runs_err c.in_err-has_collection.ensures c.from_residual.ensures.1 (λ clean limit inside s represented. handed_on _ _ _ _ c.from_residual.ensures.1 (c.in_err-has_collection.ensures.does clean limit s represented))
+    runs_err c.in_err-has_collection.ensures c.from_residual.ensures.1 (λ clean limit inside s represented.
+    handed_on _ _ _ _ c.from_residual.ensures.1 (c.in_err-has_collection.ensures.does clean limit s represented))
 
 pub returns-in_err-has_feature : goal.returns-in_err-has_feature
 returns-in_err-has_feature g c =
-    runs_err (runs_both c.in_ok-has_collection.ensures c.in_err-has_feature.ensures) c.from_residual-in_err-has_feature.ensures.1 (λ clean limit inside s represented.
+    runs_err (runs_both c.in_ok-has_collection.ensures c.in_err-has_feature.ensures) c.from_residual-in_err-has_feature.ensures.1
+    (λ clean limit inside s represented.
     let a = state g.S.Store c.args.tx.now.conn.now in
     let b = state g.S.Store c.has_collection.new.tx.conn.now in
     let e = state g.S.Store c.has_feature.new.tx.conn.now in
@@ -24,7 +26,8 @@ returns-in_err-has_feature g c =
 
 pub returns : goal.returns
 returns g c =
-    runs_ok (runs_both (runs_both c.in_ok-has_collection.ensures c.in_ok-has_feature.ensures) (runs_of c.in_ok-delete_feature.ensures)) (λ clean limit inside s represented.
+    runs_ok (runs_both (runs_both c.in_ok-has_collection.ensures c.in_ok-has_feature.ensures) (runs_of c.in_ok-delete_feature.ensures))
+    (λ clean limit inside s represented.
     let a = state g.S.Store c.args.tx.now.conn.now in
     let b = state g.S.Store c.has_collection.new.tx.conn.now in
     let e = state g.S.Store c.has_feature.new.tx.conn.now in
@@ -37,7 +40,8 @@ returns g c =
     let last = still_represented b e s second.1 mid in
     let may = may_delete s c.args.collection.now c.args.id.now (search rules) (search rules) in
     let within : IsTrue e.in_transaction = second.1.0.mode ∙ first.1.0.mode ∙ inside in
-    let wrote = c.in_ok-delete_feature.ensures.does clean within (c.has_feature.ensures.survives.limit ∙ c.has_collection.ensures.survives.limit ∙ limit) s may.0 last may.2 in (
+    let wrote = c.in_ok-delete_feature.ensures.does clean within (c.has_feature.ensures.survives.limit ∙ c.has_collection.ensures.survives.limit ∙ limit) s
+    may.0 last may.2 in (
       (may.0, may.1, wrote.0),
       c.in_ok-delete_feature.ensures.inside clean within,
       rest_then a b f (keeps_rest a b first.1) (rest_then b e f (keeps_rest b e second.1) (c.in_ok-delete_feature.ensures.kept clean within, wrote.1)),
@@ -45,7 +49,8 @@ returns g c =
 
 pub returns-in_err-delete_feature : goal.returns-in_err-delete_feature
 returns-in_err-delete_feature g c =
-    runs_err (runs_both (runs_both c.in_ok-has_collection.ensures c.in_ok-has_feature.ensures) (runs_of c.in_err-delete_feature.ensures)) c.from_residual-in_err-delete_feature.ensures.1 (λ clean limit inside s represented.
+    runs_err (runs_both (runs_both c.in_ok-has_collection.ensures c.in_ok-has_feature.ensures) (runs_of c.in_err-delete_feature.ensures))
+    c.from_residual-in_err-delete_feature.ensures.1 (λ clean limit inside s represented.
     let a = state g.S.Store c.args.tx.now.conn.now in
     let b = state g.S.Store c.has_collection.new.tx.conn.now in
     let e = state g.S.Store c.has_feature.new.tx.conn.now in
@@ -59,7 +64,8 @@ returns-in_err-delete_feature g c =
     let may = may_delete s c.args.collection.now c.args.id.now (search rules) (search rules) in
     let within : IsTrue e.in_transaction = second.1.0.mode ∙ first.1.0.mode ∙ inside in
     handed_on _ _ _ _ c.from_residual-in_err-delete_feature.ensures.1 (
-      c.in_err-delete_feature.ensures.does clean within (c.has_feature.ensures.survives.limit ∙ c.has_collection.ensures.survives.limit ∙ limit) s may.0 last may.2,
+      c.in_err-delete_feature.ensures.does clean within (c.has_feature.ensures.survives.limit ∙ c.has_collection.ensures.survives.limit ∙ limit) s may.0 last
+          may.2,
       keeps_then a b f (keeps a b first.1) (keeps_then b e f (keeps b e second.1) (c.in_err-delete_feature.ensures.kept clean within)),
     ))
 

@@ -18,17 +18,32 @@ runs-init g c = (
   refl,
   record { clean = omega arith; shield = λ x. x; counts = omega arith; limit = refl; closes = λ _ o. inl o; crash = λ _ db m. inl m },
   omega arith,
-  λ clean limit inside s represented. (s, refl, represented, inside, (record { was_open = λ o. o; committed = λ _. refl }, same_all (state g.S.Store c.args.tx.now.conn.now).now _ refl), tt),
+  λ clean limit inside s represented. (
+    s,
+    refl,
+    represented,
+    inside,
+    (
+      record { was_open = λ o. o; committed = λ _. refl },
+      same_all (state g.S.Store c.args.tx.now.conn.now).now _ refl,
+    ),
+    tt,
+  ),
 )
 
 pub returns-in_err-place : goal.returns-in_err-place
 returns-in_err-place g c =
-    runs_err (runs_both (so_far c.runs.invariant.0 c.runs.invariant.1) c.in_err-place.ensures.runs) c.from_residual.ensures.1 (λ clean limit inside s represented.
+    runs_err (runs_both (so_far c.runs.invariant.0 c.runs.invariant.1) c.in_err-place.ensures.runs) c.from_residual.ensures.1
+    (λ clean limit inside s represented.
     let inv = c.runs.invariant in
     let early : HasCleanDisk (state g.S.Store c.runs.tx.conn.now) = omega (arith, clean, c.edit_run.ensures.runs.survives.clean) in
     let r = inv.3 early limit inside s represented in
     let e = (c.in_err-place.ensures.runs.does clean).edits (inv.1.limit ∙ limit) r.3 r.0 r.2 r.5 in
-    handed_on _ _ _ _ c.from_residual.ensures.1 (e.0, keeps_then (state g.S.Store c.args.tx.now.conn.now) (state g.S.Store c.runs.tx.conn.now) (state g.S.Store c.edit_run.new.tx.conn.now) r.4.0 e.1))
+    handed_on _ _ _ _ c.from_residual.ensures.1 (
+      e.0,
+      keeps_then (state g.S.Store c.args.tx.now.conn.now) (state g.S.Store c.runs.tx.conn.now)
+          (state g.S.Store c.edit_run.new.tx.conn.now) r.4.0 e.1,
+    ))
 
 pub overflow_add-result : goal.overflow_add-result
 overflow_add-result g c =
@@ -71,11 +86,13 @@ runs-preserved g c =
           let count : length (map edit_value run) ≡ length run = length-map run edit_value in (
             did.0,
             r.1 ∙ ap (λ es. edited (c.runs.done + 1) r.0 es) (ap (map edit_value) c.split_at.ensures.by_index.0 ∙ map-append edit_value run more)
-                ∙ edited_parts (map edit_value run) (map edit_value more) (c.runs.done + 1) 1 r.0 did.0 did.1 ∙ ap (λ n. edited n did.0 (map edit_value more)) (omega (arith, count)),
+                ∙ edited_parts (map edit_value run) (map edit_value more) (c.runs.done + 1) 1 r.0 did.0 did.1
+                ∙ ap (λ n. edited n did.0 (map edit_value more)) (omega (arith, count)),
             did.2,
             did.3,
             rest_then old mid new r.4 e.1,
-            still_known c.edit_run.new.known (map edit_value run) 1 r.0 did.0 did.1 ((c.in_ok-place.ensures.runs.does clean).knows (inv.1.limit ∙ limit) r.3 r.0 r.2 r.5),
+            still_known c.edit_run.new.known (map edit_value run) 1 r.0 did.0 did.1 ((c.in_ok-place.ensures.runs.does clean).knows (inv.1.limit ∙ limit) r.3 r.0
+                r.2 r.5),
           ),
     )
 

@@ -15,7 +15,8 @@ invariant-runs g l =
     let now = state g.S.Store l.tx.conn.now in
     (l.tx.conn.ghost_name ≡ l.fn.tx.conn.ghost_name) × Survives old now (λ _. ⊥) × (l.done + length l.rest ≡ length l.edits)
     × (HasCleanDisk now → old.step_limit ≡ None → IsTrue old.in_transaction → (s : State) → StandsFor s old.now
-    → (t : State) × (edited 1 s (map edit_value l.edits) ≡ edited (l.done + 1) t (map edit_value l.rest)) × StandsFor t now.now × IsTrue now.in_transaction × KeepsRest old now × IsKnown l.known t)
+    → (t : State) × (edited 1 s (map edit_value l.edits) ≡ edited (l.done + 1) t (map edit_value l.rest)) × StandsFor t now.now × IsTrue now.in_transaction
+    × KeepsRest old now × IsKnown l.known t)
 
 abbrev pub decreases-runs : goal.decreases-runs
 decreases-runs g l = length l.rest

@@ -17,7 +17,16 @@ edits-init g c = (
   refl,
   record { clean = omega arith; shield = λ x. x; counts = omega arith; limit = refl; closes = λ _ o. inl o; crash = λ _ db m. inl m },
   refl,
-  λ clean limit inside s represented. (s, refl, represented, inside, (record { was_open = λ o. o; committed = λ _. refl }, same_all (state g.S.Store c.args.tx.now.conn.now).now _ refl)),
+  λ clean limit inside s represented. (
+    s,
+    refl,
+    represented,
+    inside,
+    (
+      record { was_open = λ o. o; committed = λ _. refl },
+      same_all (state g.S.Store c.args.tx.now.conn.now).now _ refl,
+    ),
+  ),
 )
 
 pub returns-in_err-why-clause-runs : goal.returns-in_err-why-clause-runs
@@ -27,7 +36,11 @@ returns-in_err-why-clause-runs g c =
     let early : HasCleanDisk (state g.S.Store c.edits.tx.conn.now) = omega (arith, clean, c.edit_in.ensures.survives.clean) in
     let r = inv.3 early limit inside s represented in
     let e = c.in_err-why.ensures.does clean (inv.1.limit ∙ limit) r.3 r.0 r.2 in
-    handed_on _ _ _ _ c.from_residual.ensures.1 (e.0, keeps_then (state g.S.Store c.args.tx.now.conn.now) (state g.S.Store c.edits.tx.conn.now) (state g.S.Store c.edit_in.new.tx.conn.now) r.4.0 e.1))
+    handed_on _ _ _ _ c.from_residual.ensures.1 (
+      e.0,
+      keeps_then (state g.S.Store c.args.tx.now.conn.now) (state g.S.Store c.edits.tx.conn.now)
+          (state g.S.Store c.edit_in.new.tx.conn.now) r.4.0 e.1,
+    ))
 
 pub returns-in-Some-clause-runs : goal.returns-in-Some-clause-runs
 returns-in-Some-clause-runs g c =
@@ -41,7 +54,8 @@ returns-in-Some-clause-runs g c =
     let r = inv.3 early limit inside s represented in
     let e = c.in_ok-why.ensures.does clean (inv.1.limit ∙ limit) r.3 r.0 r.2 in
     let why = subst (Answered r.0 (edit_value edit) new) c.in-Some.is e.0 in (
-      r.1 ∙ ap (λ es. edited c.edits.place r.0 (map edit_value es)) (drop_more c.args.edits.now i edit (omega arith) ∙ ap (λ x. x ∷ drop (i + 1) c.args.edits.now) (sym c.edit-item.is))
+      r.1 ∙ ap (λ es. edited c.edits.place r.0 (map edit_value es)) (drop_more c.args.edits.now i edit (omega arith)
+          ∙ ap (λ x. x ∷ drop (i + 1) c.args.edits.now) (sym c.edit-item.is))
           ∙ edited_stops r.0 c.edits.place (edit_value edit) (map edit_value (drop (i + 1) c.args.edits.now)) _ why,
       rest_then (state g.S.Store c.args.tx.now.conn.now) mid new r.4 e.2,
     ))
@@ -63,7 +77,8 @@ edits-preserved g c =
           let e = c.in_ok-why.ensures.does clean (inv.1.limit ∙ limit) r.3 r.0 r.2 in
           let did = subst (Answered r.0 (edit_value edit) new) c.in_default.is e.0 in (
             did.0,
-            r.1 ∙ ap (λ es. edited c.edits.place r.0 (map edit_value es)) (drop_more c.args.edits.now i edit (omega arith) ∙ ap (λ x. x ∷ drop (i + 1) c.args.edits.now) (sym c.edit-item.is))
+            r.1 ∙ ap (λ es. edited c.edits.place r.0 (map edit_value es)) (drop_more c.args.edits.now i edit (omega arith)
+                ∙ ap (λ x. x ∷ drop (i + 1) c.args.edits.now) (sym c.edit-item.is))
                 ∙ edited_more r.0 did.0 c.edits.place (edit_value edit) (map edit_value (drop (i + 1) c.args.edits.now)) did.1,
             did.2,
             e.1,

@@ -15,4 +15,5 @@ invariant-edits g l =
     let now = state g.S.Store l.tx.conn.now in
     (l.tx.conn.ghost_name ≡ l.fn.tx.conn.ghost_name) × Survives old now (λ _. ⊥) × (l.place ≡ l.edit-index + 1)
     × (HasCleanDisk now → old.step_limit ≡ None → IsTrue old.in_transaction → (s : State) → StandsFor s old.now
-    → (t : State) × (edited 1 s (map edit_value l.edits) ≡ edited l.place t (map edit_value (drop l.edit-index l.edits))) × StandsFor t now.now × IsTrue now.in_transaction × KeepsRest old now)
+    → (t : State) × (edited 1 s (map edit_value l.edits) ≡ edited l.place t (map edit_value (drop l.edit-index l.edits))) × StandsFor t now.now
+    × IsTrue now.in_transaction × KeepsRest old now)

@@ -13,7 +13,8 @@ use Rattle.streetmap_tables.proofs.edits.edit_run.Goals as goal
 pub returns-in_err-insert_all-clause-runs : goal.returns-in_err-insert_all-clause-runs
 returns-in_err-insert_all-clause-runs g c =
     runs_err c.in_err-insert_all.ensures c.from_residual.ensures.1 (λ clean. record {
-      edits = λ limit inside s represented was. handed_on _ _ _ _ c.from_residual.ensures.1 ((c.in_err-insert_all.ensures.does clean).edits limit inside s represented was);
+      edits = λ limit inside s represented was. handed_on _ _ _ _ c.from_residual.ensures.1
+          ((c.in_err-insert_all.ensures.does clean).edits limit inside s represented was);
       knows = first_of (search rules, grind (arith, common_steps));
     })
 
@@ -39,7 +40,8 @@ returns-clause-runs g c =
           let early : HasCleanDisk b = omega (arith, clean, c.edit_in_turn.ensures.runs.survives.clean) in
           let it = (c.in_ok-insert_all.ensures.does early).edits limit inside s represented was in
           let left = subst (MadeOrLeft s es b) c.if-branch.false it.0 in
-          answered_after a b e s es c.edit_in_turn.result it.2 (c.edit_in_turn.ensures.runs.does clean (c.insert_all.ensures.survives.limit ∙ limit) it.1 s left);
+          answered_after a b e s es c.edit_in_turn.result it.2 (c.edit_in_turn.ensures.runs.does clean (c.insert_all.ensures.survives.limit ∙ limit) it.1 s
+          left);
       knows = λ limit inside s represented was.
           let early : HasCleanDisk (state g.S.Store c.insert_all.new.tx.conn.now) = omega (arith, clean, c.edit_in_turn.ensures.runs.survives.clean) in
           on_any c.edit_in_turn.result _ ((c.in_ok-insert_all.ensures.does early).knows limit inside s represented was);

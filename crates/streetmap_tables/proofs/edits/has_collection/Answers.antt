@@ -14,4 +14,5 @@ returns g c =
 
 pub returns-in_err-rows : goal.returns-in_err-rows
 returns-in_err-rows g c =
-    runs_err (runs_of c.in_err-rows.ensures) c.from_residual.ensures.1 (λ clean limit s represented. handed_on _ _ _ _ c.from_residual.ensures.1 ((c.in_err-rows.ensures.does clean).rows limit s represented))
+    runs_err (runs_of c.in_err-rows.ensures) c.from_residual.ensures.1 (λ clean limit s represented.
+    handed_on _ _ _ _ c.from_residual.ensures.1 ((c.in_err-rows.ensures.does clean).rows limit s represented))

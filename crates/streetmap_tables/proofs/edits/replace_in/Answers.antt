@@ -10,13 +10,15 @@ use Rattle.streetmap_tables.specs.StoredFeatures.{WasPut}
 use Rattle.streetmap_rows.proofs.ResultCases.{handed_on}
 use Rattle.streetmap_tables.proofs.CallsInTransaction.{keeps, keeps_then, keeps_rest, rest_then, still_represented, answered_on}
 use Rattle.streetmap_tables.proofs.TimedFeature.{same_id}
-use Rattle.streetmap_tables.proofs.Deciding.{is_there, not_there, no_replace, is_missing, is_found, without, between, between_has, without_lacks, cuts, was_replaced}
+use Rattle.streetmap_tables.proofs.Deciding.{is_there, not_there, no_replace, is_missing, is_found, without, between, between_has, without_lacks, cuts}
+use Rattle.streetmap_tables.proofs.Deciding.{was_replaced}
 use Rattle.streetmap_rows.proofs.CallsInside.{runs_of, runs_so, runs_ok, runs_err, runs_both}
 use Rattle.streetmap_tables.proofs.edits.replace_in.Goals as goal
 
 pub returns-in_err-property : goal.returns-in_err-property
 returns-in_err-property g c =
-    runs_err c.in_err-property.ensures c.from_residual.ensures.1 (λ clean limit inside s represented. handed_on _ _ _ _ c.from_residual.ensures.1 (c.in_err-property.ensures.does clean limit s represented))
+    runs_err c.in_err-property.ensures c.from_residual.ensures.1 (λ clean limit inside s represented.
+    handed_on _ _ _ _ c.from_residual.ensures.1 (c.in_err-property.ensures.does clean limit s represented))
 
 pub returns-in_default : goal.returns-in_default
 returns-in_default g c =
@@ -24,8 +26,12 @@ returns-in_default g c =
     let a = state g.S.Store c.args.tx.now.conn.now in
     let b = state g.S.Store c.time_property.new.tx.conn.now in
     let first = c.in_ok-property.ensures.does clean limit s represented in
-    let reported : None ≡ option_map (λ (x : Collection). x.time) (get s.collections c.args.collection.now) = ap (option_map (option_map string_bytes)) (sym c.in_default.is) ∙ first.0 in
-    (no_replace s c.args.collection.now c.args.feature.now (not_there (get s.collections c.args.collection.now) reported), first.1.0.mode ∙ inside, keeps_rest a b first.1))
+    let reported : None ≡ option_map (λ (x : Collection). x.time) (get s.collections c.args.collection.now) =
+    ap (option_map (option_map string_bytes)) (sym c.in_default.is) ∙ first.0 in (
+      no_replace s c.args.collection.now c.args.feature.now (not_there (get s.collections c.args.collection.now) reported),
+      first.1.0.mode ∙ inside,
+      keeps_rest a b first.1,
+    ))
 
 pub returns-in_err-has_feature : goal.returns-in_err-has_feature
 returns-in_err-has_feature g c =
@@ -46,17 +52,22 @@ returns-then-not-branch g c =
     let e = state g.S.Store c.has_feature.new.tx.conn.now in
     let early : HasCleanDisk b = omega (arith, clean, c.has_feature.ensures.survives.clean) in
     let first = c.in_ok-property.ensures.does early limit s represented in
-    let reported : Some (option_map string_bytes c.in-Some.property) ≡ option_map (λ (x : Collection). x.time) (get s.collections c.args.collection.now) = ap (option_map (option_map string_bytes)) (sym c.in-Some.is) ∙ first.0 in
+    let reported : Some (option_map string_bytes c.in-Some.property) ≡ option_map (λ (x : Collection). x.time) (get s.collections c.args.collection.now) =
+    ap (option_map (option_map string_bytes)) (sym c.in-Some.is) ∙ first.0 in
     let col = is_there (get s.collections c.args.collection.now) (option_map string_bytes c.in-Some.property) reported in
     let mid = still_represented a b s first.1 represented in
     let second = c.in_ok-has_feature.ensures.does clean (c.time_property.ensures.survives.limit ∙ limit) s mid in
     let seen : false ≡ is_some (feature_at s (c.args.collection.now, c.id.result.now)) = search rules in
-    let held = seen ∙ ap (λ id. is_some (feature_at s (c.args.collection.now, id))) c.id.ensures in
-    (is_missing s c.args.collection.now c.args.feature.now col.0 col.1 held, second.1.0.mode ∙ first.1.0.mode ∙ inside, rest_then a b e (keeps_rest a b first.1) (keeps_rest b e second.1)))
+    let held = seen ∙ ap (λ id. is_some (feature_at s (c.args.collection.now, id))) c.id.ensures in (
+      is_missing s c.args.collection.now c.args.feature.now col.0 col.1 held,
+      second.1.0.mode ∙ first.1.0.mode ∙ inside,
+      rest_then a b e (keeps_rest a b first.1) (keeps_rest b e second.1),
+    ))
 
 pub returns-in_err-delete_feature : goal.returns-in_err-delete_feature
 returns-in_err-delete_feature g c =
-    runs_err (runs_both (runs_both c.in_ok-property.ensures c.in_ok-has_feature.ensures) (runs_of c.in_err-delete_feature.ensures)) c.from_residual-in_err-delete_feature.ensures.1 (λ clean limit inside s represented.
+    runs_err (runs_both (runs_both c.in_ok-property.ensures c.in_ok-has_feature.ensures) (runs_of c.in_err-delete_feature.ensures))
+    c.from_residual-in_err-delete_feature.ensures.1 (λ clean limit inside s represented.
     let a = state g.S.Store c.args.tx.now.conn.now in
     let b = state g.S.Store c.time_property.new.tx.conn.now in
     let e = state g.S.Store c.has_feature.new.tx.conn.now in
@@ -64,7 +75,8 @@ returns-in_err-delete_feature g c =
     let later : HasCleanDisk e = omega (arith, clean, c.delete_feature.ensures.survives.clean) in
     let early : HasCleanDisk b = omega (arith, later, c.has_feature.ensures.survives.clean) in
     let first = c.in_ok-property.ensures.does early limit s represented in
-    let reported : Some (option_map string_bytes c.in-Some.property) ≡ option_map (λ (x : Collection). x.time) (get s.collections c.args.collection.now) = ap (option_map (option_map string_bytes)) (sym c.in-Some.is) ∙ first.0 in
+    let reported : Some (option_map string_bytes c.in-Some.property) ≡ option_map (λ (x : Collection). x.time) (get s.collections c.args.collection.now) =
+    ap (option_map (option_map string_bytes)) (sym c.in-Some.is) ∙ first.0 in
     let col = is_there (get s.collections c.args.collection.now) (option_map string_bytes c.in-Some.property) reported in
     let mid = still_represented a b s first.1 represented in
     let second = c.in_ok-has_feature.ensures.does later (c.time_property.ensures.survives.limit ∙ limit) s mid in
@@ -72,15 +84,18 @@ returns-in_err-delete_feature g c =
     let held = seen ∙ ap (λ id. is_some (feature_at s (c.args.collection.now, id))) c.id.ensures in
     let old = is_found s c.args.collection.now c.args.feature.now col.0 col.1 held in
     let within : IsTrue e.in_transaction = second.1.0.mode ∙ first.1.0.mode ∙ inside in
-    let cut = rw c.id-2.ensures at c.in_err-delete_feature.ensures.does clean within (c.has_feature.ensures.survives.limit ∙ c.time_property.ensures.survives.limit ∙ limit) s in
+    let cut = rw c.id-2.ensures at c.in_err-delete_feature.ensures.does clean within (c.has_feature.ensures.survives.limit
+    ∙ c.time_property.ensures.survives.limit ∙ limit) s in
     handed_on _ _ _ _ c.from_residual-in_err-delete_feature.ensures.1 (
-      cut (between s c.args.collection.now c.args.feature.now col.0 col.1) (still_represented b e s second.1 mid) (cuts s c.args.collection.now c.args.feature.now col.0 col.1 old.0 old.1),
+      cut (between s c.args.collection.now c.args.feature.now col.0 col.1) (still_represented b e s second.1 mid)
+          (cuts s c.args.collection.now c.args.feature.now col.0 col.1 old.0 old.1),
       keeps_then a b d (keeps a b first.1) (keeps_then b e d (keeps b e second.1) (c.in_err-delete_feature.ensures.kept clean within)),
     ))
 
 pub returns : goal.returns
 returns g c =
-    runs_so (runs_both (runs_both (runs_both c.in_ok-property.ensures c.in_ok-has_feature.ensures) (runs_of c.in_ok-delete_feature.ensures)) (runs_of c.put_feature.ensures)) (λ clean limit inside s represented.
+    runs_so (runs_both (runs_both (runs_both c.in_ok-property.ensures c.in_ok-has_feature.ensures) (runs_of c.in_ok-delete_feature.ensures))
+    (runs_of c.put_feature.ensures)) (λ clean limit inside s represented.
     let a = state g.S.Store c.args.tx.now.conn.now in
     let b = state g.S.Store c.time_property.new.tx.conn.now in
     let e = state g.S.Store c.has_feature.new.tx.conn.now in
@@ -92,7 +107,8 @@ returns g c =
     let name = c.args.collection.now in
     let x = c.args.feature.now in
     let first = c.in_ok-property.ensures.does early limit s represented in
-    let reported : Some (option_map string_bytes c.in-Some.property) ≡ option_map (λ (x : Collection). x.time) (get s.collections c.args.collection.now) = ap (option_map (option_map string_bytes)) (sym c.in-Some.is) ∙ first.0 in
+    let reported : Some (option_map string_bytes c.in-Some.property) ≡ option_map (λ (x : Collection). x.time) (get s.collections c.args.collection.now) =
+    ap (option_map (option_map string_bytes)) (sym c.in-Some.is) ∙ first.0 in
     let col = is_there (get s.collections c.args.collection.now) (option_map string_bytes c.in-Some.property) reported in
     let mid = still_represented a b s first.1 represented in
     let second = c.in_ok-has_feature.ensures.does later (c.time_property.ensures.survives.limit ∙ limit) s mid in
@@ -100,9 +116,13 @@ returns g c =
     let held = seen ∙ ap (λ id. is_some (feature_at s (c.args.collection.now, id))) c.id.ensures in
     let old = is_found s name x col.0 col.1 held in
     let within : IsTrue e.in_transaction = second.1.0.mode ∙ first.1.0.mode ∙ inside in
-    let cut = rw c.id-2.ensures at c.in_ok-delete_feature.ensures.does last within (c.has_feature.ensures.survives.limit ∙ c.time_property.ensures.survives.limit ∙ limit) s in
+    let cut = rw c.id-2.ensures at c.in_ok-delete_feature.ensures.does last within (c.has_feature.ensures.survives.limit
+    ∙ c.time_property.ensures.survives.limit ∙ limit) s in
     let gone = cut (between s name x col.0 col.1) (still_represented b e s second.1 mid) (cuts s name x col.0 col.1 old.0 old.1) in
-    let put = (c.put_feature.ensures.does clean).puts (c.delete_feature.ensures.survives.limit ∙ c.has_feature.ensures.survives.limit ∙ c.time_property.ensures.survives.limit ∙ limit) (c.in_ok-delete_feature.ensures.inside last within)
-    (between s name x col.0 col.1) (without s name x col.0 col.1) gone.0 (between_has s name x col.0 col.1) (col.2 ∙ sym c.as_deref.ensures.value) (without_lacks s name x col.0 col.1) in
+    let put = (c.put_feature.ensures.does clean).puts (c.delete_feature.ensures.survives.limit ∙ c.has_feature.ensures.survives.limit
+    ∙ c.time_property.ensures.survives.limit ∙ limit) (c.in_ok-delete_feature.ensures.inside last within)
+    (between s name x col.0 col.1) (without s name x col.0 col.1) gone.0 (between_has s name x col.0 col.1) (col.2 ∙ sym c.as_deref.ensures.value)
+    (without_lacks s name x col.0 col.1) in
     answered_on a d f (WasPut (between s name x col.0 col.1) name (without s name x col.0 col.1) x f) (Answered s (edit.replace name x) f) c.put_feature.result
-    (was_replaced s name x col.0 col.1 f old.0 old.1 (λ y is. same_id col.0.time x y is)) (rest_then a b d (keeps_rest a b first.1) (rest_then b e d (keeps_rest b e second.1) (c.in_ok-delete_feature.ensures.kept last within, gone.1))) put)
+    (was_replaced s name x col.0 col.1 f old.0 old.1 (λ y is. same_id col.0.time x y is))
+    (rest_then a b d (keeps_rest a b first.1) (rest_then b e d (keeps_rest b e second.1) (c.in_ok-delete_feature.ensures.kept last within, gone.1))) put)

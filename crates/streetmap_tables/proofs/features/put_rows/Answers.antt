@@ -31,12 +31,14 @@ returns-in_err-put_row-clause-runs g c = record {
       let early : HasCleanDisk (state g.S.Store c.rows.tx.conn.now) = omega (arith, clean, c.put_row.ensures.runs.survives.clean) in
       let r = inv.3 early limit inside s t well represented lacks in
       let rest = drop_more c.args.rows.now i row (omega arith) ∙ ap (λ x. x ∷ drop (i + 1) c.args.rows.now) (sym c.row-item.is) in
-      handed_on _ _ _ _ c.from_residual.ensures.1 (c.in_err-put_row.ensures.runs.does clean (inv.1.limit ∙ limit) (inv.2 early inside).0 s r.0 (drop (i + 1) c.args.rows.now) well r.1 (subst (λ l. Lacks l s r.0) rest r.2));
+      handed_on _ _ _ _ c.from_residual.ensures.1 (c.in_err-put_row.ensures.runs.does clean (inv.1.limit ∙ limit) (inv.2 early inside).0 s r.0
+      (drop (i + 1) c.args.rows.now) well r.1 (subst (λ l. Lacks l s r.0) rest r.2));
   inside = first_of (search rules, grind (arith, common_steps));
   kept = first_of (search rules, grind (arith, common_steps));
   reason = λ clean.
       handed_in _ (state g.S.Store c.args.tx.now.conn.now) (state g.S.Store c.put_row.new.tx.conn.now) _ c.from_residual.ensures.1
-      (reason_in_later (state g.S.Store c.args.tx.now.conn.now) (state g.S.Store c.rows.tx.conn.now) (state g.S.Store c.put_row.new.tx.conn.now) _ _ _ c.rows.invariant.1 c.put_row.ensures.runs.survives clean (c.in_err-put_row.ensures.runs.reason clean));
+      (reason_in_later (state g.S.Store c.args.tx.now.conn.now) (state g.S.Store c.rows.tx.conn.now) (state g.S.Store c.put_row.new.tx.conn.now) _ _ _
+      c.rows.invariant.1 c.put_row.ensures.runs.survives clean (c.in_err-put_row.ensures.runs.reason clean));
   survives = first_of (search rules, grind (arith, common_steps));
 }
 
@@ -58,12 +60,14 @@ rows-preserved g c =
           let early : HasCleanDisk mid = omega (arith, clean, c.put_row.ensures.runs.survives.clean) in
           let r = inv.3 early limit inside s t well represented lacks in
           let rest = drop_more c.args.rows.now i row (omega arith) ∙ ap (λ x. x ∷ drop (i + 1) c.args.rows.now) (sym c.row-item.is) in
-          let e = c.in_ok-put_row.ensures.runs.does clean (inv.1.limit ∙ limit) (inv.2 early inside).0 s r.0 (drop (i + 1) c.args.rows.now) well r.1 (subst (λ l. Lacks l s r.0) rest r.2) in
+          let e = c.in_ok-put_row.ensures.runs.does clean (inv.1.limit ∙ limit) (inv.2 early inside).0 s r.0 (drop (i + 1) c.args.rows.now) well r.1
+          (subst (λ l. Lacks l s r.0) rest r.2) in
           (e.0.0, e.0.1, e.0.2, elsewhere_then old.now mid.now new.now r.3 e.1)),
       λ clean inside last each.
           let early : HasCleanDisk mid = omega (arith, clean, c.put_row.ensures.runs.survives.clean) in
           let rest = drop_more c.args.rows.now i row (omega arith) ∙ ap (λ x. x ∷ drop (i + 1) c.args.rows.now) (sym c.row-item.is) in
-          inv.4 early inside last (subst (λ l. PutsEach g.S.Store l c.rows.tx.conn.now last) (sym rest) (c.put_row.new.tx.conn.now, c.in_ok-put_row.ensures.ran clean (inv.2 early inside).0, each)),
+          inv.4 early inside last (subst (λ l. PutsEach g.S.Store l c.rows.tx.conn.now last) (sym rest)
+          (c.put_row.new.tx.conn.now, c.in_ok-put_row.ensures.ran clean (inv.2 early inside).0, each)),
     )
 
 pub returns-clause-runs : goal.returns-clause-runs
@@ -81,4 +85,5 @@ returns-clause-runs g c = record {
 
 pub returns-clause-ran : goal.returns-clause-ran
 returns-clause-ran g c clean inside =
-    c.rows.invariant.4 clean inside c.rows.tx.conn.now (subst (λ l. PutsEach g.S.Store l c.rows.tx.conn.now c.rows.tx.conn.now) (sym (drop_of_length-le c.args.rows.now (omega arith))) refl)
+    c.rows.invariant.4 clean inside c.rows.tx.conn.now (subst (λ l. PutsEach g.S.Store l c.rows.tx.conn.now c.rows.tx.conn.now)
+    (sym (drop_of_length-le c.args.rows.now (omega arith))) refl)

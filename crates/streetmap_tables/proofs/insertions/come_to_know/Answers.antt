@@ -7,7 +7,8 @@ use Rattle.streetmap_tables.proofs.insertions.come_to_know.Goals as goal
 
 pub returns-in_err-known : goal.returns-in_err-known
 returns-in_err-known g c =
-    runs_err c.in_err-known.ensures c.from_residual.ensures.1 (λ clean limit inside s represented was. handed_on _ _ _ _ c.from_residual.ensures.1 (c.in_err-known.ensures.does clean limit s represented))
+    runs_err c.in_err-known.ensures c.from_residual.ensures.1 (λ clean limit inside s represented was.
+    handed_on _ _ _ _ c.from_residual.ensures.1 (c.in_err-known.ensures.does clean limit s represented))
 
 pub returns : goal.returns
 returns g c =

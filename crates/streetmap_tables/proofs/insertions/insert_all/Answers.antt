@@ -15,7 +15,8 @@ use Rattle.streetmap_tables.proofs.insertions.insert_all.Goals as goal
 pub returns-in_err-come_to_know : goal.returns-in_err-come_to_know
 returns-in_err-come_to_know g c =
     runs_err c.in_err-come_to_know.ensures c.from_residual.ensures.1 (λ clean. record {
-      edits = λ limit inside s represented was. handed_on _ _ _ _ c.from_residual.ensures.1 (c.in_err-come_to_know.ensures.does clean limit inside s represented was);
+      edits = λ limit inside s represented was. handed_on _ _ _ _ c.from_residual.ensures.1
+          (c.in_err-come_to_know.ensures.does clean limit inside s represented was);
       knows = first_of (search rules, grind (arith, common_steps));
     })
 
@@ -31,10 +32,13 @@ returns-in-Some-known g c =
           let k = c.in_ok-come_to_know.ensures.does early limit inside s represented was in
           let named : string_bytes it.id ≡ c.in-Some.collection.now = rw c.in-Some-known.is at k.0 in
           let has : HasCollection (string_bytes it.id) (option_map string_bytes it.property) s = rw c.in-Some-known.is at k.1 in
-          let here : HasCollection c.in-Some.collection.now (option_copied c.as_deref.result) s = (has.0, ap (get s.collections) (sym named) ∙ has.1, has.2 ∙ sym c.as_deref.ensures.value) in
-          made_on a b e s (map edit_value c.args.edits.now) c.insert_under.result k.4 (c.insert_under.ensures.does clean (c.come_to_know.ensures.survives.limit ∙ limit) k.3 s k.2 here);
+          let here : HasCollection c.in-Some.collection.now (option_copied c.as_deref.result) s =
+          (has.0, ap (get s.collections) (sym named) ∙ has.1, has.2 ∙ sym c.as_deref.ensures.value) in
+          made_on a b e s (map edit_value c.args.edits.now) c.insert_under.result k.4 (c.insert_under.ensures.does clean
+          (c.come_to_know.ensures.survives.limit ∙ limit) k.3 s k.2 here);
       knows = λ limit inside s represented was.
           let early : HasCleanDisk (state g.S.Store c.come_to_know.new.tx.conn.now) = omega (arith, clean, c.insert_under.ensures.survives.clean) in
-          let known : IsKnown (Some c.in-Some-known.it) s = rw c.in-Some-known.is at (c.in_ok-come_to_know.ensures.does early limit inside s represented was).1 in
+          let known : IsKnown (Some c.in-Some-known.it) s = rw c.in-Some-known.is at (c.in_ok-come_to_know.ensures.does early limit inside s represented was).1
+          in
           on_any c.insert_under.result _ known;
     })

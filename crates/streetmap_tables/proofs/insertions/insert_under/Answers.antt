@@ -11,8 +11,10 @@ use Rattle.streetmap_tables.proofs.insertions.insert_under.Goals as goal
 
 pub insert_features-requires : goal.insert_features-requires
 insert_features-requires g c =
-    let are : AreInsertions c.args.collection.now (option_copied c.args.property) (map edit_value c.args.edits.now) c.in-Some.rows.items = rw c.in-Some.is at c.in-Ok.ensures in
-    ap length c.deref.ensures.value ∙ sym (as_many c.args.collection.now (option_copied c.args.property) _ _ are) ∙ length-map c.args.edits.now edit_value ∙ c.requires
+    let are : AreInsertions c.args.collection.now (option_copied c.args.property) (map edit_value c.args.edits.now) c.in-Some.rows.items =
+    rw c.in-Some.is at c.in-Ok.ensures in
+    ap length c.deref.ensures.value ∙ sym (as_many c.args.collection.now (option_copied c.args.property) _ _ are) ∙ length-map c.args.edits.now edit_value
+    ∙ c.requires
 
 pub returns-in-Some : goal.returns-in-Some
 returns-in-Some g c =
@@ -23,5 +25,8 @@ returns-in-Some g c =
     let property = option_copied c.args.property in
     let es = map edit_value c.args.edits.now in
     let are : AreInsertions name property es c.in-Some.rows.items = rw c.in-Some.is at c.in-Ok.ensures in
-    let puts = c.insert_features.ensures.does clean inside (entries name property es _ are) (subst (λ rows. AreRowsOf (entries name property es _ are) rows) (sym c.deref.ensures.value) (rows_are name property es _ are)) limit s here.0 represented here.1 in
-    made_or_left name property es _ are old new s here.0 here.1 here.2 represented c.insert_features.result puts (c.insert_features.ensures.inside clean inside) (c.insert_features.ensures.kept clean inside))
+    let puts = c.insert_features.ensures.does clean inside (entries name property es _ are)
+    (subst (λ rows. AreRowsOf (entries name property es _ are) rows) (sym c.deref.ensures.value) (rows_are name property es _ are)) limit s here.0
+    represented here.1 in
+    made_or_left name property es _ are old new s here.0 here.1 here.2 represented c.insert_features.result puts (c.insert_features.ensures.inside clean inside)
+    (c.insert_features.ensures.kept clean inside))

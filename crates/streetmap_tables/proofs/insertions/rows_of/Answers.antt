@@ -15,5 +15,7 @@ edits-preserved c =
     let row = c.in-Some.row in
     let is : IsInsertion name property (edit_value edit) row = rw c.in-Some.is at c.in_ok-row.ensures in
     let es : map edit_value (take (i + 1) c.args.edits.now) ≡ map edit_value (take i c.args.edits.now) ++ edit_value edit ∷ [] =
-    ap (map edit_value) (take_more c.args.edits.now i edit (omega arith) ∙ ap (λ x. take i c.args.edits.now ++ x ∷ []) (sym c.edit-item.is)) ∙ map-append edit_value (take i c.args.edits.now) (edit ∷ []) in
-    subst₂ (AreInsertions name property) (sym es) (sym c.in_ok-push-in-Some.ensures.items) (one_more name property _ c.edits.rows.items (edit_value edit) row c.edits.invariant is)
+    ap (map edit_value) (take_more c.args.edits.now i edit (omega arith) ∙ ap (λ x. take i c.args.edits.now ++ x ∷ []) (sym c.edit-item.is))
+    ∙ map-append edit_value (take i c.args.edits.now) (edit ∷ []) in
+    subst₂ (AreInsertions name property) (sym es) (sym c.in_ok-push-in-Some.ensures.items)
+    (one_more name property _ c.edits.rows.items (edit_value edit) row c.edits.invariant is)

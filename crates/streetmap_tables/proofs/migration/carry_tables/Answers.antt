@@ -11,8 +11,13 @@ pub returns-in-Ok-clause-carries : goal.returns-in-Ok-clause-carries
 returns-in-Ok-clause-carries g c clean s rests =
     let new = state g.S.Store c.carry_alone.new.conn in
     let store = c.carry_alone.new.conn.store in
-    let it = c.in-Ok.ensures.carries clean s rests in
-    (it.0, it.1, may_leave_it new s it.1 (g.met.S.Store.stays store it.1.live), leaves_only new s it.1 (λ trees may. g.met.S.Store.settled store trees it.1.live may))
+    let it = c.in-Ok.ensures.carries clean s rests in (
+      it.0,
+      it.1,
+      may_leave_it new s it.1 (g.met.S.Store.stays store it.1.live),
+      leaves_only new s it.1
+          (λ trees may. g.met.S.Store.settled store trees it.1.live may),
+    )
 
 pub returns-in-Err-clause-carries : goal.returns-in-Err-clause-carries
 returns-in-Err-clause-carries g c clean s rests =
@@ -23,7 +28,8 @@ returns-in-Err-clause-carries g c clean s rests =
     let after = c.report.new.conn.store in
     let early = clean_back mid new _ c.report.ensures.survives clean in
     let same = same_settled old mid new (c.in-Err.ensures.same early) (c.report.ensures.kept clean) c.report.ensures.settled rests.settled in
-    refused_old s old new c.report.result (c.report.ensures.reported clean old.now.schema (c.in-Err.ensures.carries early s rests).0) (λ live. old_same old new s rests (same live) (c.report.ensures.survives.limit ∙ c.carry_alone.ensures.survives.limit) live)
+    refused_old s old new c.report.result (c.report.ensures.reported clean old.now.schema (c.in-Err.ensures.carries early s rests).0)
+    (λ live. old_same old new s rests (same live) (c.report.ensures.survives.limit ∙ c.carry_alone.ensures.survives.limit) live)
     (λ memory.
     let live = c.report.ensures.live clean memory in (
       live,

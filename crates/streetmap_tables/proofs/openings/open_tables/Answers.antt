@@ -14,7 +14,8 @@ pub returns-in-Ok-Some-clause-opens : goal.returns-in-Ok-Some-clause-opens
 returns-in-Ok-Some-clause-opens g c clean s rests = rw c.in-Ok-Some.field-0-is at (c.in-Ok-Some.ensures.adopts clean s rests)
 
 pub returns-in-Ok-Some-clause-carries : goal.returns-in-Ok-Some-clause-carries
-returns-in-Ok-Some-clause-carries g c clean s rests = absurd (never_counted (state g.S.Store c.args.conn.now) s rests c.in-Ok-Some.count (rw c.in-Ok-Some.field-0-is at (c.in-Ok-Some.ensures.reports clean)))
+returns-in-Ok-Some-clause-carries g c clean s rests = absurd (never_counted (state g.S.Store c.args.conn.now) s rests c.in-Ok-Some.count
+    (rw c.in-Ok-Some.field-0-is at (c.in-Ok-Some.ensures.reports clean)))
 
 pub returns-in-Err-clause-carries : goal.returns-in-Err-clause-carries
 returns-in-Err-clause-carries g c clean s rests =
@@ -27,8 +28,10 @@ returns-in-Err-clause-carries g c clean s rests =
     let same = c.in-Err.ensures.same clean rests.settled live in (
       live,
       (
-        leaves_same old new same.1 (λ trees may. g.met.S.Store.settled c.adopt_tables.new.conn.store trees live may) (g.met.S.Store.stays c.args.conn.now.store rests.live),
-        leaves_same new old (sym same.1) (λ trees may. g.met.S.Store.settled c.args.conn.now.store trees rests.live may) (g.met.S.Store.stays c.adopt_tables.new.conn.store live),
+        leaves_same old new same.1 (λ trees may. g.met.S.Store.settled c.adopt_tables.new.conn.store trees live may)
+            (g.met.S.Store.stays c.args.conn.now.store rests.live),
+        leaves_same new old (sym same.1) (λ trees may. g.met.S.Store.settled c.args.conn.now.store trees rests.live may)
+            (g.met.S.Store.stays c.adopt_tables.new.conn.store live),
       ),
     ))
 
@@ -41,10 +44,13 @@ returns-in-Ok-None-clause-carries g c clean s rests =
     let live : IsTrue mid.is_open = c.in-Ok-None.ensures.live early in
     let same = c.in-Ok-None.ensures.same early rests.settled live in
     let leaves : LeavesTheSame old mid = (
-      leaves_same old mid same.1 (λ trees may. g.met.S.Store.settled c.adopt_tables.new.conn.store trees live may) (g.met.S.Store.stays c.args.conn.now.store rests.live),
-      leaves_same mid old (sym same.1) (λ trees may. g.met.S.Store.settled c.args.conn.now.store trees rests.live may) (g.met.S.Store.stays c.adopt_tables.new.conn.store live),
+      leaves_same old mid same.1 (λ trees may. g.met.S.Store.settled c.adopt_tables.new.conn.store trees live may)
+          (g.met.S.Store.stays c.args.conn.now.store rests.live),
+      leaves_same mid old (sym same.1) (λ trees may. g.met.S.Store.settled c.args.conn.now.store trees rests.live may)
+          (g.met.S.Store.stays c.adopt_tables.new.conn.store live),
     ) in
-    carries_on s old mid new c.carry_tables.result same.0 leaves (c.carry_tables.ensures.carries clean s (old_same old mid s rests same c.adopt_tables.ensures.survives.limit live))
+    carries_on s old mid new c.carry_tables.result same.0 leaves (c.carry_tables.ensures.carries clean s
+    (old_same old mid s rests same c.adopt_tables.ensures.survives.limit live))
 
 pub returns-in-Ok-None-clause-elsewhere : goal.returns-in-Ok-None-clause-elsewhere
 returns-in-Ok-None-clause-elsewhere g c clean s rests opened =
@@ -54,7 +60,8 @@ returns-in-Ok-None-clause-elsewhere g c clean s rests opened =
     let early : HasCleanDisk mid = omega (arith, clean, c.carry_tables.ensures.survives.clean) in
     let live : IsTrue mid.is_open = c.in-Ok-None.ensures.live early in
     let same = c.in-Ok-None.ensures.same early rests.settled live in
-    subst (λ (d : Database). KeepsOtherTables d new.now) same.0 (c.carry_tables.ensures.elsewhere clean s (old_same old mid s rests same c.adopt_tables.ensures.survives.limit live) opened)
+    subst (λ (d : Database). KeepsOtherTables d new.now) same.0 (c.carry_tables.ensures.elsewhere clean s
+    (old_same old mid s rests same c.adopt_tables.ensures.survives.limit live) opened)
 
 pub returns-in-Ok-None-clause-crash : goal.returns-in-Ok-None-clause-crash
 returns-in-Ok-None-clause-crash g c clean s rests trees may =
@@ -76,4 +83,5 @@ returns-in-Ok-None-clause-carried g c clean =
     let live : IsTrue mid.is_open = c.in-Ok-None.ensures.live early in
     let was : IsTrue old.is_open = reported_open old (Some (pos 1)) (rw c.in-Ok-None.field-0-is at (c.in-Ok-None.ensures.reports early)) in
     let same = c.in-Ok-None.ensures.same early (c.is_autocommit-idle.ensures.settled (search rules) was) live in
-    if_carried g.S.Store c.adopt_tables.new.conn c.args.conn.now c.carry_tables.new.conn c.carry_tables.result same.0 c.adopt_tables.ensures.survives.limit was (c.carry_tables.ensures.carried clean)
+    if_carried g.S.Store c.adopt_tables.new.conn c.args.conn.now c.carry_tables.new.conn c.carry_tables.result same.0 c.adopt_tables.ensures.survives.limit was
+    (c.carry_tables.ensures.carried clean)

@@ -11,7 +11,8 @@ pub returns-clause-runs : goal.returns-clause-runs
 returns-clause-runs g c =
     let run = c.in_ok-execute.ensures in
     ran_inside _ _ run.same_reference run.survives _ run.runs (λ clean. record {
-      dropped = λ inside name table text can. dropped_by c.args.sql.now name text (state g.S.Store c.args.tx.now.conn.now) (state g.S.Store c.execute.new.self.conn.now) table can _ (c.in_ok-execute.ensures.runs clean inside).0;
+      dropped = λ inside name table text can. dropped_by c.args.sql.now name text (state g.S.Store c.args.tx.now.conn.now)
+          (state g.S.Store c.execute.new.self.conn.now) table can _ (c.in_ok-execute.ensures.runs clean inside).0;
       reported = first_of (search rules, grind (arith, common_steps));
     })
 
@@ -23,7 +24,8 @@ returns-in_err-execute-clause-runs g c =
       reported = λ inside name table text can apart sound.
           let e = c.in_err-execute.field-0.0 in
           let handed = is_handed c.from_residual.result e c.from_residual.ensures.1 in
-          rw handed (reported_dropped c.args.sql.now name text (state g.S.Store c.args.tx.now.conn.now) (state g.S.Store c.execute.new.self.conn.now) table can apart sound e (c.in_err-execute.ensures.runs clean inside));
+          rw handed (reported_dropped c.args.sql.now name text (state g.S.Store c.args.tx.now.conn.now) (state g.S.Store c.execute.new.self.conn.now) table can
+          apart sound e (c.in_err-execute.ensures.runs clean inside));
     })
 
 pub returns-clause-ran : goal.returns-clause-ran

@@ -12,7 +12,8 @@ use Rattle.streetmap_tables.proofs.times.time_property.Goals as goal
 
 pub returns-in_err-rows : goal.returns-in_err-rows
 returns-in_err-rows g c =
-    runs_err (runs_of c.in_err-rows.ensures) c.from_residual.ensures.1 (λ clean limit s represented. handed_on _ _ _ _ c.from_residual.ensures.1 ((c.in_err-rows.ensures.does clean).rows limit s represented))
+    runs_err (runs_of c.in_err-rows.ensures) c.from_residual.ensures.1 (λ clean limit s represented.
+    handed_on _ _ _ _ c.from_residual.ensures.1 ((c.in_err-rows.ensures.does clean).rows limit s represented))
 
 pub returns : goal.returns
 returns g c =
@@ -29,7 +30,11 @@ returns-in_err-time g c = record {
       let r = (c.in_ok-rows.ensures.does clean).rows limit s represented in
       let k = the_row collection_view (get s.collections c.args.collection.now) c.deref.result.now c.in-Some.row.now (search rules) c.in-Some.ensures.value in
       let reported = c.in_err-time.ensures.reads c.args.collection.now k.0 k.2 (represented.readable.collections c.args.collection.now k.0 k.1) in
-      handed_on _ _ _ _ c.from_residual-in_err-time.ensures.1 (ap is_of_store reported, keeps (state g.S.Store c.args.tx.now.conn.now) (state g.S.Store c.collection_rows.new.tx.conn.now) r.1);
+      handed_on _ _ _ _ c.from_residual-in_err-time.ensures.1 (
+        ap is_of_store reported,
+        keeps (state g.S.Store c.args.tx.now.conn.now)
+            (state g.S.Store c.collection_rows.new.tx.conn.now) r.1,
+      );
   reason = first_of (search rules, grind (arith, common_steps));
   survives = first_of (search rules, grind (arith, common_steps));
 }

@@ -28,7 +28,8 @@ returns-in-Ok-None g c = read_after c.loop-before.invariant.read c.in-Ok-None.en
     none_some kept.0 (ap (option_map keyed_batch) (sym c.in-Ok-None.field-0-is) ∙ (is ∙ kept.1)))
 
 pub returns-in-Err-accepted : goal.returns-in-Err-accepted
-returns-in-Err-accepted g c = read_failed (read_then {Both = λ s found. Unit {0}} c.loop-before.invariant.read c.in-Err-accepted.ensures (λ s found e so is. tt))
+returns-in-Err-accepted g c = read_failed (read_then {Both = λ s found. Unit {0}} c.loop-before.invariant.read c.in-Err-accepted.ensures
+    (λ s found e so is. tt))
 
 -- the loop went as far as there are batches, or as far as was requested
 at_end : (count after limit before far last : ℕ) → far ≡ min (after + limit) 18446744073709551615 → last ≡ min count far → last ≤ before → count < 2 ^ 64
@@ -44,15 +45,19 @@ pushed old new kept ok e is = e ∙ ap (λ (t : Bool). if t then old ++ kept ∷
 
 pub returns-then-bytes-room : goal.returns-then-bytes-room
 returns-then-bytes-room g c = read_after c.loop-before.invariant.read c.in-Ok-Some.ensures (λ s e so is.
-    read_full s c.args.after c.args.limit c.in-Ok.count c.loop-before.before c.loop-before.room c.loop-before.found.items c.push.new.self.items c.in-Ok-Some.kept c.len-bytes.result
-    so (pushed _ _ c.in-Ok-Some.kept _ c.push.ensures.items c.if-is_err.ensures.negation) (c.len-bytes.ensures ∙ c.in-Ok-Some.kept.text.ok.0) (omega arith) (omega arith)
+    read_full s c.args.after c.args.limit c.in-Ok.count c.loop-before.before c.loop-before.room c.loop-before.found.items c.push.new.self.items
+    c.in-Ok-Some.kept c.len-bytes.result
+    so (pushed _ _ c.in-Ok-Some.kept _ c.push.ensures.items c.if-is_err.ensures.negation) (c.len-bytes.ensures ∙ c.in-Ok-Some.kept.text.ok.0) (omega arith)
+    (omega arith)
     (sym (ap (option_map keyed_batch) (sym c.in-Ok-Some.field-0-is) ∙ is)) c.if-bytes-room.true)
 
 pub loop-before-preserved : goal.loop-before-preserved
 loop-before-preserved g c = record {
   read = read_after c.loop-before.invariant.read c.in-Ok-Some.ensures (λ s e so is.
-      read_further s c.args.after c.args.limit c.in-Ok.count c.loop-before.before c.loop-before.room c.loop-before.found.items c.push.new.self.items c.in-Ok-Some.kept c.len-bytes.result
-      so (pushed _ _ c.in-Ok-Some.kept _ c.push.ensures.items c.if-is_err.ensures.negation) (c.len-bytes.ensures ∙ c.in-Ok-Some.kept.text.ok.0) (omega arith) (omega arith)
+      read_further s c.args.after c.args.limit c.in-Ok.count c.loop-before.before c.loop-before.room c.loop-before.found.items c.push.new.self.items
+      c.in-Ok-Some.kept c.len-bytes.result
+      so (pushed _ _ c.in-Ok-Some.kept _ c.push.ensures.items c.if-is_err.ensures.negation) (c.len-bytes.ensures ∙ c.in-Ok-Some.kept.text.ok.0) (omega arith)
+      (omega arith)
       (sym (ap (option_map keyed_batch) (sym c.in-Ok-Some.field-0-is) ∙ is)) c.if-bytes-room.false);
 }
 

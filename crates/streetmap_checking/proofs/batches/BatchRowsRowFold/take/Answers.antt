@@ -18,7 +18,8 @@ returns-then-not-follows c = λ start rows held.
     let key : c.as_str.result.now ≡ string_bytes c.in_ok-batch.batch.key = search rules in
     let last : option_copied c.as_deref.result ≡ option_map string_bytes c.args.self.now.last = search rules in
     batch_not_after rows c.args.row.now held.are (string_bytes c.in_ok-batch.batch.key) it.0 it.1
-    (λ less. absurd (let on = sym off ∙ c.follows.ensures.1 (subst (λ l. ComesAfterLast l c.as_str.result.now) (sym (last ∙ held.last)) (subst (ComesAfterLast (last_key held.are.entries)) (sym key) less)) in cc))
+    (λ less. absurd (let on = sym off ∙ c.follows.ensures.1 (subst (λ l. ComesAfterLast l c.as_str.result.now) (sym (last ∙ held.last))
+    (subst (ComesAfterLast (last_key held.are.entries)) (sym key) less)) in cc))
 
 pub returns : goal.returns
 unfolding grows
@@ -27,9 +28,11 @@ returns c = λ start rows held.
     let it = c.in_ok-batch.ensures in
     let key : c.as_str.result.now ≡ string_bytes c.in_ok-batch.batch.key = search rules in
     let last : option_copied c.as_deref.result ≡ option_map string_bytes c.args.self.now.last = search rules in
-    let less = subst (ComesAfterLast (last_key held.are.entries)) key (subst (λ l. ComesAfterLast l c.as_str.result.now) (last ∙ held.last) (c.follows.ensures.0 on)) in
+    let less = subst (ComesAfterLast (last_key held.are.entries)) key (subst (λ l. ComesAfterLast l c.as_str.result.now) (last ∙ held.last)
+    (c.follows.ensures.0 on)) in
     record {
       are = grows batch_cells IsAccepted rows c.args.row.now held.are (string_bytes c.in_ok-batch.batch.key) it.0 it.1 it.3 less;
       last = sym (last_end held.are.entries (string_bytes c.in_ok-batch.batch.key, it.0));
-      serials = serials_more held.are.entries c.args.self.now.serials.items _ (string_bytes c.in_ok-batch.batch.key) it.0 c.in_ok-batch.batch.serial c.in_ok-push.ensures.items held.serials it.2;
+      serials = serials_more held.are.entries c.args.self.now.serials.items _ (string_bytes c.in_ok-batch.batch.key) it.0 c.in_ok-batch.batch.serial
+          c.in_ok-push.ensures.items held.serials it.2;
     }

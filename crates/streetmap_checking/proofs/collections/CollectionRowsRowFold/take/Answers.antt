@@ -10,7 +10,8 @@ use Rattle.streetmap_checking.proofs.Owning.{last_is, one_head_more}
 use Rattle.streetmap_checking.proofs.collections.CollectionRowsRowFold.take.Goals as goal
 
 pub returns-in_err-head : goal.returns-in_err-head
-returns-in_err-head c = λ start rows held. handed_on _ _ _ _ c.from_residual.ensures.1 (not_taken head_cells IsCollectionHead name_of_cells rows c.args.row.now held.0 _ c.in_err-head.ensures)
+returns-in_err-head c = λ start rows held. handed_on _ _ _ _ c.from_residual.ensures.1 (not_taken head_cells IsCollectionHead name_of_cells rows c.args.row.now
+    held.0 _ c.in_err-head.ensures)
 
 pub returns-then-not-follows : goal.returns-then-not-follows
 returns-then-not-follows c = λ start rows held.
@@ -19,7 +20,9 @@ returns-then-not-follows c = λ start rows held.
     let id : c.as_str.result.now ≡ string_bytes c.in_ok-head.head.id = search rules in
     let known_last : option_copied c.last_id.result ≡ last_key (known c.args.self.now.heads.items) = search rules in
     let last = last_is _ _ _ held.1 known_last in
-    not_after head_cells IsCollectionHead name_of_cells rows c.args.row.now held.0 _ _ head.1 (λ less. absurd (let on = sym off ∙ c.follows.ensures.1 (subst (λ l. ComesAfterLast l c.as_str.result.now) (sym last) (subst (ComesAfterLast (last_key held.0.entries)) (sym id) less)) in cc))
+    not_after head_cells IsCollectionHead name_of_cells rows c.args.row.now held.0 _ _ head.1
+    (λ less. absurd (let on = sym off ∙ c.follows.ensures.1 (subst (λ l. ComesAfterLast l c.as_str.result.now) (sym last)
+    (subst (ComesAfterLast (last_key held.0.entries)) (sym id) less)) in cc))
 
 pub returns : goal.returns
 unfolding grows
@@ -29,5 +32,7 @@ returns c = λ start rows held.
     let known_last : option_copied c.last_id.result ≡ last_key (known c.args.self.now.heads.items) = search rules in
     let last = last_is _ _ _ held.1 known_last in
     let on : c.follows.result ≡ true = search rules in
-    let less = subst (ComesAfterLast (last_key held.0.entries)) id (subst (λ l. ComesAfterLast l c.as_str.result.now) last (c.follows.ensures.0 on)) in
-    (grows head_cells IsCollectionHead rows c.args.row.now held.0 _ _ head.1 head.2 less, one_head_more _ _ c.in_ok-head.head held.0.entries head.0 c.in_ok-push.ensures.items held.1)
+    let less = subst (ComesAfterLast (last_key held.0.entries)) id (subst (λ l. ComesAfterLast l c.as_str.result.now) last (c.follows.ensures.0 on)) in (
+      grows head_cells IsCollectionHead rows c.args.row.now held.0 _ _ head.1 head.2 less,
+      one_head_more _ _ c.in_ok-head.head held.0.entries head.0 c.in_ok-push.ensures.items held.1,
+    )

@@ -11,7 +11,8 @@ use Rattle.streetmap_checking.proofs.features.FeatureRowsRowFold.take.Goals as g
 
 pub returns-in_err-feature : goal.returns-in_err-feature
 returns-in_err-feature c = λ start rows held. handed_on _ _ _ _ c.from_residual.ensures.1
-    (not_taken feature_view (IsPlaced (property_of start)) id_of_cells rows c.args.row.now held.are _ (no_feature_of _ _ c.args.row.now _ held.head c.in_err-feature.ensures))
+    (not_taken feature_view (IsPlaced (property_of start)) id_of_cells rows c.args.row.now held.are _
+    (no_feature_of _ _ c.args.row.now _ held.head c.in_err-feature.ensures))
 
 pub returns-then-not-follows : goal.returns-then-not-follows
 returns-then-not-follows c = λ start rows held.
@@ -20,7 +21,8 @@ returns-then-not-follows c = λ start rows held.
     let last : option_copied c.as_deref.result ≡ option_map string_bytes c.args.self.now.last = search rules in
     let id : c.id.result.now ≡ c.in_ok-feature.feature.id = search rules in
     not_after feature_view (IsPlaced (property_of start)) id_of_cells rows c.args.row.now held.are c.in_ok-feature.feature.id c.in_ok-feature.feature it.0
-    (λ less. absurd (let on = sym off ∙ c.follows.ensures.1 (subst (λ l. ComesAfterLast l c.id.result.now) (sym (last ∙ held.last)) (subst (ComesAfterLast (last_key held.are.entries)) (sym id) less)) in cc))
+    (λ less. absurd (let on = sym off ∙ c.follows.ensures.1 (subst (λ l. ComesAfterLast l c.id.result.now) (sym (last ∙ held.last))
+    (subst (ComesAfterLast (last_key held.are.entries)) (sym id) less)) in cc))
 
 pub returns-in_err-count : goal.returns-in_err-count
 returns-in_err-count c = λ start rows held. handed_on _ _ _ _ c.from_residual-in_err-count.ensures.1 (never _ _ c.in_err-count.ensures)
@@ -32,7 +34,8 @@ returns c = λ start rows held.
     let it = feature_of c.args.self.now.head start.head c.args.row.now c.in_ok-feature.feature held.head c.in_ok-feature.ensures in
     let last : option_copied c.as_deref.result ≡ option_map string_bytes c.args.self.now.last = search rules in
     let id : c.id.result.now ≡ c.in_ok-feature.feature.id = search rules in
-    let less = subst (ComesAfterLast (last_key held.are.entries)) id (subst (λ l. ComesAfterLast l c.id.result.now) (last ∙ held.last) (c.follows.ensures.0 on)) in
+    let less = subst (ComesAfterLast (last_key held.are.entries)) id (subst (λ l. ComesAfterLast l c.id.result.now) (last ∙ held.last) (c.follows.ensures.0 on))
+    in
     let named : string_bytes c.in_ok-last.last ≡ c.in_ok-feature.feature.id = search rules in
     let more : c.in_ok-count.count ≡ suc c.args.self.now.count = search rules in
     record {

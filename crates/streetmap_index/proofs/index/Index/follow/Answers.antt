@@ -21,7 +21,8 @@ loop-edit-preserved c = λ s t place done index.
     let i = c.loop-edit.edit-index in
     let e = c.edit-item.result in
     let so = c.loop-edit.invariant s t place done index in
-    let next = first_done so.1 so.0 t (edit_value e) (edit_values (drop (i + 1) es)) (subst (λ (l : List Edit). edited so.1 so.0 (edit_values l) ≡ Ok t) (turn es i e (omega arith) c.edit-item.is) so.2) in (
+    let next = first_done so.1 so.0 t (edit_value e) (edit_values (drop (i + 1) es)) (subst (λ (l : List Edit). edited so.1 so.0 (edit_values l) ≡ Ok t)
+    (turn es i e (omega arith) c.edit-item.is) so.2) in (
       next.0,
       so.1 + 1,
       next.2,
@@ -35,4 +36,5 @@ pub returns : goal.returns
 returns c = λ s t place done index.
     let es = c.args.edits.now in
     let so = c.loop-edit.invariant s t place done index in
-    subst (IsIndexOf c.loop-edit.self) (none_done so.1 so.0 t (subst (λ (l : List Edit). edited so.1 so.0 (edit_values l) ≡ Ok t) (drop_all c.loop-edit.edit-index es (omega arith)) so.2)) so.3
+    subst (IsIndexOf c.loop-edit.self) (none_done so.1 so.0 t (subst (λ (l : List Edit). edited so.1 so.0 (edit_values l) ≡ Ok t)
+    (drop_all c.loop-edit.edit-index es (omega arith)) so.2)) so.3

@@ -27,6 +27,7 @@ returns-in-Some c = λ s t done index.
 pub returns-in-None : goal.returns-in-None
 returns-in-None c = λ s t done index.
     rw c.get_mut.follows.holds-at-none (
-      still_known s t (edit_value c.args.edit.now) c.collection_of.result.now c.collection_of.ensures done c.args.self.now.known.entries index.0 (sym c.in-None.ensures.value),
+      still_known s t (edit_value c.args.edit.now) c.collection_of.result.now c.collection_of.ensures done c.args.self.now.known.entries index.0
+          (sym c.in-None.ensures.value),
       λ whole. absurd cc,
     )

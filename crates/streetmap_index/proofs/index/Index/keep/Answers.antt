@@ -15,7 +15,8 @@ returns-in-Ok-insert c = λ s index known.
     let fs = c.insert.new.self.entries in
     let own = subst (λ (k : Text). IsOutlinedIf c.args.outlined (get s.collections k)) (sym c.in-Ok.ensures.ok) known in (
       known_after es fs s s key says.updates.3 index.0 (λ other off. refl)
-          (λ o there. subst (λ (x : OutlinedCollection). IsOutlinedIf x (get s.collections key)) (same_Some c.args.outlined o (sym says.updates.1 ∙ there)) own),
+          (λ o there. subst (λ (x : OutlinedCollection). IsOutlinedIf x (get s.collections key)) (same_Some c.args.outlined o (sym says.updates.1 ∙ there))
+          own),
       λ whole. all_known_after es fs s s key says.updates.3 (λ other off. refl) (subst (λ o. IsSome o) (sym says.updates.1) refl) (index.1 whole),
     )
 

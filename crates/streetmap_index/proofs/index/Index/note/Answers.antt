@@ -17,7 +17,8 @@ loop-summary-preserved c = λ rest.
     let ss = c.args.summaries.now in
     let i = c.loop-summary.summary-index in
     let one = c.summary-item.result in
-    let here : IsNamed es one = subst (λ (k : Text). IsSome (known_under k es)) c.as_str.ensures.value (sym c.contains_key.ensures ∙ c.if-not-contains_key.false) in
+    let here : IsNamed es one = subst (λ (k : Text). IsSome (known_under k es)) c.as_str.ensures.value
+    (sym c.contains_key.ensures ∙ c.if-not-contains_key.false) in
     c.loop-summary.invariant (subst (AllByRecursion (IsNamed es)) (sym (turn ss i one (omega arith) c.summary-item.is)) (here, rest))
 
 pub returns : goal.returns
@@ -25,5 +26,6 @@ returns c = λ s reported index.
     let es = c.args.self.now.known.entries in
     let ss = c.args.summaries.now in (
       index.0,
-      λ whole. all_named es s ss reported (c.loop-summary.invariant (subst (AllByRecursion (IsNamed es)) (sym (drop_all c.loop-summary.summary-index ss (omega arith))) tt)),
+      λ whole. all_named es s ss reported (c.loop-summary.invariant (subst (AllByRecursion (IsNamed es))
+          (sym (drop_all c.loop-summary.summary-index ss (omega arith))) tt)),
     )

@@ -8,7 +8,14 @@ pub returns-then-self : goal.returns-then-self
 returns-then-self g c = read_so (read_beside c.collections_with.ensures refl) (λ s x e is. is e.1.0 (e.1.1 c.if-self.true))
 
 pub returns-in-Ok : goal.returns-in-Ok
-returns-in-Ok g c = read_over c.in-Ok.ensures (λ s e known seen. (seen.0, (seen.1, c.note.ensures s (ap summary_values c.as_slice.ensures.value ∙ seen.0) known)))
+returns-in-Ok g c = read_over c.in-Ok.ensures (λ s e known seen. (
+  seen.0,
+  (
+    seen.1,
+    c.note.ensures s (ap summary_values c.as_slice.ensures.value ∙ seen.0)
+        known,
+  ),
+))
 
 pub returns-in-Err : goal.returns-in-Err
 returns-in-Err g c = read_beside c.in-Err.ensures refl

@@ -14,5 +14,6 @@ returns-in_ok-outline_of-in-Ok c = λ d g known reported.
     let property = c.as_deref.ensures.value ∙ known.time in
     let reported_is = rw c.in-Ok.is at c.in_ok-time.ensures.reported in
     let time : time_of d.time f.properties ≡ Ok t = ap (λ p. time_of p f.properties) (sym property) ∙ reported_is in
-    let outline = subst (λ (x : FeatureValue). IsOutlineOf c.in_ok-outline_of-in-Ok.field-0 x) (reported_time d.time f g t time reported) c.in_ok-outline_of-in-Ok.ensures in
+    let outline = subst (λ (x : FeatureValue). IsOutlineOf c.in_ok-outline_of-in-Ok.field-0 x) (reported_time d.time f g t time reported)
+    c.in_ok-outline_of-in-Ok.ensures in
     on_ok_map c.put.result (λ are. record { title = known.title; time = known.time; outlines = are }) (c.put.ensures d.features g known.outlines outline)

@@ -20,8 +20,13 @@ returns-in-Err g c =
       writes = λ h s e.
           let before = rw c.in-Some.is at e.1 in
           let b = batch_value c.args.batch.now in
-          let after : IsFor W.contents W.reported W.is_kept c.complete.new.journal s = (says.reported before.0, λ reports. says.holds h s e.0 (before.1 reports)) in
-          writes_over model W.contents W.reported W.is_kept W.fails c.args.self.now (record c.args.self.now { keeper = c.complete.new.keeper; journal = Some c.complete.new.journal }) s b (Err c.in-Err.fault)
+          let after : IsFor W.contents W.reported W.is_kept c.complete.new.journal s = (
+            says.reported before.0,
+            λ reports.
+                says.holds h s e.0 (before.1 reports),
+          ) in
+          writes_over model W.contents W.reported W.is_kept W.fails c.args.self.now (record c.args.self.now
+          { keeper = c.complete.new.keeper; journal = Some c.complete.new.journal }) s b (Err c.in-Err.fault)
           (not_requested model c.args.self.now.keeper c.complete.new.keeper s b c.in-Err.fault (says.reads.stays h s e.0)) after;
     }
 
@@ -52,8 +57,10 @@ returns-in-Ok g c =
           let it = says.reads.stays was s e.0 in
           let before = rw c.in-Some.is at e.1 in
           let completed : IsFor W.contents W.reported W.is_kept mid s = (says.reported before.0, λ reports. says.holds was s e.0 (before.1 reports)) in
-          writes_over model W.contents W.reported W.is_kept W.fails c.args.self.now (record c.args.self.now { keeper = c.apply_and_note.new.keeper; journal = Some last }) s b c.apply_and_note.result
-          (writes_from model c.args.self.now.keeper c.complete.new.keeper c.apply_and_note.new.keeper s b c.apply_and_note.result (model.fails_later _ _ _ says.reads.calls.preserved noted.call.preserved) (noted.writes h s it))
+          writes_over model W.contents W.reported W.is_kept W.fails c.args.self.now (record c.args.self.now
+          { keeper = c.apply_and_note.new.keeper; journal = Some last }) s b c.apply_and_note.result
+          (writes_from model c.args.self.now.keeper c.complete.new.keeper c.apply_and_note.new.keeper s b c.apply_and_note.result
+          (model.fails_later _ _ _ says.reads.calls.preserved noted.call.preserved) (noted.writes h s it))
           (for_after W.contents W.reported W.is_kept s b c.apply_and_note.result mid last noted.untouched (noted.noted h s it completed) completed);
     }
 
@@ -72,6 +79,7 @@ returns-in-None g c =
         with_reply applies (ReachesUnless W.fails journal journal) c.apply.result (rw c.in-None.is tt) (of_reply applies c.apply.result says.applied),
       );
       call = call_over model W.contents W.reported W.is_kept W.fails says.call;
-      writes = λ h s e. writes_over model W.contents W.reported W.is_kept W.fails c.args.self.now (record c.args.self.now { keeper = c.apply.new.self }) s b c.apply.result (says.writes h s e.0)
+      writes = λ h s e. writes_over model W.contents W.reported W.is_kept W.fails c.args.self.now (record c.args.self.now { keeper = c.apply.new.self }) s b
+          c.apply.result (says.writes h s e.0)
           (none_for W.contents W.reported W.is_kept journal (state_by s b c.apply.result) c.in-None.is);
     }

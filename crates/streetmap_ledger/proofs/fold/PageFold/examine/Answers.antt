@@ -6,7 +6,8 @@ use Rattle.streetmap_ledger.specs.Pages.{candidates}
 use Rattle.streetmap_ledger.specs.declared.fold.PageFold.{PageFold}
 use Rattle.streetmap_ledger.proofs.Examining.{left_out_of, passed_on}
 use Rattle.streetmap_ledger.proofs.fold.PageFold.examine.Goals as goal
-use Rattle.streetmap_ledger.proofs.fold.PageFold.examine.Goals.{then-not-is_candidate-via-then-not-is_candidate, then-not-is_candidate-via-else-not-is_candidate+then-pass_candidate}
+use Rattle.streetmap_ledger.proofs.fold.PageFold.examine.Goals.{then-not-is_candidate-via-then-not-is_candidate}
+use Rattle.streetmap_ledger.proofs.fold.PageFold.examine.Goals.{then-not-is_candidate-via-else-not-is_candidate+then-pass_candidate}
 
 pub returns-then-not-is_candidate : goal.returns-then-not-is_candidate
 returns-then-not-is_candidate c = λ q fs held.
@@ -17,7 +18,8 @@ returns-then-not-is_candidate c = λ q fs held.
           (left_out_of c.args.self.now q fs f c.facts.ensures (sym c.is_candidate.ensures ∙ w.if-not-is_candidate.true) held)
       | then-not-is_candidate-via-else-not-is_candidate+then-pass_candidate w ↦
           subst (λ (fold : PageFold). HoldsCandidates q fold (fs ++ f ∷ [])) (sym w.self-is)
-          (passed_on c.args.self.now w.pass_candidate.new.self q fs f (sym c.is_candidate.ensures ∙ w.if-not-is_candidate.false) (w.pass_candidate.ensures.passed w.if-pass_candidate.true q (candidates q fs)) held)
+          (passed_on c.args.self.now w.pass_candidate.new.self q fs f (sym c.is_candidate.ensures ∙ w.if-not-is_candidate.false)
+          (w.pass_candidate.ensures.passed w.if-pass_candidate.true q (candidates q fs)) held)
     ]
 
 pub returns : goal.returns

@@ -7,7 +7,8 @@ use Rattle.streetmap_ledger.proofs.fold.PageFold.pass_hidden.Goals.{else-followi
 
 pub returns-then-not-branch-clause-passed : goal.returns-then-not-branch-clause-passed
 returns-then-not-branch-clause-passed c = λ _ q fs held.
-    c.skip_unselected.ensures q fs c.args.feature.now held (ap (λ (v : QueryValue). selects v c.args.feature.now) (sym held.is_for) ∙ (sym c.in_ok-selects.ensures ∙ c.if-not-branch.true))
+    c.skip_unselected.ensures q fs c.args.feature.now held (ap (λ (v : QueryValue). selects v c.args.feature.now) (sym held.is_for)
+    ∙ (sym c.in_ok-selects.ensures ∙ c.if-not-branch.true))
 
 pub returns-clause-passed : goal.returns-clause-passed
 returns-clause-passed c = λ _ q fs held.
@@ -15,5 +16,6 @@ returns-clause-passed c = λ _ q fs held.
       | else-following-via-then-following+else-not-is_full w ↦ w.is_full.ensures.0 w.if-not-is_full.false
       | else-following-via-else-following w ↦ cc (following, w.if-following.false)
     ] in
-    c.count_hidden.ensures q fs c.args.feature.now held (ap (λ (v : QueryValue). selects v c.args.feature.now) (sym held.is_for) ∙ (sym c.in_ok-selects.ensures ∙ c.if-not-branch.false))
+    c.count_hidden.ensures q fs c.args.feature.now held (ap (λ (v : QueryValue). selects v c.args.feature.now) (sym held.is_for)
+    ∙ (sym c.in_ok-selects.ensures ∙ c.if-not-branch.false))
     (ap (λ (v : QueryValue). comes_after v.after c.args.feature.now) (sym held.is_for) ∙ sym c.in_ok-following.ensures) full

@@ -13,5 +13,7 @@ returns-then-gt c =
 
 pub returns : goal.returns
 returns c =
-    let all = sym (live_entries_in_order c.self.inside.slots.entries c.run_of.ensures.ordered) ∙ ap (λ (s : SlotCollection). entries (live s.slots)) c.self.view_is in
-    IfOk-weaker c.run_of.result _ _ (λ run is. is ∙ same_run _ _ c.args.first.now c.args.last.now _ _ c.in_ok-first.ensures.ok c.in_ok-last.ensures.ok all) c.run_of.ensures.run
+    let all = sym (live_entries_in_order c.self.inside.slots.entries c.run_of.ensures.ordered)
+    ∙ ap (λ (s : SlotCollection). entries (live s.slots)) c.self.view_is in
+    IfOk-weaker c.run_of.result _ _ (λ run is. is ∙ same_run _ _ c.args.first.now c.args.last.now _ _ c.in_ok-first.ensures.ok c.in_ok-last.ensures.ok all)
+    c.run_of.ensures.run

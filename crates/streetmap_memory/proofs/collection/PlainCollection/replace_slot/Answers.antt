@@ -14,8 +14,10 @@ returns-clause-after c =
       | in-Some w ↦
           let there = w.in-Some.ensures.value in
           let writes = (c.get_mut.follows.holds w.replace.new.dest).3 (subst (λ o. IsSome o) there refl) in
-          rw (w.self-inside-is, ← c.self.view_is) (reset_some title time es (c.get_mut.follows.lender w.replace.new.dest).entries c.args.id.now c.args.slot _ (sym there) writes.3 (writes.1 ∙ ap Some w.replace.ensures.after))
-      | in-None w ↦ rw (w.self-inside-is, c.get_mut.follows.holds-at-none, ← c.self.view_is) (reset_none title time es c.args.id.now c.args.slot (sym w.in-None.ensures.value))
+          rw (w.self-inside-is, ← c.self.view_is) (reset_some title time es (c.get_mut.follows.lender w.replace.new.dest).entries c.args.id.now c.args.slot _
+          (sym there) writes.3 (writes.1 ∙ ap Some w.replace.ensures.after))
+      | in-None w ↦ rw (w.self-inside-is, c.get_mut.follows.holds-at-none, ← c.self.view_is)
+          (reset_none title time es c.args.id.now c.args.slot (sym w.in-None.ensures.value))
     ]
 
 pub returns-clause-was : goal.returns-clause-was

@@ -14,4 +14,5 @@ returns c =
     (c.in_ok-from_str-2.ensures.ok ∙ (c.as_str.ensures.value ∙ ap (λ (s : SlotCollection). s.title) c.self.view_is))
     (c.in_ok-owned.ensures ∙ c.time.ensures)
     (bounds_extent (all_vertices (live_values (values_of es))) c.bounds_of.result c.bounds_of.ensures.bounds
-    ∙ ap (λ fs. extent_if (all_vertices fs)) (sym (live_in_order es c.bounds_of.ensures.ordered) ∙ ap (λ (s : SlotCollection). values (live s.slots)) c.self.view_is))
+    ∙ ap (λ fs. extent_if (all_vertices fs)) (sym (live_in_order es c.bounds_of.ensures.ordered)
+    ∙ ap (λ (s : SlotCollection). values (live s.slots)) c.self.view_is))

@@ -8,7 +8,8 @@ pub returns-in_ok-copy-in-Some-get : goal.returns-in_ok-copy-in-Some-get
 returns-in_ok-copy-in-Some-get c =
     let k = c.args.self.now in
     let there = get_of k.collections.entries c.args.collection.now ∙ sym c.in-Some.ensures.value in
-    ap Some c.in_ok-copy-in-Some-get.ensures ∙ (c.in-Some-get.ensures ∙ sym (feature_on (map_of k.collections.entries) (map_of k.keys.entries) c.args.collection.now c.args.id.now _ there))
+    ap Some c.in_ok-copy-in-Some-get.ensures ∙ (c.in-Some-get.ensures ∙ sym (feature_on (map_of k.collections.entries) (map_of k.keys.entries)
+    c.args.collection.now c.args.id.now _ there))
 
 pub returns-in-None-get : goal.returns-in-None-get
 returns-in-None-get c =

@@ -15,8 +15,10 @@ returns-in_ok-features-in-Some c sound =
     let first = c.args.first.now in
     let last = c.args.last.now in
     let known = collected c.in-Some.collection.now in
-    let there : get (collections_of (map_of es)) name ≡ Some known = get_collection (map_of es) name ∙ ap (option_map collected) (get_of es name ∙ sym c.in-Some.ensures.value) in
-    ap Some (c.in_ok-features-in-Some.ensures ∙ run_of_named first last known (sound.made name known there).holds) ∙ ap (option_map (run_of first last)) (sym there)
+    let there : get (collections_of (map_of es)) name ≡ Some known = get_collection (map_of es) name
+    ∙ ap (option_map collected) (get_of es name ∙ sym c.in-Some.ensures.value) in
+    ap Some (c.in_ok-features-in-Some.ensures ∙ run_of_named first last known (sound.made name known there).holds)
+    ∙ ap (option_map (run_of first last)) (sym there)
 
 pub returns-in-None : goal.returns-in-None
 returns-in-None c sound =

@@ -8,6 +8,7 @@ use Rattle.streetmap_memory.proofs.plain.PlainKeeper.new.Goals as goal
 
 pub returns : goal.returns
 returns c = record {
-  is = ap (λ es. state_of (map_of es) (map_of c.new-2.result.entries)) c.new.ensures.empty ∙ (ap (λ es. state_of empty (map_of es)) c.new-2.ensures.empty ∙ ap (λ m. record { collections = m; keys = empty }) collections_empty);
+  is = ap (λ es. state_of (map_of es) (map_of c.new-2.result.entries)) c.new.ensures.empty
+      ∙ (ap (λ es. state_of empty (map_of es)) c.new-2.ensures.empty ∙ ap (λ m. record { collections = m; keys = empty }) collections_empty);
   sound = opening_sound;
 }

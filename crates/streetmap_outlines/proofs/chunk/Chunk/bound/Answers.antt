@@ -6,7 +6,8 @@ use Rattle.streetmap_outlines.proofs.chunk.Chunk.bound.Goals as goal
 pub returns-clause-bounded : goal.returns-clause-bounded
 returns-clause-bounded c = record {
   within = subst (λ xs. AllLieWithin xs c.grown-self.result) c.as_slice.ensures.value c.grown-self.ensures.within;
-  exact = λ features fs pairs. c.grown-self.ensures.exact features [] fs (subst (λ xs. Pairs features xs fs) (sym c.as_slice.ensures.value) pairs) (refl {a = []});
+  exact = λ features fs pairs. c.grown-self.ensures.exact features [] fs (subst (λ xs. Pairs features xs fs) (sym c.as_slice.ensures.value) pairs)
+      (refl {a = []});
   counted = c.count_extents-self.ensures ∙ ap (count_by has_extent) c.as_slice-2.ensures.value;
   timed = subst (λ xs. AllTimedBy xs c.bounds_of_seconds-self.result) c.as_slice-3.ensures.value c.bounds_of_seconds-self.ensures;
   extents = subst (AreExtentsOf c.keep_extents.new.extents.items) c.as_slice-4.ensures.value c.keep_extents.ensures;

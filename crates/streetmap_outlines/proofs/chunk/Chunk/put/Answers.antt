@@ -8,12 +8,14 @@ use Rattle.streetmap_outlines.proofs.chunk.Chunk.put.Goals as goal
 pub returns-in-Ok-clause-outlines : goal.returns-in-Ok-clause-outlines
 returns-in-Ok-clause-outlines c = λ features f known one.
     let found = c.in-Ok.ensures in
-    rw c.bound.ensures.same (put_in_place c.args.self.now.outlines.items c.as_str.result.now c.in-Ok.place features known f c.args.outline c.as_str.ensures.value one found.place found.bound)
+    rw c.bound.ensures.same (put_in_place c.args.self.now.outlines.items c.as_str.result.now c.in-Ok.place features known f c.args.outline
+    c.as_str.ensures.value one found.place found.bound)
 
 pub returns-in_ok-insert-in-Err-clause-outlines : goal.returns-in_ok-insert-in-Err-clause-outlines
 returns-in_ok-insert-in-Err-clause-outlines c = λ features f known one.
     let found = c.in-Err.ensures in
-    rw (c.bound-in-Err.ensures.same, c.in_ok-insert-in-Err.ensures.items) (put_in_gap c.args.self.now.outlines.items c.as_str.result.now c.in-Err.place features known f c.args.outline c.as_str.ensures.value one found.place found.bound)
+    rw (c.bound-in-Err.ensures.same, c.in_ok-insert-in-Err.ensures.items) (put_in_gap c.args.self.now.outlines.items c.as_str.result.now c.in-Err.place features
+    known f c.args.outline c.as_str.ensures.value one found.place found.bound)
 
 pub returns-in-Ok-clause-listed : goal.returns-in-Ok-clause-listed
 returns-in-Ok-clause-listed c = λ cells listed one.
@@ -24,4 +26,5 @@ pub returns-in_ok-insert-in-Err-clause-listed : goal.returns-in_ok-insert-in-Err
 returns-in_ok-insert-in-Err-clause-listed c = λ cells listed one.
     let old = c.args.self.now in
     let In : FeatureOutline → Type 0 = Listed cells old.number in
-    rw (c.bound-in-Err.ensures.number, c.bound-in-Err.ensures.same) (All-same In _ _ c.in_ok-insert-in-Err.ensures.items (each_inserted In old.outlines.items c.in-Err.place c.args.outline one listed))
+    rw (c.bound-in-Err.ensures.number, c.bound-in-Err.ensures.same) (All-same In _ _ c.in_ok-insert-in-Err.ensures.items
+    (each_inserted In old.outlines.items c.in-Err.place c.args.outline one listed))

@@ -12,4 +12,5 @@ returns-in-Some c =
     let some : 0 < length os = c.in-Some.ensures.item.3.0 in
     let last : length os - 1 + 1 ≡ length os = omega arith in
     c.ge.ensures
-    ∙ (ap (λ own. is_ge (text_cmp own id)) c.as_str.ensures.value ∙ (last_reaches id os (length os - 1) c.in-Some.outline.now last c.in-Some.ensures.item.1 ∙ ap (reaches id) c.deref.ensures.value))
+    ∙ (ap (λ own. is_ge (text_cmp own id)) c.as_str.ensures.value ∙ (last_reaches id os (length os - 1) c.in-Some.outline.now last c.in-Some.ensures.item.1
+    ∙ ap (reaches id) c.deref.ensures.value))

@@ -17,7 +17,8 @@ returns c = λ features f held one.
     let said = c.in_ok-put.ensures in
     let start = subst (λ os. AreOutlines os features) (sym empty) (subst (λ cs. AreOutlines (joined cs) features) none held.chunks.outlines) in
     let outlines = said.outlines features f start one in
-    let under = subst (λ n. IsListedIf cells n c.args.outline.extent) (sym c.new-first.ensures.number) (subst (IsListedIf cells c.args.self.now.next) c.extent.ensures c.in_ok-list_extent.ensures.listed) in
+    let under = subst (λ n. IsListedIf cells n c.args.outline.extent) (sym c.new-first.ensures.number)
+    (subst (IsListedIf cells c.args.self.now.next) c.extent.ensures c.in_ok-list_extent.ensures.listed) in
     let listed = said.listed cells (subst (AreListedUnder cells made.number) (sym empty) (All-nil (Listed cells made.number))) under in
     let now : c.push.new.self.items ≡ first ∷ [] = c.in_ok-push.ensures.items ∙ ap (λ cs. cs ++ first ∷ []) none in
     record {

@@ -16,11 +16,13 @@ returns-then-is_empty c = λ features held.
     let within : place < length cs = omega arith in
     let still : place < length (set cs place new) = search rules in
     let none : length c.index.result.now.outlines.items ≡ 0 = search rules in
-    let done = cut_in_chunk cs place c.index_mut.result.now new c.args.id.now features known.outlines (found.before features known) (found.here features known) within c.index_mut.ensures.value c.cut.ensures.outlines in
+    let done = cut_in_chunk cs place c.index_mut.result.now new c.args.id.now features known.outlines (found.before features known) (found.here features known)
+    within c.index_mut.ensures.value c.cut.ensures.outlines in
     let cells = c.args.self.now.cells in
     record {
       chunks = record {
-        outlines = subst (λ os. AreOutlines os (remove features c.args.id.now)) (sym (ap joined c.remove.ensures.items ∙ shed_at (set cs place new) place c.index.result.now still c.index.ensures none)) done;
+        outlines = subst (λ os. AreOutlines os (remove features c.args.id.now)) (sym (ap joined c.remove.ensures.items
+            ∙ shed_at (set cs place new) place c.index.result.now still c.index.ensures none)) done;
         filled = subst AreFilled (sym c.remove.ensures.items) (each_without HasSome cs place new known.filled);
         bounded = subst AreBounded (sym c.remove.ensures.items) (each_without IsBounded cs place new known.bounded);
       };
@@ -42,7 +44,8 @@ returns-else-is_empty c = λ features held.
     let listed = subst (IsListedChunk cells) (sym c.index_mut.ensures.value) (held.listed place old within) in
     record {
       chunks = record {
-        outlines = cut_in_chunk cs place old new c.args.id.now features known.outlines (found.before features known) (found.here features known) within c.index_mut.ensures.value c.cut.ensures.outlines;
+        outlines = cut_in_chunk cs place old new c.args.id.now features known.outlines (found.before features known) (found.here features known) within
+            c.index_mut.ensures.value c.cut.ensures.outlines;
         filled = All-set HasSome cs place new some known.filled;
         bounded = All-set IsBounded cs place new (c.cut.ensures.bounded bounded) known.bounded;
       };
@@ -50,4 +53,8 @@ returns-else-is_empty c = λ features held.
     }
 
 pub returns-else-place-len : goal.returns-else-place-len
-returns-else-place-len c = λ features held. record { chunks = none_in_chunks c.args.self.now.chunks.items c.chunk_of-place.result c.args.id.now features c.chunk_of-place.ensures.bound (λ h. omega arith) held.chunks; listed = held.listed }
+returns-else-place-len c = λ features held. record {
+  chunks = none_in_chunks c.args.self.now.chunks.items c.chunk_of-place.result c.args.id.now features
+      c.chunk_of-place.ensures.bound (λ h. omega arith) held.chunks;
+  listed = held.listed;
+}

@@ -11,7 +11,8 @@ use Rattle.streetmap_outlines.proofs.chunks.Chunks.halve.Goals as goal
 pub returns-clause-same : goal.returns-clause-same
 returns-clause-same c =
     ap joined c.in_ok-insert.ensures.items
-    ∙ halved_at c.args.self.now.chunks.items c.args.place c.index_mut.result.now c.split_off.new.self c.in_ok-following.following c.requires c.index_mut.ensures.value _ c.in_ok-following.ensures.front c.in_ok-following.ensures.following
+    ∙ halved_at c.args.self.now.chunks.items c.args.place c.index_mut.result.now c.split_off.new.self c.in_ok-following.following c.requires
+    c.index_mut.ensures.value _ c.in_ok-following.ensures.front c.in_ok-following.ensures.following
 
 pub returns-clause-filled : goal.returns-clause-filled
 returns-clause-filled c = λ filled.
@@ -21,7 +22,8 @@ returns-clause-filled c = λ filled.
     let following = c.in_ok-following.following in
     let front_some : 0 < length one.outlines.items = grind (arith, common_steps) in
     let some : 0 < length following.outlines.items = grind (arith, common_steps) in
-    All-same HasSome _ _ c.in_ok-insert.ensures.items (each_inserted HasSome (set cs place one) _ following some (All-set HasSome cs place one front_some filled))
+    All-same HasSome _ _ c.in_ok-insert.ensures.items (each_inserted HasSome (set cs place one) _ following some
+    (All-set HasSome cs place one front_some filled))
 
 pub returns-clause-bounded : goal.returns-clause-bounded
 returns-clause-bounded c = λ bounded.
@@ -29,7 +31,8 @@ returns-clause-bounded c = λ bounded.
     let place = c.args.place in
     let one = c.split_off.new.self in
     let says = c.in_ok-following.ensures.bounded in
-    All-same IsBounded _ _ c.in_ok-insert.ensures.items (each_inserted IsBounded (set cs place one) _ c.in_ok-following.following says.1 (All-set IsBounded cs place one says.0 bounded))
+    All-same IsBounded _ _ c.in_ok-insert.ensures.items (each_inserted IsBounded (set cs place one) _ c.in_ok-following.following says.1
+    (All-set IsBounded cs place one says.0 bounded))
 
 pub returns-clause-listed : goal.returns-clause-listed
 returns-clause-listed c = λ listed.

@@ -15,7 +15,8 @@ returns-then-has-clause-listed c = λ d listed.
     let place = c.args.place in
     let chunk = c.index.result.now in
     let here = subst (IsListedChunk cells) (sym c.index.ensures) (listed place chunk c.requires) in
-    subst (λ (x : Chunk). IsListedIf cells x.number c.args.outline.now.extent) (c.index.ensures ∙ get_or_default cs place chunk d c.requires) (subst (IsListedIf cells chunk.number) c.extent.ensures (c.has.ensures c.if-has.true cells here))
+    subst (λ (x : Chunk). IsListedIf cells x.number c.args.outline.now.extent) (c.index.ensures ∙ get_or_default cs place chunk d c.requires)
+    (subst (IsListedIf cells chunk.number) c.extent.ensures (c.has.ensures c.if-has.true cells here))
 
 pub returns-clause-kept : goal.returns-clause-kept
 returns-clause-kept c = λ listed.
@@ -31,5 +32,7 @@ returns-clause-listed c = λ d listed.
     let cs = c.args.self.now.chunks.items in
     let place = c.args.place in
     let chunk = c.index-2.result.now in
-    subst (λ (x : Chunk). OnOk c.list_extent.result (IsListedIf c.list_extent.new.cells x.number c.args.outline.now.extent)) (c.index-2.ensures ∙ get_or_default cs place chunk d c.requires)
-    (subst (λ (e : Option GridBox). OnOk c.list_extent.result (IsListedIf c.list_extent.new.cells chunk.number e)) c.extent-2.ensures c.list_extent.ensures.listed)
+    subst (λ (x : Chunk). OnOk c.list_extent.result (IsListedIf c.list_extent.new.cells x.number c.args.outline.now.extent))
+    (c.index-2.ensures ∙ get_or_default cs place chunk d c.requires)
+    (subst (λ (e : Option GridBox). OnOk c.list_extent.result (IsListedIf c.list_extent.new.cells chunk.number e)) c.extent-2.ensures
+    c.list_extent.ensures.listed)
