@@ -4,4 +4,5 @@ pub mod Replies
 pub mod RequestFaults
 pub mod Changes
 pub mod Bodies
+pub mod Status
 pub mod LineTexts

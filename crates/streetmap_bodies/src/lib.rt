@@ -12,7 +12,8 @@
 //! `RequestFault` is one enum over the faults of all layers: its code, its sentence and its status.
 //!
 //! Modules, in the order of reading: `error_body`, `request_fault`, `reply_body`; `links`;
-//! `landing_body`, `collection_body`, `feature_body`, `page_body`, `line_body`; `changes_body`.
+//! `landing_body`, `collection_body`, `feature_body`, `page_body`, `line_body`; `changes_body`,
+//! `status_body`.
 #![tactic(auto)]
 
 mod changes_body;
@@ -25,6 +26,7 @@ mod links;
 mod page_body;
 mod reply_body;
 mod request_fault;
+mod status_body;
 
 pub use changes_body::changes_text;
 pub use collection_body::{collection_text, collections_text};
@@ -35,3 +37,4 @@ pub use line_body::{line_feature_text, line_page_text};
 pub use page_body::page_text;
 pub use reply_body::{push_reply, push_reply_body};
 pub use request_fault::{RequestFault, push_fault};
+pub use status_body::{VERSION, status_text};

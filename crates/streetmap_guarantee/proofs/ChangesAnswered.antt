@@ -21,7 +21,8 @@ use Rattle.streetmap_http.specs.declared.answer_head.Methods.TheVariants.{Reads}
 use Rattle.streetmap_tags.specs.Changes.{changes_in}
 use Rattle.streetmap_tags.proofs.NoneLeftOut.{changes_go_on}
 use Rattle.streetmap_routes.specs.ChangesQuery.{ChangesValue, no_parameters, serial_of, serial_read, limit_read, set_after, set_limit, with_pair, with_pairs, changes_of, default_limit}
-use Rattle.streetmap_routes.specs.Operations.{ResourceValue, landing, api, conformance, collections, collection, items, item, batches, OperationValue, changes, faulty, batch_operation, page_operation, unqueried, without_query, queried, placed, allows, methods_of, resource_at, path_part, query_part, begins_with_slash, operation_of, changes_operation, changes_wanted, changes_path, operation_with}
+use Rattle.streetmap_routes.specs.Operations.{ResourceValue, landing, api, conformance, collections, collection, items, item, batches, OperationValue, changes, faulty, batch_operation, page_operation, unqueried, without_query, queried, placed, allows, methods_of, resource_at, path_part, query_part, begins_with_slash, operation_of, changes_operation, changes_wanted, changes_path, service_status, status_wanted, status_path, status_or_other, operation_with}
+use Rattle.streetmap_routes.specs.declared.offers.Offers.{Offers}
 use Rattle.streetmap_web.specs.Guards.{GuardValue, is_of_batch, refusal_by, refused_for, guarded}
 use Rattle.streetmap_web.specs.Site.{SiteValue}
 use Rattle.streetmap_web.specs.Response.{plainly, needs_state, wanted_of, request_of, response_in}
@@ -163,21 +164,36 @@ operation_is_none method target body after limit = by (begins_with_slash target)
   by true e = placed_is_none (resource_at (path_part target)) method (query_part target) body after limit e
   by false e = cc
 
-with_from_one : (offered : Bool) (method target body : Text) → FromOne (operation_with offered method target body)
+status_is_none : (offered : Bool) (method target body : Text) (after limit : ℕ) → status_or_other offered method target body ≡ changes after limit → ⊥
+status_is_none offered method target body after limit = by (offered && bytes_eq (path_part target) status_path) where
+  read : (t : Bool) → (if t then faulty (Query UnknownParameter) else service_status) ≡ changes after limit → ⊥
+  read true e = cc
+  read false e = cc
+
+  allowed : (t : Bool) → (if t then (if has_pair (query_part target) then faulty (Query UnknownParameter) else service_status)
+      else faulty (MethodNotAllowed Reads)) ≡ changes after limit → ⊥
+  allowed true e = read (has_pair (query_part target)) e
+  allowed false e = cc
+
+  by : (t : Bool) → (if t then status_wanted method (query_part target) else operation_of method target body) ≡ changes after limit → ⊥
+  by true e = allowed (allows Reads method) e
+  by false e = operation_is_none method target body after limit e
+
+with_from_one : (offers : Offers) (method target body : Text) → FromOne (operation_with offers method target body)
 unfolding operation_with
-with_from_one offered method target body = by (offered && bytes_eq (path_part target) changes_path) where
+with_from_one offers method target body = by (offers.changes && bytes_eq (path_part target) changes_path) where
   allowed : (t : Bool) → FromOne (if t then changes_operation (changes_of (query_part target)) else faulty (MethodNotAllowed Reads))
   allowed true = wanted_from_one (changes_of (query_part target)) (query_gives (query_part target))
   allowed false = no_change (faulty (MethodNotAllowed Reads)) (λ after limit e. cc)
 
-  by : (t : Bool) → FromOne (if t then changes_wanted method (query_part target) else operation_of method target body)
+  by : (t : Bool) → FromOne (if t then changes_wanted method (query_part target) else status_or_other offers.status method target body)
   by true = allowed (allows Reads method)
-  by false = no_change (operation_of method target body) (operation_is_none method target body)
+  by false = no_change (status_or_other offers.status method target body) (status_is_none offers.status method target body)
 
-wanted_is : (tags : Bool) (p : PreconditionsValue) (o : OperationValue) → FromOne o → FromOne (wanted_of tags p o).operation
-wanted_is false p o h = h
-wanted_is true p o h = by (needs_state o && not (are_readable p)) where
-  by : (t : Bool) → FromOne (if t then plainly (faulty BadCondition) else record { operation = o; conditions = Some p }).operation
+wanted_is : (tags numbered : Bool) (p : PreconditionsValue) (o : OperationValue) → FromOne o → FromOne (wanted_of tags numbered p o).operation
+wanted_is false numbered p o h = h
+wanted_is true numbered p o h = by (needs_state o && not (are_readable p)) where
+  by : (t : Bool) → FromOne (if t then plainly (faulty BadCondition) else record { operation = o; conditions = Some p; numbered = numbered }).operation
   by true = no_change (faulty BadCondition) (λ after limit e. cc)
   by false = h
 
@@ -194,8 +210,8 @@ guarded_is guard token o h = by (refusal_by guard token) where
 
 request_from_one : (site : SiteValue) (h : HeadValue) (body : Text) → FromOne (request_of site h body).wanted.operation
 request_from_one site h body =
-    wanted_is site.tags h.preconditions (guarded site.guard h.token (operation_with site.changes h.method h.target body))
-    (guarded_is site.guard h.token (operation_with site.changes h.method h.target body) (with_from_one site.changes h.method h.target body))
+    wanted_is site.tags site.offers.status h.preconditions (guarded site.guard h.token (operation_with site.offers h.method h.target body))
+    (guarded_is site.guard h.token (operation_with site.offers h.method h.target body) (with_from_one site.offers h.method h.target body))
 
 pub changes_are_answered : ChangesAreAnswered
 changes_are_answered site h body s after limit sound is = record {

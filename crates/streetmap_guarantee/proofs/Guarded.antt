@@ -7,7 +7,7 @@ use Rattle.streetmap_http.specs.Preconditions.{PreconditionsValue, are_readable}
 use Rattle.streetmap_batch.specs.Text.{Text}
 use Rattle.streetmap_ledger.specs.State.{State}
 use Rattle.streetmap_ledger.specs.Kept.{batch_count}
-use Rattle.streetmap_routes.specs.Operations.{OperationValue, faulty, landing_page, api_text, conformance_classes, all_collections, one_collection, page, feature, changes, batch, operation_with}
+use Rattle.streetmap_routes.specs.Operations.{OperationValue, faulty, landing_page, api_text, conformance_classes, all_collections, one_collection, page, feature, changes, service_status, batch, operation_with}
 use Rattle.streetmap_bodies.specs.declared.request_fault.RequestFault.{RequestFault}
 use Rattle.streetmap_bodies.specs.declared.request_fault.RequestFault.TheVariants.{Fenced, Follower, BadCondition}
 use Rattle.streetmap_web.specs.Guards.{GuardValue, free, fenced, follower, is_batch_fault, is_of_batch, refusal_by, refused_for, guarded}
@@ -33,6 +33,7 @@ none_left fault (one_collection name) = refl
 none_left fault (page name q) = refl
 none_left fault (feature name id) = refl
 none_left fault (changes after limit) = refl
+none_left fault service_status = refl
 
 -- a batch is refused
 refused_if : (fault : RequestFault) (o : OperationValue) → is_of_batch o ≡ true → refused_for (Some fault) o ≡ faulty fault
@@ -45,10 +46,10 @@ stays_if fault o e = ap (λ (t : Bool). if t then faulty fault else o) e
 -- ---- under conditions
 
 -- conditions make no batch of anything else
-no_batch_under : (tags : Bool) (p : PreconditionsValue) (o : OperationValue) → is_batch o ≡ false → is_batch (wanted_of tags p o).operation ≡ false
-no_batch_under false p o read = read
-no_batch_under true p o read = by (needs_state o && not (are_readable p)) where
-  by : (t : Bool) → is_batch (if t then plainly (faulty BadCondition) else record { operation = o; conditions = Some p }).operation ≡ false
+no_batch_under : (tags numbered : Bool) (p : PreconditionsValue) (o : OperationValue) → is_batch o ≡ false → is_batch (wanted_of tags numbered p o).operation ≡ false
+no_batch_under false numbered p o read = read
+no_batch_under true numbered p o read = by (needs_state o && not (are_readable p)) where
+  by : (t : Bool) → is_batch (if t then plainly (faulty BadCondition) else record { operation = o; conditions = Some p; numbered = numbered }).operation ≡ false
   by true = refl
   by false = read
 
@@ -58,20 +59,23 @@ kept_under s o None read = read_stays s o read
 kept_under s o (Some p) read = read_by s o (verdict_on (batch_count s) p o) read
 
 -- a fault is answered as it is, whatever the conditions are
-fault_under : (tags : Bool) (p : PreconditionsValue) (fault : RequestFault) (root : Text) (s : State) → response_to root s (wanted_of tags p (faulty fault)) ≡ fault_response fault
-fault_under false p fault root s = refl
-fault_under true p fault root s = refl
+fault_under : (tags numbered : Bool) (p : PreconditionsValue) (fault : RequestFault) (root : Text) (s : State)
+    → response_to root s (wanted_of tags numbered p (faulty fault)) ≡ fault_response fault
+fault_under false false p fault root s = refl
+fault_under false true p fault root s = refl
+fault_under true false p fault root s = refl
+fault_under true true p fault root s = refl
 
 -- ---- requests
 
 -- the request that wants this operation
 abbrev request_for : SiteValue → HeadValue → OperationValue → RequestValue
-request_for site h o = record { wanted = wanted_of site.tags h.preconditions o; closes = h.closes; bare = is_bare h.method }
+request_for site h o = record { wanted = wanted_of site.tags site.offers.status h.preconditions o; closes = h.closes; bare = is_bare h.method }
 
 module _ (guard : GuardValue) (site : SiteValue) (h : HeadValue) (body : Text) (fault : RequestFault)
     (says : refusal_by guard h.token ≡ Some fault) (forbidden : (fault_response fault).status ≡ 403) where
   abbrev brought : OperationValue
-  brought = operation_with site.changes h.method h.target body
+  brought = operation_with site.offers h.method h.target body
 
   guarded_so : guarded guard h.token brought ≡ refused_for (Some fault) brought
   unfolding guarded
@@ -81,12 +85,12 @@ module _ (guard : GuardValue) (site : SiteValue) (h : HeadValue) (body : Text) (
   left = ap is_batch guarded_so ∙ none_left fault brought
 
   kept : is_batch (request_of (with_guard guard site) h body).wanted.operation ≡ false
-  kept = no_batch_under site.tags h.preconditions (guarded guard h.token brought) left
+  kept = no_batch_under site.tags site.offers.status h.preconditions (guarded guard h.token brought) left
 
   answered : is_of_batch brought ≡ true → (s : State) → response_to site.root s (request_of (with_guard guard site) h body).wanted ≡ fault_response fault
   answered e s =
-      ap (λ (o : OperationValue). response_to site.root s (wanted_of site.tags h.preconditions o)) (guarded_so ∙ refused_if fault brought e)
-      ∙ fault_under site.tags h.preconditions fault site.root s
+      ap (λ (o : OperationValue). response_to site.root s (wanted_of site.tags site.offers.status h.preconditions o)) (guarded_so ∙ refused_if fault brought e)
+      ∙ fault_under site.tags site.offers.status h.preconditions fault site.root s
 
   as_free : is_of_batch brought ≡ false → guarded guard h.token brought ≡ guarded free h.token brought
   unfolding guarded
@@ -137,4 +141,4 @@ unguarded guard token o says = ap (λ (r : Option RequestFault). refused_for r o
 
 pub script_is_served : ScriptIsServed
 script_is_served its site h body e =
-    ap (request_for site h) (unguarded (follower its) h.token (operation_with site.changes h.method h.target body) (own its h.token e))
+    ap (request_for site h) (unguarded (follower its) h.token (operation_with site.offers h.method h.target body) (own its h.token e))

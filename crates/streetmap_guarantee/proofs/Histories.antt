@@ -15,7 +15,7 @@ use Rattle.streetmap_ledger.specs.declared.reply.Cause.TheVariants as causes
 use Rattle.streetmap_ledger.specs.declared.reply.Fault.{Fault}
 use Rattle.streetmap_ledger.specs.declared.reply.Fault.TheVariants.{Memory, Device, Damaged, Reopen}
 use Rattle.streetmap_ledger.proofs.Acceptance.{refused_changes_nothing}
-use Rattle.streetmap_routes.specs.Operations.{OperationValue, faulty, landing_page, api_text, conformance_classes, all_collections, one_collection, page, feature, changes, batch}
+use Rattle.streetmap_routes.specs.Operations.{OperationValue, faulty, landing_page, api_text, conformance_classes, all_collections, one_collection, page, feature, changes, service_status, batch}
 use Rattle.streetmap_bodies.specs.declared.request_fault.RequestFault.TheVariants.{Keeper}
 use Rattle.streetmap_connections.specs.History.{Exchange}
 use Rattle.streetmap_web.specs.Site.{SiteValue}
@@ -24,7 +24,11 @@ use Rattle.streetmap_ledger.specs.Kept.{batch_count}
 use Rattle.streetmap_tags.specs.Keys.{is_used}
 use Rattle.streetmap_web.specs.declared.verdict.Verdict.{Verdict}
 use Rattle.streetmap_web.specs.declared.verdict.Verdict.TheVariants.{Holds, NotModified, Changed}
-use Rattle.streetmap_web.specs.Response.{ResponseValue, Wanted, response_in, response_shut, fault_response, state_in, state_by, state_under, state_to, response_under, needs_state, judged, read_judged, tagged, changed, verdict_on, replied, found_page, not_found, response_text}
+use Rattle.streetmap_web.specs.Response.{ResponseValue, Wanted, response_in, response_shut, fault_response, state_in, state_by, state_under, state_to, response_under, needs_state, judged, read_judged, tagged, changed, verdict_on, replied, found, found_page, not_found, response_text, response_to, with_serial, shows_serial}
+use Rattle.serde_json.specs.Written.{compact_text}
+use Rattle.streetmap_http.specs.declared.answer_head.MediaType.TheVariants.{GeoJson}
+use Rattle.streetmap_bodies.specs.Bodies.{page_data}
+use Rattle.streetmap_web.proofs.Statuses.{serial_status}
 use Rattle.streetmap_web.proofs.Verdicts.{used_stays, read_by, read_stays, unneeded_reads}
 use Rattle.streetmap_web.specs.Conditions.{Condition, RequestOutcome, of_state, shut, as_requested, no_memory, device_failed, of_keeper, CanBe, answer_by, after}
 use Rattle.streetmap_web.specs.Exchanges as web
@@ -33,7 +37,7 @@ use Rattle.streetmap_web.proofs.Outcomes.{no_memory_response}
 use Rattle.streetmap_guarantee.specs.Server.{Server, serving, failed, state_of}
 use Rattle.streetmap_guarantee.specs.Histories as seq
 use Rattle.streetmap_guarantee.specs.Histories.{Step, Event, HasRequest, IsHttp, IsSequential, with_acknowledged, acknowledged}
-use Rattle.streetmap_guarantee.specs.Guarantee.{ShowsPage}
+use Rattle.streetmap_guarantee.specs.Guarantee.{ShowsPage, tag_of}
 
 -- ---- the server after a request
 
@@ -137,6 +141,7 @@ not_acknowledged (one_collection name) r bs e = refl
 not_acknowledged (page name q) r bs e = refl
 not_acknowledged (feature name id) r bs e = refl
 not_acknowledged (changes after limit) r bs e = refl
+not_acknowledged service_status r bs e = refl
 not_acknowledged (batch b) r bs e = ap (λ (t : Bool). if t then b ∷ bs else bs) e
 
 fault_is_none : (fault : Fault) → ((fault_response (Keeper fault)).status == 200) ≡ false
@@ -163,6 +168,7 @@ shut_is_none root (one_collection name) bs = refl
 shut_is_none root (page name q) bs = refl
 shut_is_none root (feature name id) bs = refl
 shut_is_none root (changes after limit) bs = refl
+shut_is_none root service_status bs = refl
 shut_is_none root (batch b) bs = not_acknowledged (batch b) (fault_response (Keeper Reopen)) bs (fault_is_none Reopen)
 
 -- a batch by its reply
@@ -182,6 +188,7 @@ answer_acts root s (one_collection name) bs = refl
 answer_acts root s (page name q) bs = refl
 answer_acts root s (feature name id) bs = refl
 answer_acts root s (changes after limit) bs = refl
+answer_acts root s service_status bs = refl
 answer_acts root s (batch b) bs = reply_acts s b (act s b).reply bs refl
 
 -- a tag acknowledges nothing more
@@ -211,6 +218,7 @@ judged_acts root s (one_collection name) verdict bs = ap (λ (t : State). after_
 judged_acts root s (page name q) verdict bs = ap (λ (t : State). after_all t bs) (read_by s (page name q) verdict refl)
 judged_acts root s (feature name id) verdict bs = ap (λ (t : State). after_all t bs) (read_by s (feature name id) verdict refl)
 judged_acts root s (changes after limit) verdict bs = ap (λ (t : State). after_all t bs) (read_by s (changes after limit) verdict refl)
+judged_acts root s service_status verdict bs = ap (λ (t : State). after_all t bs) (read_by s service_status verdict refl)
 judged_acts root s (batch b) Holds bs =
     reply_acts s b (act s b).reply bs refl ∙ ap (after_all s) (sym (tagged_acknowledges b (batch_count (act s b).state) (replied b.key (act s b).reply) bs))
 judged_acts root s (batch b) NotModified bs = held_acts s b (batch_count s) bs (is_used s b.key) refl
@@ -228,11 +236,34 @@ wanted_acts : (root : Text) (s : State) (operation : OperationValue) (conditions
 wanted_acts root s operation None bs = answer_acts root s operation bs
 wanted_acts root s operation (Some p) bs = needed_acts root s operation (verdict_on (batch_count s) p operation) bs (needs_state operation) refl
 
+-- a serial acknowledges nothing more
+status_acknowledges : (operation : OperationValue) (p r : ResponseValue) (bs : List BatchValue) → p.status ≡ r.status
+    → with_acknowledged operation p bs ≡ with_acknowledged operation r bs
+status_acknowledges (faulty fault) p r bs e = refl
+status_acknowledges landing_page p r bs e = refl
+status_acknowledges api_text p r bs e = refl
+status_acknowledges conformance_classes p r bs e = refl
+status_acknowledges all_collections p r bs e = refl
+status_acknowledges (one_collection name) p r bs e = refl
+status_acknowledges (page name q) p r bs e = refl
+status_acknowledges (feature name id) p r bs e = refl
+status_acknowledges (changes after limit) p r bs e = refl
+status_acknowledges service_status p r bs e = refl
+status_acknowledges (batch b) p r bs e = ap (λ (status : ℕ). if status == 200 then b ∷ bs else bs) e
+
+shown_acts : (root : Text) (s : State) (wanted : Wanted) (bs : List BatchValue)
+    → after_all (state_to s wanted) bs ≡ after_all s (with_acknowledged wanted.operation (response_to root s wanted) bs)
+shown_acts root s wanted bs =
+    let under = response_under root s wanted.operation wanted.conditions in
+    wanted_acts root s wanted.operation wanted.conditions bs
+    ∙ ap (after_all s) (status_acknowledges wanted.operation under (response_to root s wanted) bs
+    (sym (serial_status (shows_serial wanted) (batch_count (state_to s wanted)) under)))
+
 -- one step, and the batches after it
 pub step_acts : (site : SiteValue) (wanted : Wanted) (r : ResponseValue) (x y : Server) (bs : List BatchValue) → Step site wanted r x y
     → after_all (state_of y) bs ≡ after_all (state_of x) (with_acknowledged wanted.operation r bs)
 step_acts site wanted r x y bs (seq.answered s was is now) =
-    ap (λ (z : Server). after_all (state_of z) bs) now ∙ wanted_acts site.root s wanted.operation wanted.conditions bs
+    ap (λ (z : Server). after_all (state_of z) bs) now ∙ shown_acts site.root s wanted bs
     ∙ ap (λ (p : ResponseValue). after_all s (with_acknowledged wanted.operation p bs)) (sym is)
     ∙ ap (λ (z : Server). after_all (state_of z) (with_acknowledged wanted.operation r bs)) (sym was)
 step_acts site wanted r x y bs (seq.out_of_memory is now) =
@@ -255,8 +286,13 @@ missing_is_none : not_found.status ≡ 200 → ⊥
 unfolding fault_response
 missing_is_none e = absurd (omega (arith, e))
 
+-- a page without its serial
+abbrev ShowsUnder : Text → State → Text → QueryValue → Option PreconditionsValue → ResponseValue → Type 0
+ShowsUnder root s name q conditions response = (p : PageValue) × (page_in s name q ≡ Some p)
+    × (response ≡ record (found GeoJson (compact_text (page_data root name q p))) { tag = tag_of conditions s })
+
 found_is : (root : Text) (s : State) (name : Text) (q : QueryValue) (o : Option PageValue) → page_in s name q ≡ o → (found_page root name q o).status ≡ 200
-    → ShowsPage root s name q None (found_page root name q o)
+    → ShowsUnder root s name q None (found_page root name q o)
 found_is root s name q None is e = absurd (missing_is_none e)
 found_is root s name q (Some p) is e = (p, is, refl)
 
@@ -273,7 +309,7 @@ missing_by root name q n Changed e = absurd (omega (arith, e))
 -- a page under conditions that hold, with the tag of the state
 judged_is : (root : Text) (s : State) (name : Text) (q : QueryValue) (conditions : PreconditionsValue) (verdict : Verdict) (o : Option PageValue) → page_in s name q ≡ o
     → (read_judged (batch_count s) (found_page root name q o) verdict).status ≡ 200
-    → ShowsPage root s name q (Some conditions) (read_judged (batch_count s) (found_page root name q o) verdict)
+    → ShowsUnder root s name q (Some conditions) (read_judged (batch_count s) (found_page root name q o) verdict)
 unfolding fault_response
 judged_is root s name q conditions verdict None is e = absurd (missing_by root name q (batch_count s) verdict e)
 judged_is root s name q conditions Holds (Some p) is e = (p, is, refl)
@@ -291,29 +327,51 @@ status_is : (p r : ResponseValue) → p ≡ r → p.status ≡ 200 → r.status 
 status_is p r same e = subst (λ (x : ResponseValue). x.status ≡ 200) same e
 
 page_under : (root name : Text) (q : QueryValue) (s : State) (conditions : Option PreconditionsValue) → (response_under root s (page name q) conditions).status ≡ 200
-    → ShowsPage root s name q conditions (response_under root s (page name q) conditions)
+    → ShowsUnder root s name q conditions (response_under root s (page name q) conditions)
 page_under root name q s None e = found_is root s name q (page_in s name q) refl e
 page_under root name q s (Some p) e = judged_is root s name q p (verdict_on (batch_count s) p (page name q)) (page_in s name q) refl e
 
-page_shown : (site : SiteValue) (name : Text) (q : QueryValue) (conditions : Option PreconditionsValue) (r : ResponseValue) (x y : Server)
-    → Step site (record { operation = page name q; conditions = conditions }) r x y → r.status ≡ 200
-    → ShowsPage site.root (state_of x) name q conditions r
-page_shown site name q conditions r x y (seq.answered s was is now) e =
-    let answer : ResponseValue = response_under site.root s (page name q) conditions in
-    let shown = page_under site.root name q s conditions (status_is r answer is e) in
-    subst (λ (z : Server). ShowsPage site.root (state_of z) name q conditions r) (sym was)
-    (subst (λ (p : ResponseValue). ShowsPage site.root s name q conditions p) (sym is) shown)
-page_shown site name q conditions r x y (seq.out_of_memory is now) e = absurd (not_200 Memory (status_is r (fault_response (Keeper Memory)) is e))
-page_shown site name q conditions r x y (seq.store_failed s was has_request is now) e = absurd (not_200 Device (status_is r (fault_response (Keeper Device)) is e))
-page_shown site name q conditions r x y (seq.still_failed before after was is now) e = absurd (not_200 Reopen (status_is r (fault_response (Keeper Reopen)) is e))
+-- a page leaves the state as it is
+page_kept : (s : State) (name : Text) (q : QueryValue) (conditions : Option PreconditionsValue) → state_under s (page name q) conditions ≡ s
+page_kept s name q None = refl
+page_kept s name q (Some p) = read_by s (page name q) (verdict_on (batch_count s) p (page name q)) refl
+
+-- with its serial, if that is wanted
+page_to : (root name : Text) (q : QueryValue) (s : State) (conditions : Option PreconditionsValue) (numbered : Bool)
+    → ShowsUnder root s name q conditions (response_under root s (page name q) conditions)
+    → ShowsPage root s name q (record { operation = page name q; conditions = conditions; numbered = numbered })
+    (response_to root s (record { operation = page name q; conditions = conditions; numbered = numbered }))
+page_to root name q s conditions false (p, is, same) = (p, is, same)
+page_to root name q s conditions true (p, is, same) = (
+  p,
+  is,
+  ap (with_serial true (batch_count (state_under s (page name q) conditions))) same
+      ∙ ap (λ (t : State). with_serial true (batch_count t) (record (found GeoJson (compact_text (page_data root name q p))) { tag = tag_of conditions s }))
+      (page_kept s name q conditions),
+)
+
+page_shown : (site : SiteValue) (name : Text) (q : QueryValue) (conditions : Option PreconditionsValue) (numbered : Bool) (r : ResponseValue) (x y : Server)
+    → Step site (record { operation = page name q; conditions = conditions; numbered = numbered }) r x y → r.status ≡ 200
+    → ShowsPage site.root (state_of x) name q (record { operation = page name q; conditions = conditions; numbered = numbered }) r
+page_shown site name q conditions numbered r x y (seq.answered s was is now) e =
+    let wanted : Wanted = record { operation = page name q; conditions = conditions; numbered = numbered } in
+    let ok = sym (serial_status (shows_serial wanted) (batch_count (state_to s wanted)) (response_under site.root s (page name q) conditions))
+    ∙ status_is r (response_to site.root s wanted) is e in
+    let shown = page_to site.root name q s conditions numbered (page_under site.root name q s conditions ok) in
+    subst (λ (z : Server). ShowsPage site.root (state_of z) name q wanted r) (sym was)
+    (subst (λ (p : ResponseValue). ShowsPage site.root s name q wanted p) (sym is) shown)
+page_shown site name q conditions numbered r x y (seq.out_of_memory is now) e = absurd (not_200 Memory (status_is r (fault_response (Keeper Memory)) is e))
+page_shown site name q conditions numbered r x y (seq.store_failed s was has_request is now) e = absurd (not_200 Device (status_is r (fault_response (Keeper Device)) is e))
+page_shown site name q conditions numbered r x y (seq.still_failed before after was is now) e = absurd (not_200 Reopen (status_is r (fault_response (Keeper Reopen)) is e))
 
 pub page_of_state : (site : SiteValue) (x y : Server) (before later : List Event) (e : Event) (name : Text) (q : QueryValue)
     → IsSequential site x (before ++ e ∷ later) y → e.request.wanted.operation ≡ page name q → e.response.status ≡ 200
-    → ShowsPage site.root (after_all (state_of x) (acknowledged before)) name q e.request.wanted.conditions e.response
+    → ShowsPage site.root (after_all (state_of x) (acknowledged before)) name q e.request.wanted e.response
 page_of_state site x y [] later e name q h has_request ok =
-    page_shown site name q e.request.wanted.conditions e.response x h.1
-    (subst (λ (a : OperationValue). Step site (record { operation = a; conditions = e.request.wanted.conditions }) e.response x h.1) has_request h.2) ok
+    let wanted = e.request.wanted in
+    page_shown site name q wanted.conditions wanted.numbered e.response x h.1
+    (subst (λ (a : OperationValue). Step site (record { operation = a; conditions = wanted.conditions; numbered = wanted.numbered }) e.response x h.1) has_request h.2) ok
 page_of_state site x y (f ∷ before) later e name q h has_request ok =
-    subst (λ (t : State). ShowsPage site.root t name q e.request.wanted.conditions e.response)
+    subst (λ (t : State). ShowsPage site.root t name q e.request.wanted e.response)
     (step_acts site f.request.wanted f.response x h.1 (acknowledged before) h.2)
     (page_of_state site h.1 y before later e name q h.3 has_request ok)

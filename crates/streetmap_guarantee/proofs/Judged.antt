@@ -28,7 +28,7 @@ use Rattle.streetmap_ledger.specs.declared.reply.Reply.{Reply}
 use Rattle.streetmap_ledger.specs.declared.reply.Reply.TheVariants.{Accepted, Repeated, Refused}
 use Rattle.streetmap_ledger.specs.declared.reply.Fault.{Fault}
 use Rattle.streetmap_ledger.specs.declared.reply.Fault.TheVariants as keeper_faults
-use Rattle.streetmap_routes.specs.Operations.{OperationValue, faulty, landing_page, api_text, conformance_classes, all_collections, one_collection, page, feature, changes, batch}
+use Rattle.streetmap_routes.specs.Operations.{OperationValue, faulty, landing_page, api_text, conformance_classes, all_collections, one_collection, page, feature, changes, service_status, batch}
 use Rattle.streetmap_bodies.specs.RequestFaults.{status_of, query_status, batch_status, keeper_status}
 use Rattle.streetmap_bodies.specs.declared.request_fault.RequestFault.{RequestFault}
 use Rattle.streetmap_bodies.specs.declared.request_fault.RequestFault.TheVariants as request_faults
@@ -116,6 +116,7 @@ response_304 root s (one_collection name) e = collection_304 root (summary_in s 
 response_304 root s (page name q) e = page_304 root name q (page_in s name q) e
 response_304 root s (feature name id) e = feature_304 root name (feature_in s name id) e
 response_304 root s (changes after limit) e = omega (arith, e)
+response_304 root s service_status e = omega (arith, e)
 response_304 root s (batch b) e = reply_304 b.key (act s b).reply e
 
 -- ---- a batch under `If-Match` with one tag
@@ -204,6 +205,7 @@ module _ (root : Text) (s : State) where
   judged_304 (page name q) verdict e = read_304 (page name q) verdict e
   judged_304 (feature name id) verdict e = read_304 (feature name id) verdict e
   judged_304 (changes after limit) verdict e = read_304 (changes after limit) verdict e
+  judged_304 service_status verdict e = read_304 service_status verdict e
   judged_304 (batch b) verdict e = absurd (batch_no_304 b verdict e)
 
   needed_304 : (operation : OperationValue) (verdict : Verdict) (needed : Bool)

@@ -12,3 +12,4 @@ pub mod TagsOfRuns
 pub mod ChangesAnswered
 pub mod WithoutOptions
 pub mod Guarded
+pub mod Serials

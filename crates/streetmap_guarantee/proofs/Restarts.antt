@@ -4,7 +4,7 @@ use Rattle.std.proofs.lemmas.List.{append-nil}
 use Rattle.streetmap_batch.specs.BatchValue.{BatchValue}
 use Rattle.streetmap_ledger.specs.State.{State}
 use Rattle.streetmap_ledger.specs.Batches.{act, after_all}
-use Rattle.streetmap_routes.specs.Operations.{OperationValue, faulty, landing_page, api_text, conformance_classes, all_collections, one_collection, page, feature, changes, batch}
+use Rattle.streetmap_routes.specs.Operations.{OperationValue, faulty, landing_page, api_text, conformance_classes, all_collections, one_collection, page, feature, changes, service_status, batch}
 use Rattle.streetmap_web.specs.Site.{SiteValue}
 use Rattle.streetmap_http.specs.Preconditions.{PreconditionsValue}
 use Rattle.streetmap_ledger.specs.Kept.{batch_count}
@@ -94,6 +94,7 @@ by_operation s u t bs (one_collection name) was is = no_more s t bs (is ∙ was)
 by_operation s u t bs (page name q) was is = no_more s t bs (is ∙ was)
 by_operation s u t bs (feature name id) was is = no_more s t bs (is ∙ was)
 by_operation s u t bs (changes after limit) was is = no_more s t bs (is ∙ was)
+by_operation s u t bs service_status was is = no_more s t bs (is ∙ was)
 
 by_verdict : (s u t : State) (bs : List BatchValue) (operation : OperationValue) (verdict : Verdict) → u ≡ after_all s bs
     → t ≡ state_by u operation verdict → OneMore s t bs

@@ -8,33 +8,30 @@ use Rattle.streetmap_http.specs.Preconditions.{PreconditionsValue, tags}
 use Rattle.streetmap_batch.specs.Text.{Text}
 use Rattle.streetmap_batch.specs.BatchValue.{BatchValue}
 use Rattle.streetmap_batch.specs.BatchText.{batch_text}
-use Rattle.streetmap_geojson.specs.FeatureValue.{FeatureValue}
-use Rattle.streetmap_query.specs.QueryValue.{QueryValue}
 use Rattle.streetmap_ledger.specs.State.{State, AcceptedBatch}
 use Rattle.streetmap_ledger.specs.Batches.{Outcome, edited, fresh, by_key, kept_for, act, after_all, most_batches}
 use Rattle.streetmap_ledger.specs.Kept.{batch_count}
-use Rattle.streetmap_ledger.specs.Pages.{PageValue, page_in, feature_in}
-use Rattle.streetmap_ledger.specs.Summaries.{SummaryValue, summary_in}
 use Rattle.streetmap_ledger.specs.declared.reply.Refusal.{Refusal}
 use Rattle.streetmap_ledger.specs.declared.reply.Fault.{Fault}
 use Rattle.streetmap_ledger.specs.declared.reply.Fault.TheVariants.{Memory, Device, Reopen}
 use Rattle.streetmap_ledger.proofs.Repeat.{either, edited_keys}
-use Rattle.streetmap_routes.specs.Operations.{OperationValue, faulty, landing_page, api_text, conformance_classes, all_collections, one_collection, page, feature, changes, batch}
-use Rattle.streetmap_bodies.specs.declared.request_fault.RequestFault.{RequestFault}
+use Rattle.streetmap_routes.specs.Operations.{OperationValue, faulty, landing_page, api_text, conformance_classes, all_collections, one_collection, page, feature, changes, service_status, batch}
 use Rattle.streetmap_bodies.specs.declared.request_fault.RequestFault.TheVariants.{Keeper}
 use Rattle.streetmap_tags.specs.Keys.{is_used}
 use Rattle.streetmap_web.specs.Site.{SiteValue}
 use Rattle.streetmap_web.specs.declared.verdict.Verdict.{Verdict}
 use Rattle.streetmap_web.specs.declared.verdict.Verdict.TheVariants.{Holds, NotModified, Changed}
-use Rattle.streetmap_web.specs.Response.{ResponseValue, Wanted, fault_response, found_page, found_feature, found_collection, replied, response_in, response_shut, needs_state, tagged, instead, not_modified, changed, is_batch, verdict_on, read_judged, judged, state_by, response_under, state_under, response_to}
-use Rattle.streetmap_web.proofs.Verdicts.{new_key, read_by, read_is_judged}
+use Rattle.streetmap_web.specs.Response.{ResponseValue, Wanted, fault_response, replied, response_in, response_shut, needs_state, tagged, instead, not_modified, changed, is_batch, verdict_on, read_judged, judged, state_by, response_under, state_under, response_to, state_to, with_serial, shows_serial}
+use Rattle.streetmap_web.proofs.Verdicts.{new_key, read_stays, read_by, read_is_judged}
+use Rattle.streetmap_web.proofs.Untagged.{untagged_fault, untagged, untagged_shut, no_tag, serial_tag}
+use Rattle.streetmap_web.proofs.Statuses.{serial_status}
 use Rattle.streetmap_guarantee.specs.Server.{Server, serving, state_of}
 use Rattle.streetmap_guarantee.specs.Histories as seq
 use Rattle.streetmap_guarantee.specs.Histories.{Step, Event, IsSequential, with_acknowledged, acknowledged}
 use Rattle.streetmap_guarantee.specs.Tagging.{Happens, state_after, OneTagOneState, NotModifiedIsTheSame, NoLostChange}
 use Rattle.streetmap_guarantee.proofs.Restarts.{after_append}
 use Rattle.streetmap_guarantee.proofs.Histories.{step_acts, not_200, changed_not_200}
-use Rattle.streetmap_guarantee.proofs.Judged.{batch_acts_on, fault_304, response_304, batch_no_304, Is304, under_304}
+use Rattle.streetmap_guarantee.proofs.Judged.{batch_acts_on, fault_304, response_304, batch_no_304, under_304}
 
 -- ---- the number of batches never falls, and if it stays the state does
 
@@ -81,6 +78,7 @@ acknowledged_first (one_collection name) r bs cs = refl
 acknowledged_first (page name q) r bs cs = refl
 acknowledged_first (feature name id) r bs cs = refl
 acknowledged_first (changes after limit) r bs cs = refl
+acknowledged_first service_status r bs cs = refl
 acknowledged_first (batch b) r bs cs = by_test (r.status == 200) where
   by_test : (t : Bool) → (if t then b ∷ (bs ++ cs) else bs ++ cs) ≡ (if t then b ∷ bs else bs) ++ cs
   by_test true = refl
@@ -123,52 +121,6 @@ event_at site x y (f ∷ before) later e h =
     }
 
 -- ---- tags of answers
-
-untagged_page : (root name : Text) (q : QueryValue) (o : Option PageValue) → (found_page root name q o).tag ≡ None
-unfolding fault_response
-untagged_page root name q None = refl
-untagged_page root name q (Some p) = refl
-
-untagged_feature : (root name : Text) (o : Option FeatureValue) → (found_feature root name o).tag ≡ None
-unfolding fault_response
-untagged_feature root name None = refl
-untagged_feature root name (Some f) = refl
-
-untagged_collection : (root : Text) (o : Option SummaryValue) → (found_collection root o).tag ≡ None
-unfolding fault_response
-untagged_collection root None = refl
-untagged_collection root (Some s) = refl
-
-untagged_fault : (fault : RequestFault) → (fault_response fault).tag ≡ None
-unfolding fault_response
-untagged_fault fault = refl
-
-pub untagged : (root : Text) (s : State) (operation : OperationValue) → (response_in root s operation).tag ≡ None
-untagged root s (faulty fault) = untagged_fault fault
-untagged root s landing_page = refl
-untagged root s api_text = refl
-untagged root s conformance_classes = refl
-untagged root s all_collections = refl
-untagged root s (one_collection name) = untagged_collection root (summary_in s name)
-untagged root s (page name q) = untagged_page root name q (page_in s name q)
-untagged root s (feature name id) = untagged_feature root name (feature_in s name id)
-untagged root s (changes after limit) = refl
-untagged root s (batch b) = refl
-
-untagged_shut : (root : Text) (operation : OperationValue) → (response_shut root operation).tag ≡ None
-untagged_shut root (faulty fault) = untagged_fault fault
-untagged_shut root landing_page = refl
-untagged_shut root api_text = refl
-untagged_shut root conformance_classes = refl
-untagged_shut root all_collections = untagged_fault (Keeper Reopen)
-untagged_shut root (one_collection name) = untagged_fault (Keeper Reopen)
-untagged_shut root (page name q) = untagged_fault (Keeper Reopen)
-untagged_shut root (feature name id) = untagged_fault (Keeper Reopen)
-untagged_shut root (changes after limit) = untagged_fault (Keeper Reopen)
-untagged_shut root (batch b) = untagged_fault (Keeper Reopen)
-
-no_tag : {A : Type 0} (o : Option ℕ) (n : ℕ) → o ≡ None → o ≡ Some n → A
-no_tag o n none some = absurd (let bad : ◌≡◌ {A = Option ℕ} None (Some n) = sym none ∙ some in cc)
 
 -- a response has no tag, or this one
 abbrev HasTag : ℕ → ResponseValue → Type 0
@@ -216,6 +168,7 @@ module _ (root : Text) (s : State) where
   judged_has (page name q) verdict = reads_have (page name q) verdict refl (read_has (batch_count s) (response_in root s (page name q)) verdict (untagged root s (page name q)))
   judged_has (feature name id) verdict = reads_have (feature name id) verdict refl (read_has (batch_count s) (response_in root s (feature name id)) verdict (untagged root s (feature name id)))
   judged_has (changes after limit) verdict = reads_have (changes after limit) verdict refl (read_has (batch_count s) (response_in root s (changes after limit)) verdict (untagged root s (changes after limit)))
+  judged_has service_status verdict = reads_have service_status verdict refl (read_has (batch_count s) (response_in root s service_status) verdict (untagged root s service_status))
   judged_has (batch b) Holds = tagged_has (batch_count (act s b).state) (replied b.key (act s b).reply) refl
   judged_has (batch b) NotModified = held_has (batch_count s) (replied b.key (act s b).reply) (is_used s b.key) refl
   judged_has (batch b) Changed = held_has (batch_count s) (replied b.key (act s b).reply) (is_used s b.key) refl
@@ -232,7 +185,8 @@ module _ (root : Text) (s : State) where
 -- the tag of an answer is that of the state after its request
 step_tag : (site : SiteValue) (wanted : Wanted) (r : ResponseValue) (x y : Server) (n : ℕ) → Step site wanted r x y → r.tag ≡ Some n → n ≡ batch_count (state_of y)
 step_tag site wanted r x y n (seq.answered s was is now) e =
-    under_has site.root s wanted.operation wanted.conditions n (ap (λ (p : ResponseValue). p.tag) (sym is) ∙ e)
+    under_has site.root s wanted.operation wanted.conditions n (sym (serial_tag (shows_serial wanted) (batch_count (state_to s wanted)) _)
+    ∙ ap (λ (p : ResponseValue). p.tag) (sym is) ∙ e)
     ∙ ap (λ (z : Server). batch_count (state_of z)) (sym now)
 step_tag site wanted r x y n (seq.out_of_memory is now) e = no_tag r.tag n (ap (λ (p : ResponseValue). p.tag) is ∙ untagged_fault (Keeper Memory)) e
 step_tag site wanted r x y n (seq.store_failed s was has_request is now) e = no_tag r.tag n (ap (λ (p : ResponseValue). p.tag) is ∙ untagged_fault (Keeper Device)) e
@@ -303,9 +257,11 @@ acted_on : (site : SiteValue) (s : State) (c : List Event) (f : Event) (b : Batc
     → (n ≡ batch_count (state_after s c)) ⊎ (is_used (state_after s c) b.key ≡ true)
 acted_on site s c f b p n x y from (seq.answered t was shown now) is conditions listed ok below few =
     let here : state_after s c ≡ t = sym from ∙ ap state_of was in
-    let wanted : response_to site.root t f.request.wanted ≡ response_under site.root t (batch b) (Some p) =
+    let wanted : response_under site.root t f.request.wanted.operation f.request.wanted.conditions ≡ response_under site.root t (batch b) (Some p) =
     ap (λ (o : OperationValue). response_under site.root t o f.request.wanted.conditions) is ∙ ap (response_under site.root t (batch b)) conditions in
-    let status : (response_under site.root t (batch b) (Some p)).status ≡ 200 = ap (λ (r : ResponseValue). r.status) (sym wanted ∙ sym shown) ∙ ok in
+    let status : (response_under site.root t (batch b) (Some p)).status ≡ 200 =
+    ap (λ (r : ResponseValue). r.status) (sym wanted) ∙ sym (serial_status (shows_serial f.request.wanted) (batch_count (state_to t f.request.wanted)) _)
+    ∙ ap (λ (r : ResponseValue). r.status) (sym shown) ∙ ok in
     subst (λ (u : State). (n ≡ batch_count u) ⊎ (is_used u b.key ≡ true)) (sym here)
     (batch_acts_on site.root t b p n listed (subst (λ (u : State). batch_count u < 2 ^ 64) here few) below status)
 acted_on site s c f b p n x y from (seq.out_of_memory shown now) is conditions listed ok below few = not_answered Memory f.response shown ok
@@ -365,14 +321,34 @@ under_shows : (root : Text) (s : State) (operation : OperationValue) (conditions
 under_shows root s operation None n reads ok e = no_tag (response_in root s operation).tag n (untagged root s operation) e
 under_shows root s operation (Some p) n reads ok e = needed_shows root s operation (verdict_on (batch_count s) p operation) n reads (needs_state operation) ok e
 
+-- the same, with its serial if it is shown
+record ShowsTo (root : Text) (s : State) (wanted : Wanted) (n : ℕ) (r : ResponseValue) : Type 0 where
+  is : r ≡ with_serial (shows_serial wanted) n (tagged n (response_in root s wanted.operation))
+  tag : n ≡ batch_count s
+
+-- a read leaves the state as it is
+read_kept : (s : State) (operation : OperationValue) (conditions : Option PreconditionsValue) → is_batch operation ≡ false → state_under s operation conditions ≡ s
+read_kept s operation None reads = read_stays s operation reads
+read_kept s operation (Some p) reads = read_by s operation (verdict_on (batch_count s) p operation) reads
+
+to_shows : (root : Text) (s : State) (wanted : Wanted) (n : ℕ) → is_batch wanted.operation ≡ false → (response_to root s wanted).status ≡ 200
+    → (response_to root s wanted).tag ≡ Some n → ShowsTo root s wanted n (response_to root s wanted)
+to_shows root s wanted n reads ok e =
+    let numbered = shows_serial wanted in
+    let under = response_under root s wanted.operation wanted.conditions in
+    let count = batch_count (state_to s wanted) in
+    let it = under_shows root s wanted.operation wanted.conditions n reads (sym (serial_status numbered count under) ∙ ok) (sym (serial_tag numbered count under) ∙ e) in
+    let same : count ≡ n = ap batch_count (read_kept s wanted.operation wanted.conditions reads) ∙ sym it.tag in
+    record { is = ap (with_serial numbered count) it.is ∙ ap (λ k. with_serial numbered k (tagged n (response_in root s wanted.operation))) same; tag = it.tag }
+
 -- the answer to a read that was shown with a tag
 shown_with : (site : SiteValue) (wanted : Wanted) (r : ResponseValue) (x y : Server) (n : ℕ) → Step site wanted r x y → is_batch wanted.operation ≡ false
-    → r.status ≡ 200 → r.tag ≡ Some n → Shows site.root (state_of x) wanted.operation n r
+    → r.status ≡ 200 → r.tag ≡ Some n → ShowsTo site.root (state_of x) wanted n r
 shown_with site wanted r x y n (seq.answered t was shown now) reads ok e =
-    let it = under_shows site.root t wanted.operation wanted.conditions n reads (ap (λ (p : ResponseValue). p.status) (sym shown) ∙ ok)
+    let it = to_shows site.root t wanted n reads (ap (λ (p : ResponseValue). p.status) (sym shown) ∙ ok)
     (ap (λ (p : ResponseValue). p.tag) (sym shown) ∙ e) in
-    subst (λ (z : Server). Shows site.root (state_of z) wanted.operation n r) (sym was)
-    (subst (λ (p : ResponseValue). Shows site.root t wanted.operation n p) (sym shown) it)
+    subst (λ (z : Server). ShowsTo site.root (state_of z) wanted n r) (sym was)
+    (subst (λ (p : ResponseValue). ShowsTo site.root t wanted n p) (sym shown) it)
 shown_with site wanted r x y n (seq.out_of_memory shown now) reads ok e = not_answered Memory r shown ok
 shown_with site wanted r x y n (seq.store_failed t was needed shown now) reads ok e = not_answered Device r shown ok
 shown_with site wanted r x y n (seq.still_failed before later was shown now) reads ok e =
@@ -392,19 +368,8 @@ shut_304 root (one_collection name) e = fault_304 (Keeper Reopen) e
 shut_304 root (page name q) e = fault_304 (Keeper Reopen) e
 shut_304 root (feature name id) e = fault_304 (Keeper Reopen) e
 shut_304 root (changes after limit) e = fault_304 (Keeper Reopen) e
+shut_304 root service_status e = fault_304 (Keeper Reopen) e
 shut_304 root (batch b) e = fault_304 (Keeper Reopen) e
-
--- it is that of the state before the request
-step_304 : (site : SiteValue) (wanted : Wanted) (r : ResponseValue) (x y : Server) → Step site wanted r x y → r.status ≡ 304
-    → Is304 site.root (state_of x) wanted.operation r
-step_304 site wanted r x y (seq.answered t was shown now) e =
-    let it = under_304 site.root t wanted.operation wanted.conditions (ap (λ (p : ResponseValue). p.status) (sym shown) ∙ e) in
-    subst (λ (z : Server). Is304 site.root (state_of z) wanted.operation r) (sym was)
-    (subst (λ (p : ResponseValue). Is304 site.root t wanted.operation p) (sym shown) it)
-step_304 site wanted r x y (seq.out_of_memory shown now) e = not_304 Memory r shown e
-step_304 site wanted r x y (seq.store_failed t was needed shown now) e = not_304 Device r shown e
-step_304 site wanted r x y (seq.still_failed before later was shown now) e =
-    absurd (shut_304 site.root wanted.operation (ap (λ (p : ResponseValue). p.status) (sym shown) ∙ e))
 
 -- and only a read is answered so
 batch_or_read : (operation : OperationValue) → ((b : BatchValue) → operation ≡ batch b → ⊥) → is_batch operation ≡ false
@@ -417,22 +382,50 @@ batch_or_read (one_collection name) none = refl
 batch_or_read (page name q) none = refl
 batch_or_read (feature name id) none = refl
 batch_or_read (changes after limit) none = refl
+batch_or_read service_status none = refl
 batch_or_read (batch b) none = absurd (none b refl)
 
 batch_under_304 : (root : Text) (s : State) (b : BatchValue) (conditions : Option PreconditionsValue) → (response_under root s (batch b) conditions).status ≡ 304 → ⊥
 batch_under_304 root s b None e = response_304 root s (batch b) e
 batch_under_304 root s b (Some p) e = batch_no_304 root s b (verdict_on (batch_count s) p (batch b)) e
 
+to_304_only : (root : Text) (s : State) (wanted : Wanted) → (response_to root s wanted).status ≡ 304 → is_batch wanted.operation ≡ false
+to_304_only root s wanted e = batch_or_read wanted.operation (λ b is.
+    batch_under_304 root s b wanted.conditions
+    (ap (λ (o : OperationValue). (response_under root s o wanted.conditions).status) (sym is)
+    ∙ sym (serial_status (shows_serial wanted) (batch_count (state_to s wanted)) (response_under root s wanted.operation wanted.conditions)) ∙ e))
+
 read_304_only : (site : SiteValue) (s : State) (c : List Event) (f : Event) (x y : Server) → state_of x ≡ state_after s c → Step site f.request.wanted f.response x y
     → f.response.status ≡ 304 → is_batch f.request.wanted.operation ≡ false
-read_304_only site s c f x y from (seq.answered t was shown now) e = batch_or_read f.request.wanted.operation (λ b is.
-    batch_under_304 site.root t b f.request.wanted.conditions
-    (ap (λ (o : OperationValue). (response_under site.root t o f.request.wanted.conditions).status) (sym is)
-    ∙ ap (λ (p : ResponseValue). p.status) (sym shown) ∙ e))
+read_304_only site s c f x y from (seq.answered t was shown now) e = to_304_only site.root t f.request.wanted (ap (λ (p : ResponseValue). p.status) (sym shown) ∙ e)
 read_304_only site s c f x y from (seq.out_of_memory shown now) e = not_304 Memory f.response shown e
 read_304_only site s c f x y from (seq.store_failed t was needed shown now) e = not_304 Device f.response shown e
 read_304_only site s c f x y from (seq.still_failed before later was shown now) e =
     absurd (shut_304 site.root f.request.wanted.operation (ap (λ (p : ResponseValue). p.status) (sym shown) ∙ e))
+
+-- it is that of the state before the request, with its serial if it is shown
+record Is304To (root : Text) (s : State) (wanted : Wanted) (r : ResponseValue) : Type 0 where
+  is : r ≡ with_serial (shows_serial wanted) (batch_count s) (not_modified (batch_count s))
+  would : (response_in root s wanted.operation).status ≡ 200
+
+to_304 : (root : Text) (s : State) (wanted : Wanted) → (response_to root s wanted).status ≡ 304 → Is304To root s wanted (response_to root s wanted)
+to_304 root s wanted e =
+    let numbered = shows_serial wanted in
+    let count = batch_count (state_to s wanted) in
+    let it = under_304 root s wanted.operation wanted.conditions (sym (serial_status numbered count (response_under root s wanted.operation wanted.conditions)) ∙ e) in
+    let same : count ≡ batch_count s = ap batch_count (read_kept s wanted.operation wanted.conditions (to_304_only root s wanted e)) in
+    record { is = ap (with_serial numbered count) it.is ∙ ap (λ k. with_serial numbered k (not_modified (batch_count s))) same; would = it.would }
+
+step_304 : (site : SiteValue) (wanted : Wanted) (r : ResponseValue) (x y : Server) → Step site wanted r x y → r.status ≡ 304
+    → Is304To site.root (state_of x) wanted r
+step_304 site wanted r x y (seq.answered t was shown now) e =
+    let it = to_304 site.root t wanted (ap (λ (p : ResponseValue). p.status) (sym shown) ∙ e) in
+    subst (λ (z : Server). Is304To site.root (state_of z) wanted r) (sym was)
+    (subst (λ (p : ResponseValue). Is304To site.root t wanted p) (sym shown) it)
+step_304 site wanted r x y (seq.out_of_memory shown now) e = not_304 Memory r shown e
+step_304 site wanted r x y (seq.store_failed t was needed shown now) e = not_304 Device r shown e
+step_304 site wanted r x y (seq.still_failed before later was shown now) e =
+    absurd (shut_304 site.root wanted.operation (ap (λ (p : ResponseValue). p.status) (sym shown) ∙ e))
 
 -- two parts of one history after which as many batches are kept
 parts_alike : (s : State) (b c l m : List Event) → b ++ l ≡ c ++ m → batch_count (state_after s b) ≡ batch_count (state_after s c) → state_after s b ≡ state_after s c
@@ -448,7 +441,7 @@ parts_alike s b c l m whole counts = elim (one_begins b c l m whole) [
 pub not_modified_is_the_same : NotModifiedIsTheSame
 not_modified_is_the_same site s history c f it status =
     let at = event_at site (serving s) it.server c it.later f (subst (λ (h : List Event). IsSequential site (serving s) h it.server) it.is it.sequential) in
-    let says = subst (λ (t : State). Is304 site.root t f.request.wanted.operation f.response) at.from
+    let says = subst (λ (t : State). Is304To site.root t f.request.wanted f.response) at.from
     (step_304 site f.request.wanted f.response at.old at.new at.step status) in (
       batch_count (state_after s c),
       says.is,
@@ -456,9 +449,11 @@ not_modified_is_the_same site s history c f it status =
       λ b e other same ok tag.
           let there = event_at site (serving s) other.server b other.later e (subst (λ (h : List Event). IsSequential site (serving s) h other.server) other.is other.sequential) in
           let reads : is_batch e.request.wanted.operation ≡ false = ap is_batch same ∙ read_304_only site s c f at.old at.new at.from at.step status in
-          let shows = subst (λ (t : State). Shows site.root t e.request.wanted.operation (batch_count (state_after s c)) e.response) there.from
+          let shows = subst (λ (t : State). ShowsTo site.root t e.request.wanted (batch_count (state_after s c)) e.response) there.from
           (shown_with site e.request.wanted e.response there.old there.new (batch_count (state_after s c)) there.step reads ok tag) in
           let alike = parts_alike s b c (e ∷ other.later) (f ∷ it.later) (sym other.is ∙ it.is) (sym shows.tag) in
-          shows.is ∙ ap (λ (t : State). tagged (batch_count (state_after s c)) (response_in site.root t e.request.wanted.operation)) alike
-          ∙ ap (λ (o : OperationValue). tagged (batch_count (state_after s c)) (response_in site.root (state_after s c) o)) same,
+          let numbered = shows_serial e.request.wanted in
+          let count = batch_count (state_after s c) in
+          shows.is ∙ ap (λ (t : State). with_serial numbered count (tagged count (response_in site.root t e.request.wanted.operation))) alike
+          ∙ ap (λ (o : OperationValue). with_serial numbered count (tagged count (response_in site.root (state_after s c) o))) same,
     )

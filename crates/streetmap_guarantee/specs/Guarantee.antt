@@ -1,6 +1,6 @@
 -- What serving guarantees.
 use Rattle.std.specs.Prelude.{◌≡◌, List, ◌∷◌, ◌++◌, map, All}
-use Rattle.std.specs.Prelude.{ℕ, Option, Some, None}
+use Rattle.std.specs.Prelude.{ℕ, Bool, Option, Some, None, if◌then◌else◌}
 use Rattle.streetmap_http.specs.Preconditions.{PreconditionsValue}
 use Rattle.streetmap_ledger.specs.Kept.{batch_count}
 use Rattle.serde_json.specs.Written.{compact_text}
@@ -17,7 +17,7 @@ use Rattle.streetmap_connections.specs.Interleaving.{IsInterleaving}
 use Rattle.streetmap_connections.specs.RefusedRequests.{AreRefused}
 use Rattle.streetmap_web.specs.Site.{SiteValue}
 use Rattle.streetmap_web.specs.Refusals.{IsRefusal}
-use Rattle.streetmap_web.specs.Response.{ResponseValue, found}
+use Rattle.streetmap_web.specs.Response.{ResponseValue, Wanted, found}
 use Rattle.streetmap_guarantee.specs.Server.{Server, serving, state_of, HasKept}
 use Rattle.streetmap_guarantee.specs.Histories.{Event, IsSequential, acknowledged}
 
@@ -39,12 +39,16 @@ abbrev pub tag_of : Option PreconditionsValue → State → Option ℕ
 tag_of None s = None
 tag_of (Some p) s = Some (batch_count s)
 
--- the response is the page of the state, with its tag if there are conditions
-abbrev pub ShowsPage : Text → State → Text → QueryValue → Option PreconditionsValue → ResponseValue
-    → Type 0
-ShowsPage root s name q conditions response = (p : PageValue) × (page_in s name q ≡ Some p)
+-- the serial of an answer from the state, if the request wants it shown
+abbrev pub serial_of : (numbered : Bool) → State → Option ℕ
+serial_of numbered s = if numbered then Some (batch_count s) else None
+
+-- the response is the page of the state, with its tag if there are conditions, and with its serial
+-- if that is wanted
+abbrev pub ShowsPage : Text → State → Text → QueryValue → Wanted → ResponseValue → Type 0
+ShowsPage root s name q wanted response = (p : PageValue) × (page_in s name q ≡ Some p)
     × (response ≡ record (found GeoJson (compact_text (page_data root name q p)))
-    { tag = tag_of conditions s })
+    { tag = tag_of wanted.conditions s; serial = serial_of wanted.numbered s })
 
 -- Connections were served, from a state on. A crash leaves one of the images that `leaves` admits,
 -- and `holds` says which state an image holds.
@@ -63,8 +67,7 @@ pub record Guarantee {Image : Type 0} (holds : Image → State → Type 0) (leav
       (before later : List Event) (e : Event) (name : Text) (q : QueryValue)
       → history ≡ before ++ e ∷ later → e.request.wanted.operation ≡ page name q
       → e.response.status ≡ 200
-      → ShowsPage site.root (after_all s (acknowledged before)) name q e.request.wanted.conditions
-      e.response
+      → ShowsPage site.root (after_all s (acknowledged before)) name q e.request.wanted e.response
   -- the server has acted on the acknowledged batches, and on no other
   pub acts : state_of server ≡ after_all s (acknowledged history)
   -- whatever a crash leaves holds the state that this server has kept: that of all acknowledged

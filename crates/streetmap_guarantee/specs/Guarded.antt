@@ -8,7 +8,8 @@ use Rattle.streetmap_bodies.specs.declared.request_fault.RequestFault.{RequestFa
 use Rattle.streetmap_bodies.specs.declared.request_fault.RequestFault.TheVariants.{Fenced, Follower}
 use Rattle.streetmap_web.specs.Guards.{GuardValue, free, fenced, follower, is_of_batch}
 use Rattle.streetmap_web.specs.Site.{SiteValue}
-use Rattle.streetmap_web.specs.Response.{fault_response, is_batch, request_of, response_to, state_to}
+use Rattle.streetmap_web.specs.Response.{fault_response, is_batch, request_of, response_to}
+use Rattle.streetmap_web.specs.Response.{state_to}
 
 -- a service with this guard, otherwise the same
 abbrev pub with_guard : GuardValue → SiteValue → SiteValue
@@ -22,11 +23,11 @@ pub record IsRefused (fault : RequestFault) (site : SiteValue) (h : HeadValue) (
   pub unchanged : (s : State) → state_to s (request_of site h body).wanted ≡ s
   pub no_batch : is_batch (request_of site h body).wanted.operation ≡ false
   pub refused :
-      is_of_batch (operation_with site.changes h.method h.target body) ≡ true → (s : State)
+      is_of_batch (operation_with site.offers h.method h.target body) ≡ true → (s : State)
       → response_to site.root s (request_of site h body).wanted ≡ fault_response fault
   pub status : (fault_response fault).status ≡ 403
   pub reads :
-      is_of_batch (operation_with site.changes h.method h.target body) ≡ false
+      is_of_batch (operation_with site.offers h.method h.target body) ≡ false
       → request_of site h body ≡ request_of (with_guard free site) h body
 
 -- so it is with each request to a fenced service

@@ -8,5 +8,6 @@ pub mod Restarts
 pub mod Tagging
 pub mod TagsOfRuns
 pub mod Changes
+pub mod Serials
 pub mod WithoutOptions
 pub mod Guarded

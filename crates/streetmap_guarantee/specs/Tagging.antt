@@ -9,7 +9,8 @@ use Rattle.streetmap_ledger.specs.Kept.{batch_count}
 use Rattle.streetmap_routes.specs.Operations.{batch}
 use Rattle.streetmap_tags.specs.Keys.{is_used}
 use Rattle.streetmap_web.specs.Site.{SiteValue}
-use Rattle.streetmap_web.specs.Response.{response_in, not_modified, tagged}
+use Rattle.streetmap_web.specs.Response.{response_in, not_modified, tagged, with_serial}
+use Rattle.streetmap_web.specs.Response.{shows_serial}
 use Rattle.streetmap_guarantee.specs.Server.{Server, serving}
 use Rattle.streetmap_guarantee.specs.Histories.{Event, IsSequential, acknowledged}
 
@@ -35,16 +36,19 @@ OneTagOneState =
 
 -- A 304 comes only if the answer would have been the one that had its tag: the request without its
 -- conditions would have been answered with status 200, and each read of the history that wanted the
--- same and was answered with this tag was answered so.
+-- same and was answered with this tag was answered so. Both show the serial if the request wants
+-- it.
 abbrev pub NotModifiedIsTheSame : Type 0
 NotModifiedIsTheSame =
     (site : SiteValue) (s : State) (history c : List Event) (f : Event) → Happens site s history c f
-    → f.response.status ≡ 304 → (n : ℕ) × (f.response ≡ not_modified n)
+    → f.response.status ≡ 304
+    → (n : ℕ) × (f.response ≡ with_serial (shows_serial f.request.wanted) n (not_modified n))
     × ((response_in site.root (state_after s c) f.request.wanted.operation).status ≡ 200)
     × ((b : List Event) (e : Event) → Happens site s history b e
     → e.request.wanted.operation ≡ f.request.wanted.operation
     → e.response.status ≡ 200 → e.response.tag ≡ Some n
-    → e.response ≡ tagged n (response_in site.root (state_after s c) f.request.wanted.operation))
+    → e.response ≡ with_serial (shows_serial e.request.wanted) n
+    (tagged n (response_in site.root (state_after s c) f.request.wanted.operation)))
 
 -- No lost change: a batch under `If-Match` with one tag that was answered with status 200 acted on
 -- the state that has this tag, or is a repeat. (The numbers of batches that a keeper's state has

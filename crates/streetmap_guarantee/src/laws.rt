@@ -1,7 +1,8 @@
-//! Laws of tags and conditions, of changes, and of services that refuse batches.
+//! Laws of tags and conditions, of changes, of serials, and of services that refuse batches.
 ghost use Rattle.streetmap_guarantee.specs.Changes.{ChangesAreAnswered};
 ghost use Rattle.streetmap_guarantee.specs.Guarded.{FencedIsUnchanged, FollowerIsUnchanged};
 ghost use Rattle.streetmap_guarantee.specs.Guarded.{ScriptIsServed};
+ghost use Rattle.streetmap_guarantee.specs.Serials.{SerialIsOfTheStateAfter, OtherPathsAreTheSame};
 ghost use Rattle.streetmap_guarantee.specs.Tagging.{OneTagOneState, NotModifiedIsTheSame};
 ghost use Rattle.streetmap_guarantee.specs.Tagging.{NoLostChange};
 ghost use Rattle.streetmap_guarantee.specs.WithoutOptions.{AllArePlain};
@@ -28,8 +29,19 @@ pub fn changes_are_answered()
     ensures { ChangesAreAnswered }
 {}
 
+/// Of a service that offers its status, an answer that needs the state shows the serial of the
+/// state after the request, and is otherwise as without it.
+pub fn serial_is_of_the_state_after()
+    ensures { SerialIsOfTheStateAfter }
+{}
+
+/// A request for another path than `/status` wants of such a service what it wants without it.
+pub fn other_paths_are_the_same()
+    ensures { OtherPathsAreTheSame }
+{}
+
 /// Without options a request wants what its method, target and body say, and is answered by the
-/// state alone, without a tag.
+/// state alone, without a tag and a serial.
 pub fn all_are_plain_without_options()
     ensures { AllArePlain }
 {}

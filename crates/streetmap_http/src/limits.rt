@@ -10,7 +10,7 @@ pub const FIELD_LIMIT: usize = 64;
 pub const BODY_LIMIT: usize = 8_388_608;
 
 /// The most bytes that the head of an answer has.
-pub const ANSWER_HEAD_LIMIT: usize = 256;
+pub const ANSWER_HEAD_LIMIT: usize = 288;
 
 /// The most digits that a number of 64 bits has.
 pub const NUMBER_LIMIT: usize = 20;

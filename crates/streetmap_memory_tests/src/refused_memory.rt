@@ -7,7 +7,7 @@ use std::io;
 use std::io::Write;
 use std::test::Fail;
 use streetmap_memory::PlainKeeper;
-use streetmap_routes::Base;
+use streetmap_routes::{Base, Offers};
 use streetmap_text_lines::Flush;
 use streetmap_web::{Guard, Site, serve};
 
@@ -86,7 +86,10 @@ fn refused_memory_is_answered_or_not_seen(rt: HostRuntime) -> Result<(), Fail> {
     let site = Site {
         base,
         tags: false,
-        changes: false,
+        offers: Offers {
+            changes: false,
+            status: false,
+        },
         guard: Guard::Free,
     };
     let mut keeper = PlainKeeper::new(rt.alloc());

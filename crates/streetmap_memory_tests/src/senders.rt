@@ -4,7 +4,7 @@ use std::io::BufWriter;
 use std::test::Fail;
 use streetmap_http::{Sent, send};
 use streetmap_memory::PlainKeeper;
-use streetmap_routes::Base;
+use streetmap_routes::{Base, Offers};
 use streetmap_web::{End, Guard, Site, serve};
 
 /// The result of sending an answer to a writer with this much room, and whether it took the prefix
@@ -50,7 +50,10 @@ fn a_failed_flush_ends_a_stream(rt: HostRuntime) -> Result<(), Fail> {
     let site = Site {
         base,
         tags: false,
-        changes: false,
+        offers: Offers {
+            changes: false,
+            status: false,
+        },
         guard: Guard::Free,
     };
     let sink = Sink {

@@ -33,4 +33,5 @@ operation_value (operations.Page name q) = operation.page (string_bytes name) (q
 operation_value (operations.Feature name id) = operation.feature (string_bytes name) (string_bytes
     id)
 operation_value (operations.Changes after limit) = operation.changes after limit
+operation_value operations.ServiceStatus = operation.service_status
 operation_value (operations.Batch b) = operation.batch (batch_value b)

@@ -19,6 +19,7 @@ use Rattle.streetmap_batch.specs.declared.batch_fault.BatchFault.{BatchFault}
 use Rattle.streetmap_routes.specs.ChangesQuery.{ChangesValue, changes_of, default_serial}
 use Rattle.streetmap_routes.specs.ChangesQuery.{default_limit}
 use Rattle.streetmap_routes.specs.Routes.{the_rows}
+use Rattle.streetmap_routes.specs.declared.offers.Offers.{Offers}
 use Rattle.streetmap_routes.specs.declared.routes.Route.{Route}
 use Rattle.streetmap_routes.specs.declared.routes.Route.TheVariants as routes
 use Rattle.streetmap_bodies.specs.declared.request_fault.RequestFault.{RequestFault}
@@ -81,6 +82,7 @@ pub data OperationValue : Type 0 where
   page : (name : Text) → QueryValue → OperationValue
   feature : (name id : Text) → OperationValue
   changes : (after limit : ℕ) → OperationValue
+  service_status : OperationValue
   batch : BatchValue → OperationValue
 
 -- what a body wants: a batch, or the first fault in it
@@ -169,8 +171,30 @@ changes_wanted method query =
 abbrev pub changes_path : Text
 changes_path = codes "/changes"
 
--- what is wanted of a service that offers changes or not
-unfoldable pub operation_with : (offered : Bool) → (method target body : Text) → OperationValue
-operation_with offered method target body =
-    if offered && bytes_eq (path_part target) changes_path
-    then changes_wanted method (query_part target) else operation_of method target body
+-- ---- status
+
+-- what a request for the status wants: by the method, and then by the query
+abbrev pub status_wanted : (method : Text) → (query : Option Text) → OperationValue
+status_wanted method query =
+    if allows Reads method
+    then (if has_pair query then faulty (Query UnknownParameter) else service_status)
+    else faulty (MethodNotAllowed Reads)
+
+-- the path of the status
+abbrev pub status_path : Text
+status_path = codes "/status"
+
+-- ---- with what a service offers
+
+-- of a service that offers the status or not
+abbrev pub status_or_other : (offered : Bool) → (method target body : Text) → OperationValue
+status_or_other offered method target body =
+    if offered && bytes_eq (path_part target) status_path
+    then status_wanted method (query_part target) else operation_of method target body
+
+-- what is wanted of a service that offers these paths
+unfoldable pub operation_with : Offers → (method target body : Text) → OperationValue
+operation_with offers method target body =
+    if offers.changes && bytes_eq (path_part target) changes_path
+    then changes_wanted method (query_part target)
+    else status_or_other offers.status method target body

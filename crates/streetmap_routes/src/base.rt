@@ -4,7 +4,7 @@ ghost use Rattle.url.specs.Parts.{serialize};
 ghost use Rattle.streetmap_routes.specs.BaseUrl.{IsBase, is_web as is_web_of};
 ghost use Rattle.streetmap_routes.specs.Routes.{the_rows};
 
-use crate::changes::operation_with;
+use crate::offers::{Offers, operation_with};
 use crate::operations::Operation;
 use crate::routes::{Route, make_router};
 use matchit::Router;
@@ -114,7 +114,7 @@ impl Base {
     }
 
     /// What a request wants, by its method, its target and its body (OGC 17-069, section 7), of a
-    /// service that offers changes or not.
+    /// service that offers these paths beside the eight.
     ///
     /// # Errors
     ///
@@ -122,14 +122,14 @@ impl Base {
     pub fn operation(
         &self,
         alloc: Global,
-        changes: bool,
+        offers: Offers,
         method: &[u8],
         target: &str,
         body: &[u8],
     ) -> Result<Operation, AllocError>
         ensures { IfOk result (λ operation. operation_value operation
-            ≡ operation_with changes method.now target.now body.now) }
+            ≡ operation_with offers method.now target.now body.now) }
     {
-        operation_with(alloc, &self.router, changes, method, target, body)
+        operation_with(alloc, &self.router, offers, method, target, body)
     }
 }

@@ -6,13 +6,9 @@ ghost use Rattle.streetmap_query.specs.Limit.{limit_of};
 ghost use Rattle.streetmap_routes.specs.ChangesQuery as spec;
 ghost use Rattle.streetmap_routes.specs.ChangesView.{changes_value, changes_read};
 ghost use Rattle.streetmap_routes.specs.Operations.{changes_wanted};
-ghost use Rattle.streetmap_routes.specs.Operations as operations;
 ghost use Rattle.streetmap_routes.specs.OperationView.{operation_value};
-ghost use Rattle.streetmap_routes.specs.Routes.{the_rows};
 
-use crate::operations::{Operation, allows, operation_for, split_target};
-use crate::routes::Route;
-use matchit::Router;
+use crate::operations::{Operation, allows};
 use std::alloc::{AllocError, Global};
 use streetmap_bodies::RequestFault;
 use streetmap_http::Methods;
@@ -162,7 +158,7 @@ fn read_changes(
 }
 
 /// What a request for changes wants: by the method, and then by the query.
-fn changes_operation(
+pub(crate) fn changes_operation(
     alloc: Global,
     method: &[u8],
     query: Option<&str>,
@@ -181,25 +177,4 @@ fn changes_operation(
         )),
         Err(fault) => Ok(Operation::Faulty(fault)),
     }
-}
-
-/// What a request wants of a service that offers changes or not.
-#[tactic(auto, unfolding(crate::specs::Operations::operation_with))]
-pub(crate) fn operation_with(
-    alloc: Global,
-    router: &Router<Route>,
-    offered: bool,
-    method: &[u8],
-    target: &str,
-    body: &[u8],
-) -> Result<Operation, AllocError>
-    requires { router.now ≡ the_rows }
-    ensures { IfOk result (λ a. operation_value a
-        ≡ operations.operation_with offered method.now target.now body.now) }
-{
-    let (path, query) = split_target(target);
-    if offered && path == "/changes" {
-        return changes_operation(alloc, method, query);
-    }
-    operation_for(alloc, router, method, target, body)
 }

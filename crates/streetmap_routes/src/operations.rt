@@ -36,6 +36,8 @@ pub enum Operation {
     Feature(String, String),
     /// The batches that were accepted after this serial, at most this number of them.
     Changes(u64, u32),
+    /// The status of the service.
+    ServiceStatus,
     /// A batch that is to be applied.
     Batch(Batch),
 }

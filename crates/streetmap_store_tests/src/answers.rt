@@ -2,7 +2,7 @@
 use std::alloc::Global;
 use std::io::BufWriter;
 use streetmap_ledger::{Keeper, read_batch};
-use streetmap_routes::Base;
+use streetmap_routes::{Base, Offers};
 use streetmap_tags::Tagged;
 use streetmap_web::{Guard, Site, serve};
 
@@ -18,7 +18,10 @@ pub(crate) fn answers<K: Tagged>(
     let site = Site {
         base,
         tags,
-        changes: tags,
+        offers: Offers {
+            changes: tags,
+            status: false,
+        },
         guard: Guard::Free,
     };
     let mut reader = requests.as_bytes();

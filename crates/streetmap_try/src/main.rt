@@ -10,7 +10,7 @@ use std::net::{Ipv4Addr, TcpListener};
 use std::process::ExitCode;
 use streetmap_connections::{Clients, Limits, ServeFault};
 use streetmap_memory::PlainKeeper;
-use streetmap_routes::Base;
+use streetmap_routes::{Base, Offers};
 use streetmap_web::{Guard, KeeperService, Site, Watch, serve_clients};
 
 /// How many clients are served at once.
@@ -88,7 +88,10 @@ fn run(rt: &HostRuntime) -> Result<(), TryFault> {
         site: Site {
             base,
             tags: false,
-            changes: false,
+            offers: Offers {
+                changes: false,
+                status: false,
+            },
             guard: Guard::Free,
         },
         log: false.then(|| rt.stderr()),

@@ -1,7 +1,6 @@
 -- What calls of a keeper, one after the other, keep.
 use Rattle.std.proofs.Common.{refl}
-use Rattle.std.specs.Prelude.{Option, None, Some, Result}
-use Rattle.streetmap_http.specs.Preconditions.{PreconditionsValue}
+use Rattle.std.specs.Prelude.{Bool, true, false, Result}
 use Rattle.streetmap_ledger.specs.Model.{Model}
 use Rattle.streetmap_ledger.specs.Keep.{IsCall}
 use Rattle.streetmap_ledger.specs.declared.reply.Fault.{Fault}
@@ -24,10 +23,10 @@ pub by_call : {K T : Type 0} {model : Model K} {old new : K} {r : Result T Fault
 by_call call = record { preserved = call.preserved; began_clean = call.began_clean }
 
 -- `apply` was not called if no call was made
-pub uncalled_itself : {K : Type 0} (model : Model K) (conditions : Option PreconditionsValue) (k : K) → IsUncalled model conditions k k
-uncalled_itself model None k = refl
-uncalled_itself model (Some p) k = no_calls model k
+pub uncalled_itself : {K : Type 0} (model : Model K) (reads : Bool) (k : K) → IsUncalled model reads k k
+uncalled_itself model false k = refl
+uncalled_itself model true k = no_calls model k
 
-pub memory_may_fail : (conditions : Option PreconditionsValue) → MayFail conditions Memory
-memory_may_fail None = refl
-memory_may_fail (Some p) = tt
+pub memory_may_fail : (reads : Bool) → MayFail reads Memory
+memory_may_fail false = refl
+memory_may_fail true = tt

@@ -6,7 +6,7 @@ use Rattle.streetmap_ledger.specs.State.{State}
 use Rattle.streetmap_ledger.specs.Batches.{after_all}
 use Rattle.streetmap_ledger.specs.declared.reply.Cause.{Cause}
 use Rattle.streetmap_ledger.specs.declared.reply.Fault.TheVariants.{Memory, Device}
-use Rattle.streetmap_routes.specs.Operations.{OperationValue, faulty, landing_page, api_text, conformance_classes, all_collections, one_collection, page, feature, changes, batch}
+use Rattle.streetmap_routes.specs.Operations.{OperationValue, faulty, landing_page, api_text, conformance_classes, all_collections, one_collection, page, feature, changes, service_status, batch}
 use Rattle.streetmap_web.specs.Site.{SiteValue}
 use Rattle.streetmap_http.specs.Preconditions.{PreconditionsValue}
 use Rattle.streetmap_ledger.specs.Kept.{batch_count}
@@ -60,6 +60,7 @@ batch_acts s (one_collection name) bs = refl
 batch_acts s (page name q) bs = refl
 batch_acts s (feature name id) bs = refl
 batch_acts s (changes after limit) bs = refl
+batch_acts s service_status bs = refl
 batch_acts s (batch b) bs = refl
 
 -- the batch acts if its verdict lets it

@@ -2,14 +2,13 @@
 use Rattle.std.proofs.Common.{◌≡◌, ◌≢◌, ◌⊎◌, ℕ, Bool, true, false, refl, sym, ap, subst, ◌∙◌, Option, Some, Result, Ok, Err, inl, inr, IfOk, OnErr}
 use Rattle.std.specs.Prelude.{if◌then◌else◌}
 use Rattle.std.specs.declared.alloc.AllocError.{AllocError}
-use Rattle.streetmap_http.specs.Preconditions.{PreconditionsValue}
 use Rattle.streetmap_batch.specs.Text.{Text}
 use Rattle.streetmap_batch.specs.BatchValue.{BatchValue}
 use Rattle.streetmap_ledger.specs.State.{State}
 use Rattle.streetmap_ledger.specs.Model.{Model}
 use Rattle.streetmap_ledger.specs.Batches.{act}
 use Rattle.streetmap_ledger.specs.Kept.{batch_count}
-use Rattle.streetmap_ledger.specs.Keep.{IsRead, IsWrite, IsBatchCount, LeavesEither}
+use Rattle.streetmap_ledger.specs.Keep.{IsRead, IsWrite, LeavesEither}
 use Rattle.streetmap_ledger.specs.declared.reply.Cause.{Cause}
 use Rattle.streetmap_ledger.specs.declared.reply.Fault.{Fault}
 use Rattle.streetmap_ledger.specs.declared.reply.Fault.TheVariants as faults
@@ -17,24 +16,49 @@ use Rattle.streetmap_ledger.specs.declared.reply.Reply.{Reply}
 use Rattle.streetmap_routes.specs.Operations.{OperationValue, batch}
 use Rattle.streetmap_bodies.specs.declared.request_fault.RequestFault.TheVariants.{Keeper}
 use Rattle.streetmap_tags.specs.Keys.{is_used, IsKeyUsed}
-use Rattle.streetmap_web.specs.Response.{ResponseValue, Wanted, plainly, tagged, instead, changed, is_batch, needs_state, judged, read_judged, state_by, state_in, response_in, response_to, state_to, replied, fault_response, verdict_on}
-use Rattle.streetmap_web.specs.Judging.{RespondsBy, tag_after, in_place_by, probe}
-use Rattle.streetmap_web.specs.Responds.{Responds, RespondsIn, FaultsIn, FaultsShut, FaultsAny, RespondsToBatch, AppliesBy, IsResponse, response_value}
+use Rattle.streetmap_web.specs.Response.{ResponseValue, plainly, tagged, instead, changed, is_batch, needs_state, judged, read_judged, state_by, state_in, response_in, replied, fault_response}
+use Rattle.streetmap_web.specs.Judging.{RespondsBy, RespondsByReply, tag_after, in_place_by, probe}
+use Rattle.streetmap_web.specs.Responds.{Responds, RespondsIn, FaultsIn, FaultsShut, FaultsAny, AppliesBy, IsResponse, response_value}
 use Rattle.streetmap_web.specs.declared.response.Response.{Response}
 use Rattle.streetmap_web.specs.declared.verdict.Verdict.{Verdict}
 use Rattle.streetmap_web.specs.declared.verdict.Verdict.TheVariants.{Holds, NotModified, Changed}
 use Rattle.streetmap_web.specs.Conditions.{ByCalls}
 use Rattle.streetmap_web.proofs.CallsInARow.{no_calls, calls_then, by_call}
-use Rattle.streetmap_web.proofs.ReadResponses.{open_not_shut, shut_by, any_by, read_in, to_same, write_in}
+use Rattle.streetmap_web.proofs.ReadResponses.{open_not_shut, shut_by, any_by, read_in, write_in}
 use Rattle.streetmap_web.proofs.Statuses.{tagged_well, reply_well, changed_well, instead_well, in_place_well}
-use Rattle.streetmap_web.proofs.Verdicts.{tag_kept, serial_of, used_stays, read_stays, read_by, read_is_judged, probe_same, probe_reads, probe_needs, needed_shut, unneeded_reads}
+use Rattle.streetmap_web.proofs.Verdicts.{tag_kept, serial_of, used_stays, read_stays, read_by, read_is_judged, probe_same, probe_reads, probe_needs, needed_shut}
+
+-- ---- batches
+
+-- the same batch
+to_judged : {A : Type 0} (b c : BatchValue) (verdict : Verdict) (Is : A → ResponseValue → Type 0) (result : Result A Fault)
+    (applies : BatchValue → Result Reply Fault → Type 0) (uncalled : Type 0)
+    → batch b ≡ batch c → RespondsByReply b.key verdict Is result (applies b) uncalled → RespondsByReply c.key verdict Is result (applies c) uncalled
+to_judged b c verdict Is result applies uncalled e h =
+    let same : b ≡ c = cc in subst (λ (d : BatchValue). RespondsByReply d.key verdict Is result (applies d) uncalled) same h
+
+-- two verdicts that do not let a batch act
+modified_differs : NotModified ≢ Holds
+modified_differs e = cc
+
+changed_differs : Changed ≢ Holds
+changed_differs e = cc
+
+-- what holds by one of them holds by the other
+under_modified : {A : Type 0} (key : Text) (Is : A → ResponseValue → Type 0) (result : Result A Fault) (applies : Result Reply Fault → Type 0) (uncalled : Type 0)
+    → RespondsByReply key Changed Is result applies uncalled → RespondsByReply key NotModified Is result applies uncalled
+under_modified key Is (Ok r) applies uncalled says = elim says [
+  | inl it ↦ inl it
+  | inr it ↦ inr (modified_differs, it.1, it.2)
+]
+under_modified key Is (Err fault) applies uncalled says = says
 
 -- ---- a batch that is acted on
 
-module _ {K : Type 0} {model : Model K} {old new : K} (root : Text) (b : BatchValue) (n : ℕ) (p : PreconditionsValue) where
+module _ {K : Type 0} {model : Model K} {old new : K} (root : Text) (b : BatchValue) (n : ℕ) where
   pub reply_judged : (reply : Reply) (response : Response) → IsWrite model old new b (Ok reply)
       → response_value response ≡ tagged (tag_after n reply) (replied b.key reply)
-      → RespondsBy model root (batch b) Holds n p IsResponse old new (Ok response)
+      → RespondsBy model root (batch b) Holds n IsResponse old new (Ok response)
   reply_judged reply response write is = record {
     calls = by_call write.call;
     in_state = λ clean s h tag.
@@ -48,37 +72,37 @@ module _ {K : Type 0} {model : Model K} {old new : K} (root : Text) (b : BatchVa
       is,
     );
     to_batch = λ c e.
-        to_same b c (Some p) IsResponse (Ok response) (λ d r. AppliesBy model (Some p) old d r new) (ByCalls model old new) e
-        (inl (reply, tagged (tag_after n reply) (replied b.key reply), (old, no_calls model old, write.applied), (tag_after n reply, serial_of n reply, refl), is));
+        to_judged b c Holds IsResponse (Ok response) (λ d r. AppliesBy model true old d r new) (ByCalls model old new) e
+        (inl (reply, tag_after n reply, (old, no_calls model old, write.applied), serial_of n reply, is));
   }
 
-  pub fault_judged : (fault : Fault) → IsWrite model old new b (Err fault) → RespondsBy {A = Response} model root (batch b) Holds n p IsResponse old new (Err fault)
+  pub fault_judged : (fault : Fault) → IsWrite model old new b (Err fault) → RespondsBy {A = Response} model root (batch b) Holds n IsResponse old new (Err fault)
   fault_judged fault write = record {
     calls = by_call write.call;
     in_state = λ clean s h tag. write_in root b fault s write.call (write.writes clean s h);
     shut = λ why e. shut_by root (batch b) refl fault why refl e write.call;
     any = any_by root (batch b) refl fault write.call;
     to_batch = λ c e.
-        to_same {A = Response} b c (Some p) IsResponse (Err fault) (λ d r. AppliesBy model (Some p) old d r new) (ByCalls model old new) e
+        to_judged {A = Response} b c Holds IsResponse (Err fault) (λ d r. AppliesBy model true old d r new) (ByCalls model old new) e
         (inl (old, no_calls model old, write.applied));
   }
 
 -- memory ran out before a call
-pub not_judged : {K : Type 0} (model : Model K) (root : Text) (operation : OperationValue) (verdict : Verdict) (n : ℕ) (p : PreconditionsValue) (k : K)
-    → RespondsBy {A = Response} model root operation verdict n p IsResponse k k (Err faults.Memory)
-not_judged model root operation verdict n p k = record {
+pub not_judged : {K : Type 0} (model : Model K) (root : Text) (operation : OperationValue) (verdict : Verdict) (n : ℕ) (k : K)
+    → RespondsBy {A = Response} model root operation verdict n IsResponse k k (Err faults.Memory)
+not_judged model root operation verdict n k = record {
   calls = no_calls model k;
   in_state = λ clean s h tag. h;
   shut = λ why e. (tt, e, λ o. (λ left. left, λ left. left));
   any = tt;
-  to_batch = λ b e. inr (no_calls model k, tt);
+  to_batch = λ b e. inr (no_calls model k);
 }
 
 -- ---- after a read
 
 module _ {K T : Type 0} {model : Model K} {old mid : K} {x : T} {Shows : State → T → Type 0} (read : IsRead model old mid (Ok x) Shows) where
   -- what was responded between the second keeper and a third
-  later_in : {A : Type 0} (new : K) (Is : A → ResponseValue → Type 0) (s next : State) (operation : OperationValue) (answer : ResponseValue) (result : Result A Fault)
+  pub later_in : {A : Type 0} (new : K) (Is : A → ResponseValue → Type 0) (s next : State) (operation : OperationValue) (answer : ResponseValue) (result : Result A Fault)
       → ByCalls model mid new → RespondsIn model s operation answer next Is mid new result → RespondsIn model s operation answer next Is old new result
   later_in new Is s next operation answer (Ok r) calls says = says
   later_in new Is s next operation answer (Err faults.Memory) calls says = says
@@ -87,24 +111,25 @@ module _ {K T : Type 0} {model : Model K} {old mid : K} {x : T} {Shows : State �
   later_in new Is s next operation answer (Err faults.Damaged) calls says = says
   later_in new Is s next operation answer (Err faults.Reopen) calls says = says
 
-  later_batch : {A : Type 0} (new : K) (Is : A → ResponseValue → Type 0) (p : PreconditionsValue) (b : BatchValue) (result : Result A Fault)
-      → RespondsToBatch b.key (Some p) Is result (λ r. AppliesBy model (Some p) mid b r new) (ByCalls model mid new)
-      → RespondsToBatch b.key (Some p) Is result (λ r. AppliesBy model (Some p) old b r new) (ByCalls model old new)
-  later_batch new Is p b (Ok r) says = elim says [
+  -- by another verdict, which lets the batch act if the first does
+  pub later_batch : {A : Type 0} (new : K) (Is : A → ResponseValue → Type 0) (b : BatchValue) (one other : Verdict) (result : Result A Fault)
+      → (one ≢ Holds → other ≢ Holds) → RespondsByReply b.key one Is result (λ r. AppliesBy model true mid b r new) (ByCalls model mid new)
+      → RespondsByReply b.key other Is result (λ r. AppliesBy model true old b r new) (ByCalls model old new)
+  later_batch new Is b one other (Ok r) differs says = elim says [
     | inl it ↦ inl (it.0, it.1, (it.2.0, calls_then model old mid it.2.0 (by_call read.call) it.2.1, it.2.2), it.3, it.4)
-    | inr it ↦ inr (it.0, calls_then model old mid new (by_call read.call) it.1, it.2)
+    | inr it ↦ inr (differs it.0, calls_then model old mid new (by_call read.call) it.1, it.2)
   ]
-  later_batch new Is p b (Err fault) says = elim says [
+  later_batch new Is b one other (Err fault) differs says = elim says [
     | inl it ↦ inl (it.0, calls_then model old mid it.0 (by_call read.call) it.1, it.2)
-    | inr it ↦ inr (calls_then model old mid new (by_call read.call) it.0, tt)
+    | inr it ↦ inr (calls_then model old mid new (by_call read.call) it)
   ]
 
-  module _ {A : Type 0} {new : K} {Is : A → ResponseValue → Type 0} (root : Text) (operation : OperationValue) (n : ℕ) (p : PreconditionsValue) (result : Result A Fault) where
+  module _ {A : Type 0} {new : K} {Is : A → ResponseValue → Type 0} (root : Text) (operation : OperationValue) (n : ℕ) (result : Result A Fault) where
     -- with another verdict that comes to the same in what was read
     pub judged_then : (one other : Verdict)
         → ((s : State) → Shows s x → (judged root s operation one ≡ judged root s operation other) × (state_by s operation one ≡ state_by s operation other))
-        → RespondsBy model root operation one n p Is mid new result → RespondsBy model root operation other n p Is old new result
-    judged_then one other same says = record {
+        → (one ≢ Holds → other ≢ Holds) → RespondsBy model root operation one n Is mid new result → RespondsBy model root operation other n Is old new result
+    judged_then one other same differs says = record {
       calls = calls_then model old mid new (by_call read.call) says.calls;
       in_state = λ clean s h tag.
           let seen = read.reads (says.calls.began_clean clean) s h in
@@ -115,54 +140,20 @@ module _ {K T : Type 0} {model : Model K} {old mid : K} {x : T} {Shows : State �
           (subst (λ (t : State). RespondsIn model s operation (judged root s operation other) t Is mid new result) alike.1 answered);
       shut = λ why e. open_not_shut _ why read.call.faults.0 e;
       any = says.any;
-      to_batch = λ b e. later_batch new Is p b result (says.to_batch b e);
+      to_batch = λ b e. later_batch new Is b one other result differs (says.to_batch b e);
     }
-
--- the tag was read, and gives the verdict
-module _ {K A : Type 0} {model : Model K} {old mid new : K} {n : ℕ} (read : IsRead model old mid (Ok n) IsBatchCount) where
-  pub tag_then : {Is : A → ResponseValue → Type 0} (root : Text) (operation : OperationValue) (p : PreconditionsValue) (result : Result A Fault)
-      → needs_state operation ≡ true → RespondsBy model root operation (verdict_on n p operation) n p Is mid new result
-      → Responds model root (record { operation = operation; conditions = Some p }) Is old new result
-  tag_then {Is} root operation p result needed says = record {
-    calls = calls_then model old mid new (by_call read.call) says.calls;
-    in_state = λ clean s h.
-        let wanted : Wanted = record { operation = operation; conditions = Some p } in
-        let seen = read.reads (says.calls.began_clean clean) s h in
-        let verdict : Verdict = verdict_on n p operation in
-        let here = says.in_state clean s seen.1 seen.0 in
-        let answer : judged root s operation verdict ≡ response_to root s wanted =
-        ap (λ k. judged root s operation (verdict_on k p operation)) seen.0
-        ∙ ap (λ (b : Bool). if b then judged root s operation (verdict_on (batch_count s) p operation) else response_in root s operation) (sym needed) in
-        let next : state_by s operation verdict ≡ state_to s wanted = ap (λ k. state_by s operation (verdict_on k p operation)) seen.0 in
-        let answered = subst (λ (r : ResponseValue). RespondsIn model s operation r (state_by s operation verdict) Is mid new result) answer here in
-        later_in read new Is s (state_to s wanted) operation (response_to root s wanted) result says.calls
-        (subst (λ (t : State). RespondsIn model s operation (response_to root s wanted) t Is mid new result) next answered);
-    shut = λ why e. open_not_shut _ why read.call.faults.0 e;
-    any = says.any;
-    to_batch = λ b e. later_batch read new Is p b result (says.to_batch b e);
-  }
 
 -- ---- a read that failed
 
 module _ {K T : Type 0} {model : Model K} {old new : K} {Shows : State → T → Type 0} (fault : Fault) (read : IsRead {T = T} model old new (Err fault) Shows)
     (root : Text) (operation : OperationValue) (needed : needs_state operation ≡ true) where
-  pub failed_judged : (verdict : Verdict) (n : ℕ) (p : PreconditionsValue) → RespondsBy {A = Response} model root operation verdict n p IsResponse old new (Err fault)
-  failed_judged verdict n p = record {
+  pub failed_judged : (verdict : Verdict) (n : ℕ) → RespondsBy {A = Response} model root operation verdict n IsResponse old new (Err fault)
+  failed_judged verdict n = record {
     calls = by_call read.call;
     in_state = λ clean s h tag. read_in root operation needed fault s (state_by s operation verdict) (Shows s) read.call (read.reads clean s h);
     shut = λ why e. shut_by root operation needed fault why (needed_shut root operation needed) e read.call;
     any = any_by root operation needed fault read.call;
-    to_batch = λ b e. inr (by_call read.call, tt);
-  }
-
-  pub failed_wanted : (p : PreconditionsValue) → Responds {A = Response} model root (record { operation = operation; conditions = Some p }) IsResponse old new (Err fault)
-  failed_wanted p = record {
-    calls = by_call read.call;
-    in_state = λ clean s h.
-        read_in root operation needed fault s (state_to s (record { operation = operation; conditions = Some p })) (Shows s) read.call (read.reads clean s h);
-    shut = λ why e. shut_by root operation needed fault why (needed_shut root operation needed) e read.call;
-    any = any_by root operation needed fault read.call;
-    to_batch = λ b e. inr (by_call read.call, tt);
+    to_batch = λ b e. inr (by_call read.call);
   }
 
 -- ---- a batch that is held back
@@ -176,29 +167,29 @@ used_alike root b s used = (
   used_stays s b used,
 )
 
-module _ {K : Type 0} {model : Model K} {old new : K} (root : Text) (b : BatchValue) (n : ℕ) (p : PreconditionsValue) where
+module _ {K : Type 0} {model : Model K} {old new : K} (root : Text) (b : BatchValue) (n : ℕ) where
   pub used_judged : {mid : K} (key : Text) (used : Bool) (result : Result Response Fault) → key ≡ b.key → used ≡ true → IsRead model old mid (Ok used) (IsKeyUsed key)
-      → RespondsBy model root (batch b) Holds n p IsResponse mid new result → RespondsBy model root (batch b) Changed n p IsResponse old new result
+      → RespondsBy model root (batch b) Holds n IsResponse mid new result → RespondsBy model root (batch b) Changed n IsResponse old new result
   used_judged key used result same is read says =
-      judged_then read root (batch b) n p result Holds Changed (λ s shown. used_alike root b s (ap (is_used s) (sym same) ∙ sym shown ∙ is)) says
+      judged_then read root (batch b) n result Holds Changed (λ s shown. used_alike root b s (ap (is_used s) (sym same) ∙ sym shown ∙ is)) (λ no. absurd (no refl)) says
 
   -- for another verdict under which the batch is not acted on
   pub held_judged : (verdict : Verdict) (result : Result Response Fault) → (verdict ≡ NotModified) ⊎ (verdict ≡ Changed)
-      → RespondsBy model root (batch b) Changed n p IsResponse old new result → RespondsBy model root (batch b) verdict n p IsResponse old new result
-  held_judged verdict result (inl is) says = subst (λ (v : Verdict). RespondsBy model root (batch b) v n p IsResponse old new result) (sym is) (record {
+      → RespondsBy model root (batch b) Changed n IsResponse old new result → RespondsBy model root (batch b) verdict n IsResponse old new result
+  held_judged verdict result (inl is) says = subst (λ (v : Verdict). RespondsBy model root (batch b) v n IsResponse old new result) (sym is) (record {
     calls = says.calls;
     in_state = says.in_state;
     shut = says.shut;
     any = says.any;
-    to_batch = says.to_batch;
+    to_batch = λ c e. under_modified c.key IsResponse result (λ r. AppliesBy model true old c r new) (ByCalls model old new) (says.to_batch c e);
   })
-  held_judged verdict result (inr is) says = subst (λ (v : Verdict). RespondsBy model root (batch b) v n p IsResponse old new result) (sym is) says
+  held_judged verdict result (inr is) says = subst (λ (v : Verdict). RespondsBy model root (batch b) v n IsResponse old new result) (sym is) says
 
   -- its key is new
   pub new_judged : (key : Text) (used : Bool) (found : Result Response AllocError) (result : Result Response Fault) → key ≡ b.key → used ≡ false
       → IsRead model old new (Ok used) (IsKeyUsed key) → IfOk found (λ r. response_value r ≡ changed) → IfOk found (λ r. result ≡ Ok r) → OnErr found (result ≡ Err faults.Memory)
-      → RespondsBy model root (batch b) Changed n p IsResponse old new result
-  new_judged key used (Ok r) result at unused read is same none = subst (λ (it : Result Response Fault). RespondsBy model root (batch b) Changed n p IsResponse old new it) (sym same) (record {
+      → RespondsBy model root (batch b) Changed n IsResponse old new result
+  new_judged key used (Ok r) result at unused read is same none = subst (λ (it : Result Response Fault). RespondsBy model root (batch b) Changed n IsResponse old new it) (sym same) (record {
     calls = by_call read.call;
     in_state = λ clean s h tag.
         let seen = read.reads clean s h in
@@ -206,14 +197,14 @@ module _ {K : Type 0} {model : Model K} {old new : K} (root : Text) (b : BatchVa
         (is ∙ ap (λ (u : Bool). if u then tagged (batch_count s) (replied b.key (act s b).reply) else changed) fresh, seen.1);
     shut = λ why e. open_not_shut _ why read.call.faults.0 e;
     any = (changed, (λ plain. absurd (let bad : true ≡ false = plain in cc), λ has_request e. changed_well e), is);
-    to_batch = λ c e. inr (refl, by_call read.call, is);
+    to_batch = λ c e. inr (changed_differs, by_call read.call, is);
   })
-  new_judged key used (Err w) result at unused read is same none = subst (λ (it : Result Response Fault). RespondsBy model root (batch b) Changed n p IsResponse old new it) (sym none) (record {
+  new_judged key used (Err w) result at unused read is same none = subst (λ (it : Result Response Fault). RespondsBy model root (batch b) Changed n IsResponse old new it) (sym none) (record {
     calls = by_call read.call;
     in_state = λ clean s h tag. (read.reads clean s h).1;
     shut = λ why e. open_not_shut _ why read.call.faults.0 e;
     any = tt;
-    to_batch = λ c e. inr (by_call read.call, tt);
+    to_batch = λ c e. inr (by_call read.call);
   })
 
 -- ---- reads
@@ -260,10 +251,10 @@ fails_any operation needed faults.Device cause says = (needed, says.1)
 fails_any operation needed faults.Damaged cause says = (needed, says.1)
 fails_any operation needed faults.Reopen cause says = (needed, says.1)
 
-module _ {K : Type 0} {model : Model K} {old new : K} (root : Text) (operation : OperationValue) (n : ℕ) (p : PreconditionsValue)
+module _ {K : Type 0} {model : Model K} {old new : K} (root : Text) (operation : OperationValue) (n : ℕ)
     (read : is_batch operation ≡ false) (needed : needs_state operation ≡ true) where
   pub tagged_judged : (response with_tag : Response) → Responds model root (plainly operation) IsResponse old new (Ok response)
-      → response_value with_tag ≡ tagged n (response_value response) → RespondsBy model root operation Holds n p IsResponse old new (Ok with_tag)
+      → response_value with_tag ≡ tagged n (response_value response) → RespondsBy model root operation Holds n IsResponse old new (Ok with_tag)
   tagged_judged response with_tag says is = record {
     calls = says.calls;
     in_state = λ clean s h tag.
@@ -282,7 +273,7 @@ module _ {K : Type 0} {model : Model K} {old new : K} (root : Text) (operation :
   }
 
   pub failed_by : (fault : Fault) → Responds {A = Response} model root (plainly operation) IsResponse old new (Err fault)
-      → RespondsBy {A = Response} model root operation Holds n p IsResponse old new (Err fault)
+      → RespondsBy {A = Response} model root operation Holds n IsResponse old new (Err fault)
   failed_by fault says = record {
     calls = says.calls;
     in_state = λ clean s h tag. says.in_state clean s h;
@@ -296,10 +287,10 @@ module _ {K : Type 0} {model : Model K} {old new : K} (root : Text) (operation :
         → Responds model root (plainly (probe operation)) IsResponse old new (Ok response)
         → IfOk found (λ r. response_value r ≡ instead (in_place_by n verdict) (response_value response))
         → IfOk found (λ r. result ≡ Ok r) → OnErr found (result ≡ Err faults.Memory)
-        → RespondsBy model root operation verdict n p IsResponse old new result
+        → RespondsBy model root operation verdict n IsResponse old new result
     instead_judged response (Ok r) result says is same none =
         let q : ResponseValue = in_place_by n verdict in
-        subst (λ (it : Result Response Fault). RespondsBy model root operation verdict n p IsResponse old new it) (sym same) (record {
+        subst (λ (it : Result Response Fault). RespondsBy model root operation verdict n IsResponse old new it) (sym same) (record {
           calls = says.calls;
           in_state = λ clean s h tag.
               let here = says.in_state clean s h in
@@ -325,7 +316,7 @@ module _ {K : Type 0} {model : Model K} {old new : K} (root : Text) (operation :
           to_batch = λ b e. no_batch operation read b e;
         })
     instead_judged response (Err w) result says is same none =
-        subst (λ (it : Result Response Fault). RespondsBy model root operation verdict n p IsResponse old new it) (sym none) (record {
+        subst (λ (it : Result Response Fault). RespondsBy model root operation verdict n IsResponse old new it) (sym none) (record {
           calls = says.calls;
           in_state = λ clean s h tag. subst (model.represents new) (read_stays s (probe operation) (probe_reads operation read)) (says.in_state clean s h).1;
           shut = λ why e.
@@ -336,7 +327,7 @@ module _ {K : Type 0} {model : Model K} {old new : K} (root : Text) (operation :
         })
 
     pub failed_probe : (fault : Fault) → Responds {A = Response} model root (plainly (probe operation)) IsResponse old new (Err fault)
-        → RespondsBy {A = Response} model root operation verdict n p IsResponse old new (Err fault)
+        → RespondsBy {A = Response} model root operation verdict n IsResponse old new (Err fault)
     failed_probe fault says = record {
       calls = says.calls;
       in_state = λ clean s h tag. fails_in model old new operation verdict read needed fault s (says.in_state clean s h);
@@ -346,31 +337,3 @@ module _ {K : Type 0} {model : Model K} {old new : K} (root : Text) (operation :
       any = fails_any operation needed fault (model.cause new) says.any;
       to_batch = λ b e. no_batch operation read b e;
     }
-
--- ---- a request that needs no state
-
-unneeded_in : (root : Text) (s : State) (operation : OperationValue) (p : PreconditionsValue) → needs_state operation ≡ false
-    → (response_in root s operation ≡ response_to root s (record { operation = operation; conditions = Some p }))
-    × (state_in s operation ≡ state_to s (record { operation = operation; conditions = Some p }))
-unneeded_in root s operation p unneeded =
-    let verdict : Verdict = verdict_on (batch_count s) p operation in
-    let reads = unneeded_reads operation unneeded in (
-      ap (λ (b : Bool). if b then judged root s operation verdict else response_in root s operation) (sym unneeded),
-      read_stays s operation reads ∙ sym (read_by s operation verdict reads),
-    )
-
--- its conditions have no effect
-pub unneeded_wanted : {K : Type 0} {model : Model K} {old new : K} (root : Text) (operation : OperationValue) (p : PreconditionsValue) (result : Result Response Fault)
-    → needs_state operation ≡ false → Responds model root (plainly operation) IsResponse old new result
-    → Responds model root (record { operation = operation; conditions = Some p }) IsResponse old new result
-unneeded_wanted {model = model} {old = old} {new = new} root operation p result unneeded says = record {
-  calls = says.calls;
-  in_state = λ clean s h.
-      let wanted : Wanted = record { operation = operation; conditions = Some p } in
-      let same = unneeded_in root s operation p unneeded in
-      subst (λ (t : State). RespondsIn model s operation (response_to root s wanted) t IsResponse old new result) same.1
-      (subst (λ (r : ResponseValue). RespondsIn model s operation r (state_in s operation) IsResponse old new result) same.0 (says.in_state clean s h));
-  shut = says.shut;
-  any = says.any;
-  to_batch = λ b e. absurd (let bad : false ≡ true = sym unneeded ∙ ap needs_state e in cc);
-}

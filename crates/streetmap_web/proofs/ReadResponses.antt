@@ -13,16 +13,17 @@ use Rattle.streetmap_ledger.specs.declared.reply.Fault.{Fault}
 use Rattle.streetmap_ledger.specs.declared.reply.Fault.TheVariants as faults
 use Rattle.streetmap_ledger.specs.declared.reply.Reply.{Reply}
 use Rattle.streetmap_query.specs.QueryValue.{QueryValue}
-use Rattle.streetmap_routes.specs.Operations.{OperationValue, faulty, landing_page, api_text, conformance_classes, all_collections, one_collection, page, feature, changes, batch}
+use Rattle.streetmap_routes.specs.Operations.{OperationValue, faulty, landing_page, api_text, conformance_classes, all_collections, one_collection, page, feature, changes, service_status, batch}
 use Rattle.streetmap_bodies.specs.declared.request_fault.RequestFault.{RequestFault}
 use Rattle.streetmap_bodies.specs.declared.request_fault.RequestFault.TheVariants.{Keeper}
 use Rattle.streetmap_ledger.specs.Batches.{act}
-use Rattle.streetmap_http.specs.Preconditions.{PreconditionsValue}
 use Rattle.streetmap_web.specs.Response.{ResponseValue, Wanted, plainly, needs_state, response_in, response_shut, state_in, fault_response, replied}
-use Rattle.streetmap_web.specs.Responds.{Responds, RespondsToBatch, FaultsIn, FaultsShut, FaultsAny, IsResponse, response_value}
+use Rattle.streetmap_web.specs.Responds.{Responds, RespondsToBatch, reads_tag, FaultsIn, FaultsShut, FaultsAny, IsResponse, response_value}
 use Rattle.streetmap_web.specs.declared.response.Response.{Response}
 use Rattle.streetmap_web.proofs.CallsInARow.{no_calls, by_call, uncalled_itself, memory_may_fail}
 use Rattle.streetmap_web.proofs.Statuses.{reply_well}
+use Rattle.streetmap_web.specs.Judging.{tag_after}
+use Rattle.streetmap_web.proofs.Verdicts.{serial_of}
 
 -- no open keeper is shut
 pub open_not_shut : {A : Type 0} (cause : Option Cause) (why : Cause) → cause ≡ None → cause ≡ Some why → A
@@ -39,7 +40,7 @@ not_called model root wanted Is k = record {
   in_state = λ clean s h. h;
   shut = λ why e. (tt, e, λ o. (λ left. left, λ left. left));
   any = tt;
-  to_batch = λ b e. inr (uncalled_itself model wanted.conditions k, memory_may_fail wanted.conditions);
+  to_batch = λ b e. inr (uncalled_itself model (reads_tag wanted) k, memory_may_fail (reads_tag wanted));
 }
 
 -- ---- a request that needs no state
@@ -117,6 +118,9 @@ page_reads root name query = record { has_request = refl; shut = refl; stays = �
 pub feature_reads : (root name id : Text) → NeedsRead root (feature name id)
 feature_reads root name id = record { has_request = refl; shut = refl; stays = λ s. refl; no_batch = λ b e. cc }
 
+pub status_reads : (root : Text) → NeedsRead root service_status
+status_reads root = record { has_request = refl; shut = refl; stays = λ s. refl; no_batch = λ b e. cc }
+
 pub changes_read : (root : Text) (after limit : ℕ) → NeedsRead root (changes after limit)
 changes_read root after limit = record { has_request = refl; shut = refl; stays = λ s. refl; no_batch = λ b e. cc }
 
@@ -162,11 +166,11 @@ module _ {K : Type 0} {model : Model K} {old new : K} (root : Text) (operation :
 -- ---- a batch
 
 -- the same batch
-pub to_same : {A : Type 0} (b c : BatchValue) (conditions : Option PreconditionsValue) (Is : A → ResponseValue → Type 0) (result : Result A Fault)
+to_same : {A : Type 0} (b c : BatchValue) (wanted : Wanted) (Is : A → ResponseValue → Type 0) (result : Result A Fault)
     (applies : BatchValue → Result Reply Fault → Type 0) (uncalled : Type 0)
-    → batch b ≡ batch c → RespondsToBatch b.key conditions Is result (applies b) uncalled → RespondsToBatch c.key conditions Is result (applies c) uncalled
-to_same b c conditions Is result applies uncalled e h =
-    let same : b ≡ c = cc in subst (λ (d : BatchValue). RespondsToBatch d.key conditions Is result (applies d) uncalled) same h
+    → batch b ≡ batch c → RespondsToBatch b.key wanted Is result (applies b) uncalled → RespondsToBatch c.key wanted Is result (applies c) uncalled
+to_same b c wanted Is result applies uncalled e h =
+    let same : b ≡ c = cc in subst (λ (d : BatchValue). RespondsToBatch d.key wanted Is result (applies d) uncalled) same h
 
 module _ {K : Type 0} {model : Model K} {old new : K} (root : Text) (b : BatchValue) where
   -- the keeper's reply is the response
@@ -180,7 +184,8 @@ module _ {K : Type 0} {model : Model K} {old new : K} (root : Text) (b : BatchVa
     shut = λ why e. open_not_shut _ why write.call.faults.0 e;
     any = (replied b.key reply, (λ plain. absurd (let bad : true ≡ false = plain in cc), λ has_request e. reply_well b.key reply e), is);
     to_batch = λ c e.
-        to_same b c None IsResponse (Ok response) (λ d r. model.applies old d r new) (new ≡ old) e (inl (reply, replied b.key reply, write.applied, refl, is));
+        to_same b c (plainly (batch b)) IsResponse (Ok response) (λ d r. model.applies old d r new) (new ≡ old) e
+        (inl (reply, replied b.key reply, write.applied, (tag_after 0 reply, serial_of 0 reply, refl), is));
   }
 
   pub write_in : (fault : Fault) (s : State) → IsCall {T = Reply} model old new (Err fault) → Writes model old new s b (Err fault)
@@ -197,5 +202,5 @@ module _ {K : Type 0} {model : Model K} {old new : K} (root : Text) (b : BatchVa
     in_state = λ clean s h. write_in fault s write.call (write.writes clean s h);
     shut = λ why e. shut_by root (batch b) refl fault why refl e write.call;
     any = any_by root (batch b) refl fault write.call;
-    to_batch = λ c e. to_same {A = Response} b c None IsResponse (Err fault) (λ d r. model.applies old d r new) (new ≡ old) e (inl write.applied);
+    to_batch = λ c e. to_same {A = Response} b c (plainly (batch b)) IsResponse (Err fault) (λ d r. model.applies old d r new) (new ≡ old) e (inl write.applied);
   }

@@ -79,7 +79,7 @@ module _ {K : Type 0} (model : Model K) (site : SiteValue) (request : RequestVal
         any = (it.any.0, it.any.1, sent ∙ ap (sent_as request) it.any.2);
         to_batch = λ b e. elim (it.to_batch b e) [
           | inl said ↦ inl (said.0, said.1, said.2, said.3, sent ∙ ap (sent_as request) said.4)
-          | inr said ↦ inr (said.0, said.1, sent ∙ ap (sent_as request) said.2)
+          | inr said ↦ inr (said.0, said.1, said.2, sent ∙ ap (sent_as request) said.3)
         ];
       }
 
@@ -95,7 +95,7 @@ module _ {K : Type 0} (model : Model K) (site : SiteValue) (request : RequestVal
   ok_batch : (r : Answer × Bool) → Sends model site.root request old new (Ok r) → AnswersBatch model request (sent_so (answer_text r.0) r.1) old new
   ok_batch r says b e = elim (says.to_batch b e) [
     | inl said ↦ by_reply said.0 said.1 said.2 said.3 said.4
-    | inr said ↦ by_condition said.0 said.1 said.2
+    | inr said ↦ by_condition said.0 said.1 said.2 said.3
   ]
 
   module _ (fault : Fault) (text : Text) (is : text ≡ response_text true request.bare (fault_response (Keeper fault))) where

@@ -1,5 +1,5 @@
 -- Answers that are no failure of the server.
-use Rattle.std.proofs.Common.{◌≡◌, ℕ, Bool, true, false, Option, None, Some, refl, subst, arith}
+use Rattle.std.proofs.Common.{◌≡◌, ◌∙◌, ℕ, Bool, true, false, Option, None, Some, refl, sym, subst, arith}
 use Rattle.std.specs.Prelude.{if◌then◌else◌, ◌==◌}
 use Rattle.streetmap_http.specs.Preconditions.{PreconditionsValue}
 use Rattle.streetmap_geojson.specs.FeatureValue.{FeatureValue}
@@ -12,14 +12,14 @@ use Rattle.streetmap_ledger.specs.Summaries.{SummaryValue, summary_in}
 use Rattle.streetmap_ledger.specs.declared.reply.Reply.{Reply}
 use Rattle.streetmap_ledger.specs.declared.reply.Reply.TheVariants.{Accepted, Repeated, Refused}
 use Rattle.streetmap_ledger.specs.declared.reply.Fault.TheVariants as faults
-use Rattle.streetmap_routes.specs.Operations.{OperationValue, faulty, landing_page, api_text, conformance_classes, all_collections, one_collection, page, feature, changes, batch}
+use Rattle.streetmap_routes.specs.Operations.{OperationValue, faulty, landing_page, api_text, conformance_classes, all_collections, one_collection, page, feature, changes, service_status, batch}
 use Rattle.streetmap_bodies.specs.declared.request_fault.RequestFault.TheVariants.{Keeper}
 use Rattle.streetmap_batch.specs.BatchValue.{BatchValue}
 use Rattle.streetmap_ledger.specs.Kept.{batch_count}
 use Rattle.streetmap_tags.specs.Keys.{is_used}
 use Rattle.streetmap_web.specs.declared.verdict.Verdict.{Verdict}
 use Rattle.streetmap_web.specs.declared.verdict.Verdict.TheVariants.{Holds, NotModified, Changed}
-use Rattle.streetmap_web.specs.Response.{ResponseValue, Wanted, tagged, instead, not_modified, changed, read_judged, batch_judged, judged, verdict_on, response_under, response_to}
+use Rattle.streetmap_web.specs.Response.{ResponseValue, Wanted, tagged, instead, not_modified, changed, read_judged, batch_judged, judged, verdict_on, response_under, response_to, with_serial, shows_serial, state_to}
 use Rattle.streetmap_web.specs.Judging.{in_place_by}
 use Rattle.streetmap_web.specs.Response.{fault_response, found_page, found_feature, found_collection, replied, response_in, needs_state, not_found}
 
@@ -59,6 +59,7 @@ never_500 root s (one_collection name) has_request e = collection_well root (sum
 never_500 root s (page name q) has_request e = page_well root name q (page_in s name q) e
 never_500 root s (feature name id) has_request e = feature_well root name (feature_in s name id) e
 never_500 root s (changes after limit) has_request e = absurd (omega (arith, e))
+never_500 root s service_status has_request e = absurd (omega (arith, e))
 never_500 root s (batch b) has_request e = reply_well b.key (act s b).reply e
 
 -- ---- the same under conditions
@@ -113,6 +114,7 @@ judged_well root s (one_collection name) verdict has_request e = read_well (batc
 judged_well root s (page name q) verdict has_request e = read_well (batch_count s) (response_in root s (page name q)) verdict (never_500 root s (page name q) refl) e
 judged_well root s (feature name id) verdict has_request e = read_well (batch_count s) (response_in root s (feature name id)) verdict (never_500 root s (feature name id) refl) e
 judged_well root s (changes after limit) verdict has_request e = read_well (batch_count s) (response_in root s (changes after limit)) verdict (never_500 root s (changes after limit) refl) e
+judged_well root s service_status verdict has_request e = read_well (batch_count s) (response_in root s service_status) verdict (never_500 root s service_status refl) e
 judged_well root s (batch b) verdict has_request e = batch_well s b verdict e
 
 under_well : (root : Text) (s : State) (operation : OperationValue) (conditions : Option PreconditionsValue) → needs_state operation ≡ true
@@ -123,6 +125,13 @@ under_well root s operation (Some p) has_request e =
     judged_well root s operation verdict has_request
     (subst (λ (b : Bool). (if b then judged root s operation verdict else response_in root s operation).status ≡ 500) has_request e)
 
+-- a serial changes no status
+pub serial_status : (numbered : Bool) (n : ℕ) (p : ResponseValue) → (with_serial numbered n p).status ≡ p.status
+serial_status true n p = refl
+serial_status false n p = refl
+
 -- what a state answers to what needs it
 pub wanted_never_500 : (root : Text) (s : State) (wanted : Wanted) → needs_state wanted.operation ≡ true → (response_to root s wanted).status ≡ 500 → ⊥
-wanted_never_500 root s wanted has_request e = under_well root s wanted.operation wanted.conditions has_request e
+wanted_never_500 root s wanted has_request e =
+    let same = serial_status (shows_serial wanted) (batch_count (state_to s wanted)) (response_under root s wanted.operation wanted.conditions) in
+    under_well root s wanted.operation wanted.conditions has_request (sym same ∙ e)

@@ -11,7 +11,7 @@ use Rattle.streetmap_bodies.specs.declared.request_fault.RequestFault.TheVariant
 use Rattle.streetmap_web.specs.Site.{SiteValue}
 use Rattle.streetmap_web.specs.Response.{ResponseValue, RequestValue, AnswerSent, broken_request, fault_response, response_text, sent_so, sent_as}
 use Rattle.streetmap_web.specs.Conditions.{Condition, RequestOutcome, as_requested, no_memory, answer_by, IsInCondition}
-use Rattle.streetmap_web.specs.Responds.{ComesOut, AnswersOperation, RefusesBy, by_none}
+use Rattle.streetmap_web.specs.Responds.{ComesOut, AnswersOperation, RefusesBy, by_none, reads_tag}
 use Rattle.streetmap_web.specs.Exchanges.{HttpExchange, condition_after, condition_after_all}
 use Rattle.streetmap_web.specs.Transitions.{ComesAll}
 use Rattle.streetmap_web.proofs.Standings.{as_requested_is_no_failure, no_memory_is_no_failure, fault_sent}
@@ -36,7 +36,7 @@ module _ {K : Type 0} (model : Model K) (site : SiteValue) (x : Condition) where
     sent_is = is ∙ ap (sent_as request) (sym (no_memory_response site x request.wanted));
     condition = no_memory_after x (IsInCondition model k) request.wanted h;
     leaves = no_memory_leaves x request.wanted (model.may_leave k);
-    batch_answered = λ b e. by_none Memory (uncalled_itself model request.wanted.conditions k) (memory_may_fail request.wanted.conditions) is;
+    batch_answered = λ b e. by_none Memory (uncalled_itself model (reads_tag request.wanted) k) (memory_may_fail (reads_tag request.wanted)) is;
     device = λ e. absurd (no_memory_is_no_failure e);
     shuts = λ has_request e. absurd (starved_well (ap (λ (p : ResponseValue). p.status) (sym (no_memory_response site x request.wanted)) ∙ e));
   }

@@ -17,7 +17,7 @@ use Rattle.streetmap_ledger.specs.declared.reply.Reply.{Reply}
 use Rattle.streetmap_ledger.specs.declared.reply.Reply.TheVariants.{Accepted, Repeated, Refused}
 use Rattle.streetmap_ledger.specs.declared.reply.Fault.TheVariants as faults
 use Rattle.streetmap_ledger.proofs.Repeat.{either, edited_keys}
-use Rattle.streetmap_routes.specs.Operations.{OperationValue, faulty, landing_page, api_text, conformance_classes, all_collections, one_collection, page, feature, changes, batch}
+use Rattle.streetmap_routes.specs.Operations.{OperationValue, faulty, landing_page, api_text, conformance_classes, all_collections, one_collection, page, feature, changes, service_status, batch}
 use Rattle.streetmap_bodies.specs.declared.request_fault.RequestFault.TheVariants.{Keeper}
 use Rattle.streetmap_tags.specs.Keys.{is_used}
 use Rattle.streetmap_web.specs.Response.{ResponseValue, instead, is_batch, needs_state, judged, read_judged, state_by, state_in, response_in, response_shut, fault_response, found_page, found_collection}
@@ -80,6 +80,7 @@ read_stays s (one_collection name) read = refl
 read_stays s (page name q) read = refl
 read_stays s (feature name id) read = refl
 read_stays s (changes after limit) read = refl
+read_stays s service_status read = refl
 read_stays s (batch b) read = cc
 
 pub read_by : (s : State) (operation : OperationValue) (verdict : Verdict) → is_batch operation ≡ false → state_by s operation verdict ≡ s
@@ -98,6 +99,7 @@ read_is_judged root s (one_collection name) verdict read = refl
 read_is_judged root s (page name q) verdict read = refl
 read_is_judged root s (feature name id) verdict read = refl
 read_is_judged root s (changes after limit) verdict read = refl
+read_is_judged root s service_status verdict read = refl
 read_is_judged root s (batch b) verdict read = cc
 
 -- the collection of a page is there if the page is
@@ -119,6 +121,7 @@ probe_same root s (one_collection name) p = refl
 probe_same root s (page name q) p = page_probed root name q p (get s.collections name)
 probe_same root s (feature name id) p = refl
 probe_same root s (changes after limit) p = refl
+probe_same root s service_status p = refl
 probe_same root s (batch b) p = refl
 
 pub probe_needs : (operation : OperationValue) → needs_state (probe operation) ≡ needs_state operation
@@ -131,6 +134,7 @@ probe_needs (one_collection name) = refl
 probe_needs (page name q) = refl
 probe_needs (feature name id) = refl
 probe_needs (changes after limit) = refl
+probe_needs service_status = refl
 probe_needs (batch b) = refl
 
 pub probe_reads : (operation : OperationValue) → is_batch operation ≡ false → is_batch (probe operation) ≡ false
@@ -143,6 +147,7 @@ probe_reads (one_collection name) read = refl
 probe_reads (page name q) read = refl
 probe_reads (feature name id) read = refl
 probe_reads (changes after limit) read = refl
+probe_reads service_status read = refl
 probe_reads (batch b) read = read
 
 -- ---- requests that need the state
@@ -157,6 +162,7 @@ needed_shut root (one_collection name) needed = refl
 needed_shut root (page name q) needed = refl
 needed_shut root (feature name id) needed = refl
 needed_shut root (changes after limit) needed = refl
+needed_shut root service_status needed = refl
 needed_shut root (batch b) needed = refl
 
 -- one that needs none reads
@@ -170,4 +176,5 @@ unneeded_reads (one_collection name) unneeded = cc
 unneeded_reads (page name q) unneeded = cc
 unneeded_reads (feature name id) unneeded = cc
 unneeded_reads (changes after limit) unneeded = cc
+unneeded_reads service_status unneeded = cc
 unneeded_reads (batch b) unneeded = cc

@@ -5,6 +5,7 @@ pub mod Conditions
 pub mod Responds
 pub mod Judging
 pub mod Wants
+pub mod StatusView
 pub mod Turns
 pub mod StreamEnds
 pub mod Exchanges

@@ -1,6 +1,6 @@
 -- The results of the functions that answer.
 use Rattle.std.specs.Prelude.{◌≡◌, ◌≢◌, ◌⊎◌, ℕ, Bool, true, false, Option, None, Some, IsSome}
-use Rattle.std.specs.Prelude.{Result, Ok, Err}
+use Rattle.std.specs.Prelude.{Result, Ok, Err, is_some, ◌||◌}
 use Rattle.std.specs.Prelude.{string_bytes, ⊤}
 use Rattle.streetmap_batch.specs.Text.{Text}
 use Rattle.streetmap_batch.specs.BatchValue.{BatchValue}
@@ -18,7 +18,8 @@ use Rattle.streetmap_http.specs.Preconditions.{PreconditionsValue}
 use Rattle.streetmap_web.specs.Site.{SiteValue}
 use Rattle.streetmap_web.specs.Response.{ResponseValue, Wanted, response_to, response_shut}
 use Rattle.streetmap_web.specs.Response.{state_to, needs_state, fault_response, response_text}
-use Rattle.streetmap_web.specs.Response.{replied, tagged, changed, RequestValue, AnswerSent}
+use Rattle.streetmap_web.specs.Response.{replied, tagged, changed, with_serial, RequestValue}
+use Rattle.streetmap_web.specs.Response.{AnswerSent}
 use Rattle.streetmap_web.specs.Response.{sent_as, sent_so}
 use Rattle.streetmap_web.specs.Conditions.{Condition, RequestOutcome, device_failed, answer_by}
 use Rattle.streetmap_web.specs.Conditions.{after}
@@ -36,6 +37,7 @@ response_value b = record {
   status = b.status;
   kind = b.kind;
   tag = b.tag;
+  serial = b.serial;
   allow = b.allow;
   body = string_bytes b.body;
 }
@@ -107,48 +109,60 @@ RespondsAny root operation Is (Err fault) cause = FaultsAny operation fault caus
 
 -- ---- batches
 
--- `apply` led from the first keeper to the second with this result, after reads if there are
--- conditions
-abbrev pub AppliesBy : {K : Type 0} → Model K → Option PreconditionsValue → (old : K) → BatchValue
+-- whether the tag of the state is read first: for conditions, or for the serial
+abbrev pub reads_tag : Wanted → Bool
+reads_tag wanted = is_some wanted.conditions || wanted.numbered
+
+-- `apply` led from the first keeper to the second with this result, after reads if the tag is read
+abbrev pub AppliesBy : {K : Type 0} → Model K → (reads : Bool) → (old : K) → BatchValue
     → Result Reply Fault → (new : K) → Type 0
-AppliesBy model None old b r new = model.applies old b r new
-AppliesBy {K} model (Some p) old b r new = (mid : K) × ByCalls model old mid
+AppliesBy model false old b r new = model.applies old b r new
+AppliesBy {K} model true old b r new = (mid : K) × ByCalls model old mid
     × model.applies mid b r new
 
--- `apply` was not called: no call was made, or reads if there are conditions
-abbrev pub IsUncalled : {K : Type 0} → Model K → Option PreconditionsValue → (old new : K) → Type 0
-IsUncalled model None old new = new ≡ old
-IsUncalled model (Some p) old new = ByCalls model old new
+-- `apply` was not called: no call was made, or reads if the tag is read
+abbrev pub IsUncalled : {K : Type 0} → Model K → (reads : Bool) → (old new : K) → Type 0
+IsUncalled model false old new = new ≡ old
+IsUncalled model true old new = ByCalls model old new
 
--- the number of a tag is the serial of a batch that was accepted
+-- the number of a tag or a serial is the serial of a batch that was accepted
 abbrev pub IsSerialOf : Reply → ℕ → Type 0
 IsSerialOf (Accepted counts serial) n = n ≡ serial
 IsSerialOf (Repeated counts serial) n = ⊤
 IsSerialOf (Refused refusal place) n = ⊤
 
--- the answer with this reply to the batch of this key, with a tag if there are conditions
-abbrev pub IsReplied : Option PreconditionsValue → Text → Reply → ResponseValue → Type 0
-IsReplied None key reply p = p ≡ replied key reply
-IsReplied (Some conditions) key reply p = (n : ℕ) × IsSerialOf reply n
-    × (p ≡ tagged n (replied key reply))
+-- an answer with a tag, if there are conditions
+abbrev pub tagged_under : Option PreconditionsValue → ℕ → ResponseValue → ResponseValue
+tagged_under None n p = p
+tagged_under (Some conditions) n p = tagged n p
 
--- a fault without a call of `apply`: memory ran out, or a read failed if there are conditions
-abbrev pub MayFail : Option PreconditionsValue → Fault → Type 0
-MayFail None fault = fault ≡ faults.Memory
-MayFail (Some conditions) fault = ⊤
+-- the answer with this reply to the batch of this key, with the number of the state afterwards as a
+-- tag if there are conditions, and as a serial if it shows one
+abbrev pub IsReplied : Wanted → Text → Reply → ResponseValue → Type 0
+IsReplied wanted key reply p = (n : ℕ) × IsSerialOf reply n
+    × (p ≡ with_serial wanted.numbered n (tagged_under wanted.conditions n (replied key reply)))
+
+-- the answer that a condition does not hold, if there are conditions, with a serial if it shows one
+abbrev pub IsHeldBack : Wanted → ResponseValue → Type 0
+IsHeldBack wanted p = IsSome wanted.conditions × (n : ℕ)
+    × (p ≡ with_serial wanted.numbered n changed)
+
+-- a fault without a call of `apply`: memory ran out, or a read failed if the tag is read
+abbrev pub MayFail : (reads : Bool) → Fault → Type 0
+MayFail false fault = fault ≡ faults.Memory
+MayFail true fault = ⊤
 
 -- a batch by what the keeper returned: its reply is the response, and its fault is to be answered;
 -- `uncalled` says that `apply` was not called, and then there is such a fault, or a condition does
 -- not hold
-abbrev pub RespondsToBatch : {A : Type 0} → Text → Option PreconditionsValue
-    → (A → ResponseValue → Type 0) → Result A Fault → (applies : Result Reply Fault → Type 0)
-    → (uncalled : Type 0) → Type 0
-RespondsToBatch key conditions Is (Ok r) applies uncalled =
-    ((reply : Reply) × (p : ResponseValue) × applies (Ok reply) × IsReplied conditions key reply p
+abbrev pub RespondsToBatch : {A : Type 0} → Text → Wanted → (A → ResponseValue → Type 0)
+    → Result A Fault → (applies : Result Reply Fault → Type 0) → (uncalled : Type 0) → Type 0
+RespondsToBatch key wanted Is (Ok r) applies uncalled =
+    ((reply : Reply) × (p : ResponseValue) × applies (Ok reply) × IsReplied wanted key reply p
     × Is r p)
-    ⊎ (IsSome conditions × uncalled × Is r changed)
-RespondsToBatch key conditions Is (Err fault) applies uncalled =
-    applies (Err fault) ⊎ (uncalled × MayFail conditions fault)
+    ⊎ ((p : ResponseValue) × uncalled × IsHeldBack wanted p × Is r p)
+RespondsToBatch key wanted Is (Err fault) applies uncalled =
+    applies (Err fault) ⊎ (uncalled × MayFail (reads_tag wanted) fault)
 
 -- A request was responded to between two keepers, or this fault is to be answered: by the condition
 -- of the first, by the result of `apply` if it is a batch, and over a shut keeper with what a crash
@@ -164,9 +178,9 @@ pub record Responds {K A : Type 0} (model : Model K) (root : Text) (wanted : Wan
       × (model.cause new ≡ Some why) × LeavesSame (model.may_leave old) (model.may_leave new)
   pub any : RespondsAny root wanted.operation Is result (model.cause new)
   pub to_batch : (b : BatchValue) → wanted.operation ≡ batch b
-      → RespondsToBatch b.key wanted.conditions Is result
-      (λ r. AppliesBy model wanted.conditions old b r new)
-      (IsUncalled model wanted.conditions old new)
+      → RespondsToBatch b.key wanted Is result
+      (λ r. AppliesBy model (reads_tag wanted) old b r new)
+      (IsUncalled model (reads_tag wanted) old new)
 
 -- the same of a request whose answer has its head
 abbrev pub Sends : {K : Type 0} → Model K → Text → RequestValue → (old new : K)
@@ -180,16 +194,16 @@ Sends model root request old new result =
 pub data BatchAnswers (key : Text) (request : RequestValue) (sent : AnswerSent)
     (applies : Result Reply Fault → Type 0) (uncalled : Type 0) : Type 0 where
   by_reply : (reply : Reply) (p : ResponseValue) → applies (Ok reply)
-      → IsReplied request.wanted.conditions key reply p → sent ≡ sent_as request p
+      → IsReplied request.wanted key reply p → sent ≡ sent_as request p
       → BatchAnswers key request sent applies uncalled
   by_fault : (fault : Fault) → applies (Err fault)
       → sent ≡ sent_as request (fault_response (Keeper fault))
       → BatchAnswers key request sent applies uncalled
-  by_none : (fault : Fault) → uncalled → MayFail request.wanted.conditions fault
+  by_none : (fault : Fault) → uncalled → MayFail (reads_tag request.wanted) fault
       → sent ≡ sent_as request (fault_response (Keeper fault))
       → BatchAnswers key request sent applies uncalled
-  by_condition : IsSome request.wanted.conditions → uncalled → sent ≡ sent_as request changed
-      → BatchAnswers key request sent applies uncalled
+  by_condition : (p : ResponseValue) → uncalled → IsHeldBack request.wanted p
+      → sent ≡ sent_as request p → BatchAnswers key request sent applies uncalled
 
 -- if the request is a batch: it is answered as the first keeper answered it, and the second is the
 -- keeper after that; or `apply` was not called
@@ -199,8 +213,8 @@ abbrev pub AnswersBatch :
 AnswersBatch model request sent old new =
     (b : BatchValue) → request.wanted.operation ≡ batch b
     → BatchAnswers b.key request sent
-    (λ r. AppliesBy model request.wanted.conditions old b r new)
-    (IsUncalled model request.wanted.conditions old new)
+    (λ r. AppliesBy model (reads_tag request.wanted) old b r new)
+    (IsUncalled model (reads_tag request.wanted) old new)
 
 -- ---- a request
 

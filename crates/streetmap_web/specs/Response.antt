@@ -1,6 +1,6 @@
 -- The answer to a request, and the state after it.
 use Rattle.std.specs.Prelude.{ℕ, ◌++◌, [], Bool, true, false, ◌||◌, Option, None, Some}
-use Rattle.std.specs.Prelude.{if◌then◌else◌, length, ◌==◌, ◌&&◌, not}
+use Rattle.std.specs.Prelude.{if◌then◌else◌, length, ◌==◌, ◌&&◌, not, option_map}
 use Rattle.serde_json.specs.Written.{compact_text}
 use Rattle.streetmap_http.specs.AnswerHead.{head_text}
 use Rattle.streetmap_http.specs.declared.answer_head.AnswerHead.{AnswerHead}
@@ -20,7 +20,7 @@ use Rattle.streetmap_batch.specs.Text.{Text}
 use Rattle.streetmap_batch.specs.BatchValue.{BatchValue}
 use Rattle.streetmap_ledger.specs.State.{State}
 use Rattle.streetmap_ledger.specs.Batches.{act}
-use Rattle.streetmap_ledger.specs.Kept.{batch_count}
+use Rattle.streetmap_ledger.specs.Kept.{batch_count, batch_in}
 use Rattle.streetmap_tags.specs.Keys.{is_used}
 use Rattle.streetmap_tags.specs.Changes.{changes_in}
 use Rattle.streetmap_ledger.specs.Pages.{PageValue, page_in, feature_in}
@@ -31,11 +31,13 @@ use Rattle.streetmap_ledger.specs.declared.reply.Fault.TheVariants.{Reopen}
 use Rattle.streetmap_routes.specs.Operations.{OperationValue, faulty, landing_page, api_text}
 use Rattle.streetmap_routes.specs.Operations.{conformance_classes, all_collections, one_collection}
 use Rattle.streetmap_routes.specs.Operations.{page}
-use Rattle.streetmap_routes.specs.Operations.{feature, changes, batch, operation_with}
+use Rattle.streetmap_routes.specs.Operations.{feature, changes, service_status, batch}
+use Rattle.streetmap_routes.specs.Operations.{operation_with}
 use Rattle.streetmap_bodies.specs.Bodies.{landing_data, api_document, conformance_data}
 use Rattle.streetmap_bodies.specs.Bodies.{collections_data, collection_data, page_data}
 use Rattle.streetmap_bodies.specs.Bodies.{linked_feature_data}
 use Rattle.streetmap_bodies.specs.Changes.{changes_text}
+use Rattle.streetmap_bodies.specs.Status.{status_data}
 use Rattle.streetmap_bodies.specs.Replies.{reply_body}
 use Rattle.streetmap_bodies.specs.RequestFaults.{status_of, allow_of, fault_body}
 use Rattle.streetmap_bodies.specs.declared.request_fault.RequestFault.{RequestFault}
@@ -50,6 +52,7 @@ pub record ResponseValue : Type 0 where
   pub status : ℕ
   pub kind : MediaType
   pub tag : Option ℕ
+  pub serial : Option ℕ
   pub allow : Option Methods
   pub body : Text
 
@@ -59,13 +62,21 @@ fault_response fault = record {
   status = status_of fault;
   kind = Json;
   tag = None;
+  serial = None;
   allow = allow_of fault;
   body = compact_text (fault_body fault);
 }
 
 -- a resource that exists
 abbrev pub found : MediaType → Text → ResponseValue
-found kind body = record { status = 200; kind = kind; tag = None; allow = None; body = body }
+found kind body = record {
+  status = 200;
+  kind = kind;
+  tag = None;
+  serial = None;
+  allow = None;
+  body = body;
+}
 
 -- no such resource exists
 abbrev pub not_found : ResponseValue
@@ -98,9 +109,18 @@ replied key reply = record {
   status = reply_status reply;
   kind = Json;
   tag = None;
+  serial = None;
   allow = None;
   body = compact_text (reply_body key reply);
 }
+
+-- the key of the batch whose serial is that of the state, if any
+abbrev pub last_key : State → Option Text
+last_key s = option_map (λ b. b.0) (batch_in s (batch_count s))
+
+-- how many collections there are
+abbrev pub collection_count : State → ℕ
+collection_count s = length (summaries_in s)
 
 -- the answer in a state; root is the base of links without its last slash
 abbrev pub response_in : Text → State → OperationValue → ResponseValue
@@ -114,6 +134,8 @@ response_in root s (one_collection name) = found_collection root (summary_in s n
 response_in root s (page name q) = found_page root name q (page_in s name q)
 response_in root s (feature name id) = found_feature root name (feature_in s name id)
 response_in root s (changes after limit) = found Journal (changes_text (changes_in s after limit))
+response_in root s service_status = found Json
+    (compact_text (status_data (batch_count s) (collection_count s) (last_key s)))
 response_in root s (batch b) = replied b.key (act s b).reply
 
 -- the answer of a shut keeper: as always if the request needs no state, and else that the keeper
@@ -128,6 +150,7 @@ response_shut root (one_collection name) = fault_response (faults.Keeper Reopen)
 response_shut root (page name q) = fault_response (faults.Keeper Reopen)
 response_shut root (feature name id) = fault_response (faults.Keeper Reopen)
 response_shut root (changes after limit) = fault_response (faults.Keeper Reopen)
+response_shut root service_status = fault_response (faults.Keeper Reopen)
 response_shut root (batch b) = fault_response (faults.Keeper Reopen)
 
 -- whether the request needs the state
@@ -141,6 +164,7 @@ needs_state (one_collection name) = true
 needs_state (page name q) = true
 needs_state (feature name id) = true
 needs_state (changes after limit) = true
+needs_state service_status = true
 needs_state (batch b) = true
 
 -- the state afterwards: that after the batch, or else the same
@@ -150,14 +174,16 @@ state_in s _ = s
 
 -- ---- under conditions
 
--- what a request wants: an operation, and, if the service gives tags, its conditions
+-- what a request wants: an operation; if the service gives tags, its conditions; and whether its
+-- answer shows the serial of the state
 pub record Wanted : Type 0 where
   pub operation : OperationValue
   pub conditions : Option PreconditionsValue
+  pub numbered : Bool
 
--- an operation, of a service that gives no tags
+-- an operation, of a service that gives no tags and shows no serials
 abbrev pub plainly : OperationValue → Wanted
-plainly operation = record { operation = operation; conditions = None }
+plainly operation = record { operation = operation; conditions = None; numbered = false }
 
 -- an answer of status 200, with the tag of this number
 abbrev pub tagged : ℕ → ResponseValue → ResponseValue
@@ -169,7 +195,14 @@ instead p other = if other.status == 200 then p else other
 
 -- the client has what would be answered; RFC 9110, section 15.4.5
 abbrev pub not_modified : ℕ → ResponseValue
-not_modified n = record { status = 304; kind = Json; tag = Some n; allow = None; body = [] }
+not_modified n = record {
+  status = 304;
+  kind = Json;
+  tag = Some n;
+  serial = None;
+  allow = None;
+  body = [];
+}
 
 -- a condition does not hold; RFC 9110, section 15.5.13
 abbrev pub changed : ResponseValue
@@ -230,13 +263,24 @@ state_under s operation None = state_in s operation
 state_under s operation (Some p) =
     state_by s operation (verdict_on (batch_count s) p operation)
 
--- what is answered to what is wanted
-abbrev pub response_to : Text → State → Wanted → ResponseValue
-response_to root s wanted = response_under root s wanted.operation wanted.conditions
+-- ---- with the serial of the state
 
--- and the state afterwards
+-- an answer with this serial, if it shows one
+abbrev pub with_serial : (numbered : Bool) → ℕ → ResponseValue → ResponseValue
+with_serial numbered n p = if numbered then record p { serial = Some n } else p
+
+-- whether the answer shows the serial of the state: if it needs the state
+abbrev pub shows_serial : Wanted → Bool
+shows_serial wanted = wanted.numbered && needs_state wanted.operation
+
+-- the state after what is wanted
 abbrev pub state_to : State → Wanted → State
 state_to s wanted = state_under s wanted.operation wanted.conditions
+
+-- what is answered to what is wanted, with the serial of the state afterwards if that is wanted
+abbrev pub response_to : Text → State → Wanted → ResponseValue
+response_to root s wanted = with_serial (shows_serial wanted) (batch_count (state_to s wanted))
+    (response_under root s wanted.operation wanted.conditions)
 
 -- whether the connection closes after an answer; the flag says whether the request closes it
 abbrev pub closes_with : Bool → ResponseValue → Bool
@@ -249,6 +293,7 @@ head_of closes p = record {
   kind = p.kind;
   len = length p.body;
   tag = p.tag;
+  serial = p.serial;
   allow = p.allow;
   closes = closes;
 }
@@ -271,21 +316,24 @@ pub record RequestValue : Type 0 where
   pub bare : Bool
 
 -- under conditions that can be read, if the operation needs the state
-abbrev pub readable_under : PreconditionsValue → OperationValue → Wanted
-readable_under p operation =
+abbrev pub readable_under : (numbered : Bool) → PreconditionsValue → OperationValue → Wanted
+readable_under numbered p operation =
     if needs_state operation && not (are_readable p) then plainly (faulty faults.BadCondition)
-    else record { operation = operation; conditions = Some p }
+    else record { operation = operation; conditions = Some p; numbered = numbered }
 
--- under conditions, if the service gives tags
-abbrev pub wanted_of : (tags : Bool) → PreconditionsValue → OperationValue → Wanted
-wanted_of tags p operation = if tags then readable_under p operation else plainly operation
+-- under conditions, if the service gives tags, and with the serial, if its answers show it
+abbrev pub wanted_of : (tags numbered : Bool) → PreconditionsValue → OperationValue → Wanted
+wanted_of tags numbered p operation =
+    if tags then readable_under numbered p operation
+    else record { operation = operation; conditions = None; numbered = numbered }
 
--- that of a head and a body, of a service that gives tags or not, offers changes or not, and refuses
--- batches or not; a batch that is refused has no conditions
+-- that of a head and a body, of a service that gives tags or not, offers these paths, and refuses
+-- batches or not; a batch that is refused has no conditions; and its answers show the serial if it
+-- offers the status
 abbrev pub request_of : SiteValue → HeadValue → Text → RequestValue
 request_of site h body = record {
-  wanted = wanted_of site.tags h.preconditions
-      (guarded site.guard h.token (operation_with site.changes h.method h.target body));
+  wanted = wanted_of site.tags site.offers.status h.preconditions
+      (guarded site.guard h.token (operation_with site.offers h.method h.target body));
   closes = h.closes;
   bare = is_bare h.method;
 }

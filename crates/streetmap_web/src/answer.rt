@@ -12,11 +12,11 @@ ghost use Rattle.streetmap_web.specs.Responds.{response_value, Sends, Answers, R
 ghost use Rattle.streetmap_bodies.specs.declared.request_fault.RequestFault.TheVariants.{Framing};
 ghost use Rattle.streetmap_bodies.specs.declared.request_fault.RequestFault.TheVariants as faults;
 
-use crate::conditional::{respond, wanted_of};
 use crate::guard::guarded;
 use crate::respond::faulty;
 use crate::response::Response;
 use crate::site::Site;
+use crate::wanted::{respond, wanted_of};
 use http::StatusCode;
 use std::alloc::{AllocError, Global};
 use streetmap_bodies::RequestFault;
@@ -26,7 +26,7 @@ use streetmap_ledger::Fault;
 use streetmap_tags::Tagged;
 
 /// The room that is allocated for the head of an answer.
-const HEAD_ROOM: usize = 256;
+const HEAD_ROOM: usize = 288;
 
 /// The body that is sent: none if the answer is bare.
 fn sent_body(body: String, bare: bool) -> String
@@ -41,7 +41,7 @@ fn sent_body(body: String, bare: bool) -> String
 
 /// Puts the head before a body, in room that was allocated before.
 fn finish(room: String, response: Response, closes: bool, bare: bool) -> Answer
-    requires room { 256 ≤ string_capacity room }
+    requires room { 288 ≤ string_capacity room }
     requires blank { string_bytes room ≡ [] }
     requires blank_len { string_len room ≡ 0 }
     ensures { answer_text result ≡ response_text closes bare (response_value response) }
@@ -51,6 +51,7 @@ fn finish(room: String, response: Response, closes: bool, bare: bool) -> Answer
         status,
         kind,
         tag,
+        serial,
         allow,
         body,
     } = response;
@@ -61,6 +62,7 @@ fn finish(room: String, response: Response, closes: bool, bare: bool) -> Answer
             kind,
             len: body.len() as u64,
             tag,
+            serial,
             allow,
             closes,
         },
@@ -141,11 +143,12 @@ fn try_answer<K: Tagged>(
     };
     let base = &site.base;
     let (method, target) = (request.method, request.target);
-    let Ok(operation) = base.operation(alloc, site.changes, method, target, body) else {
+    let Ok(operation) = base.operation(alloc, site.offers, method, target, body) else {
         return Err(Fault::Memory);
     };
     let operation = guarded(&site.guard, request.token, operation);
-    let wanted = wanted_of(site.tags, request.preconditions, operation);
+    let numbered = site.offers.status;
+    let wanted = wanted_of(site.tags, numbered, request.preconditions, operation);
     match respond(alloc, keeper, base.root(), &wanted) {
         Ok(response) => {
             let closing = closes(request.closes, response.status);

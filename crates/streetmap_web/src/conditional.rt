@@ -1,29 +1,26 @@
-//! The answer to a request under conditions (RFC 9110, section 13).
-ghost use Rattle.std.specs.Prelude.{◌≡◌, true, false, Some, IfOk};
-ghost use Rattle.streetmap_http.specs.Preconditions.{PreconditionsValue};
-ghost use Rattle.streetmap_http.specs.PreconditionsView.{preconditions_value};
+//! The answer to a request by a verdict on the tag of the state (RFC 9110, section 13).
+ghost use Rattle.std.specs.Prelude.{◌≡◌, true, false, IfOk};
 ghost use Rattle.streetmap_batch.specs.Text.{Text};
 ghost use Rattle.streetmap_batch.specs.BatchView.{batch_value};
 ghost use Rattle.streetmap_routes.specs.Operations as routes;
 ghost use Rattle.streetmap_routes.specs.OperationView.{operation_value};
 ghost use Rattle.streetmap_web.specs.Response as spec;
-ghost use Rattle.streetmap_web.specs.Response.{plainly, wanted_of};
+ghost use Rattle.streetmap_web.specs.Response.{plainly};
 ghost use Rattle.streetmap_web.specs.Judging as judging;
 ghost use Rattle.streetmap_web.specs.Judging.{RespondsBy};
 ghost use Rattle.streetmap_web.specs.Responds.{response_value, IsResponse, Responds};
-ghost use Rattle.streetmap_web.specs.Wants.{wanted_value};
 ghost use Rattle.streetmap_web.specs.declared.verdict.Verdict.TheVariants as verdicts;
 
 use crate::respond::{
     BODY_ROOM, faulty, or_starved, replied, respond_changes, respond_collection, respond_to,
 };
 use crate::response::Response;
-use crate::verdict::{Verdict, needs_state, verdict_on};
+use crate::verdict::Verdict;
 use http::StatusCode;
 use std::alloc::{AllocError, Global};
 use streetmap_batch::Batch;
 use streetmap_bodies::RequestFault;
-use streetmap_http::{MediaType, Preconditions};
+use streetmap_http::MediaType;
 use streetmap_ledger::{Fault, Keeper, Reply};
 use streetmap_routes::Operation;
 use streetmap_tags::Tagged;
@@ -39,6 +36,7 @@ fn tagged(tag: u64, response: Response) -> Response
         status,
         kind,
         tag: _,
+        serial,
         allow,
         body,
     } = response;
@@ -46,6 +44,7 @@ fn tagged(tag: u64, response: Response) -> Response
         status,
         kind,
         tag: Some(tag),
+        serial,
         allow,
         body,
     }
@@ -68,9 +67,8 @@ fn apply_tagged<K: Keeper>(
     batch: &Batch,
     tag: u64,
 ) -> Result<Response, Fault>
-    ensures { (root : Text) (p : PreconditionsValue) →
-        RespondsBy K.model root (routes.batch (batch_value batch.now)) verdicts.Holds tag p
-        IsResponse keeper.old keeper.new result }
+    ensures { (root : Text) → RespondsBy K.model root (routes.batch (batch_value batch.now))
+        verdicts.Holds tag IsResponse keeper.old keeper.new result }
 {
     let Ok(body) = String::with_capacity(alloc, BODY_ROOM) else {
         return Err(Fault::Memory);
@@ -89,9 +87,8 @@ fn hold_back<K: Tagged>(
     batch: &Batch,
     tag: u64,
 ) -> Result<Response, Fault>
-    ensures { (root : Text) (p : PreconditionsValue) →
-        RespondsBy K.model root (routes.batch (batch_value batch.now)) verdicts.Changed tag p
-        IsResponse keeper.old keeper.new result }
+    ensures { (root : Text) → RespondsBy K.model root (routes.batch (batch_value batch.now))
+        verdicts.Changed tag IsResponse keeper.old keeper.new result }
 {
     match keeper.has_key(batch.key()) {
         Ok(used) => {
@@ -113,9 +110,8 @@ fn judge_batch<K: Tagged>(
     tag: u64,
     batch: &Batch,
 ) -> Result<Response, Fault>
-    ensures { (root : Text) (p : PreconditionsValue) →
-        RespondsBy K.model root (routes.batch (batch_value batch.now)) verdict tag p
-        IsResponse keeper.old keeper.new result }
+    ensures { (root : Text) → RespondsBy K.model root (routes.batch (batch_value batch.now))
+        verdict tag IsResponse keeper.old keeper.new result }
 {
     match verdict {
         Verdict::Holds => apply_tagged(alloc, keeper, batch, tag),
@@ -148,6 +144,7 @@ fn not_modified(alloc: Global, tag: u64) -> Response
         status: StatusCode::NOT_MODIFIED,
         kind: MediaType::Json,
         tag: Some(tag),
+        serial: None,
         allow: None,
         body: String::new(alloc),
     }
@@ -191,9 +188,8 @@ fn judge_read<K: Tagged>(
 ) -> Result<Response, Fault>
     requires reads { spec.is_batch (operation_value operation.now) ≡ false }
     requires needed { spec.needs_state (operation_value operation.now) ≡ true }
-    ensures { (p : PreconditionsValue) →
-        RespondsBy K.model root.now (operation_value operation.now) verdict tag p
-        IsResponse keeper.old keeper.new result }
+    ensures { RespondsBy K.model root.now (operation_value operation.now) verdict tag IsResponse
+        keeper.old keeper.new result }
 {
     match verdict {
         Verdict::Holds => match respond_to(alloc, keeper, root, operation) {
@@ -208,7 +204,7 @@ fn judge_read<K: Tagged>(
 }
 
 /// Answers a request that needs the state by a verdict on its tag.
-fn judge<K: Tagged>(
+pub(crate) fn judge<K: Tagged>(
     alloc: Global,
     keeper: &mut K,
     root: &str,
@@ -217,90 +213,11 @@ fn judge<K: Tagged>(
     operation: &Operation,
 ) -> Result<Response, Fault>
     requires { spec.needs_state (operation_value operation.now) ≡ true }
-    ensures { (p : PreconditionsValue) →
-        RespondsBy K.model root.now (operation_value operation.now) verdict tag p
-        IsResponse keeper.old keeper.new result }
+    ensures { RespondsBy K.model root.now (operation_value operation.now) verdict tag IsResponse
+        keeper.old keeper.new result }
 {
     match operation {
         Operation::Batch(batch) => judge_batch(alloc, keeper, verdict, tag, batch),
         _ => judge_read(alloc, keeper, root, verdict, tag, operation),
-    }
-}
-
-/// Answers a request under conditions.
-fn respond_under<K: Tagged>(
-    alloc: Global,
-    keeper: &mut K,
-    root: &str,
-    preconditions: &Preconditions,
-    operation: &Operation,
-) -> Result<Response, Fault>
-    ensures { Responds K.model root.now
-        (record {
-          operation = operation_value operation.now;
-          conditions = Some (preconditions_value preconditions.now);
-        })
-        IsResponse keeper.old keeper.new result }
-{
-    if !needs_state(operation) {
-        return respond_to(alloc, keeper, root, operation);
-    }
-    match keeper.tag() {
-        Ok(tag) => {
-            let verdict = verdict_on(tag, preconditions, operation);
-            judge(alloc, keeper, root, verdict, tag, operation)
-        }
-        Err(fault) => Err(fault),
-    }
-}
-
-/// What a request wants.
-#[derive(Drop)]
-pub(crate) struct Wanted<'a> {
-    operation: Operation,
-    /// Its conditions, if the service gives tags.
-    conditions: Option<Preconditions<'a>>,
-}
-
-/// What a request wants, of a service that gives tags or not.
-pub(crate) fn wanted_of<'a>(
-    tags: bool,
-    preconditions: Preconditions<'a>,
-    operation: Operation,
-) -> Wanted<'a>
-    ensures { wanted_value result ≡
-        wanted_of tags (preconditions_value preconditions.entry) (operation_value operation) }
-{
-    if !tags {
-        return Wanted {
-            operation,
-            conditions: None,
-        };
-    }
-    if needs_state(&operation) && !preconditions.are_readable() {
-        return Wanted {
-            operation: Operation::Faulty(RequestFault::BadCondition),
-            conditions: None,
-        };
-    }
-    Wanted {
-        operation,
-        conditions: Some(preconditions),
-    }
-}
-
-/// Answers what is wanted.
-pub(crate) fn respond<K: Tagged>(
-    alloc: Global,
-    keeper: &mut K,
-    root: &str,
-    wanted: &Wanted,
-) -> Result<Response, Fault>
-    ensures { Responds K.model root.now (wanted_value wanted.now) IsResponse
-        keeper.old keeper.new result }
-{
-    match &wanted.conditions {
-        Some(conditions) => respond_under(alloc, keeper, root, conditions, &wanted.operation),
-        None => respond_to(alloc, keeper, root, &wanted.operation),
     }
 }

@@ -19,8 +19,12 @@
 //! A service may refuse batches (`Guard`): each, or each of a request without its follower script's
 //! token (`specs/Guards`).
 //!
-//! Modules, in the order of reading: `guard` and `site`, `response`, `respond` (the answer in a
-//! state), `verdict` and `conditional` (the same under conditions), `answer` (with its head),
+//! A service may offer its status (`Site`): then an answer that needs the state shows the serial of
+//! it too.
+//!
+//! Modules, in the order of reading: `guard` and `site`, `response`, `respond` and `status` (the
+//! answer in a state), `verdict` and `conditional` (the same by a verdict on its tag), `wanted`
+//! (under conditions, and with the serial), `answer` (with its head),
 //! `requests` (the bytes of one), `turns` (a stream); `log`, `watch`, `keeper_service` (a request
 //! of a client), `clients`.
 #![tactic(auto)]
@@ -35,8 +39,10 @@ mod requests;
 mod respond;
 mod response;
 mod site;
+mod status;
 mod turns;
 mod verdict;
+mod wanted;
 mod watch;
 
 pub use clients::{serve_clients, serve_count};

@@ -20,6 +20,7 @@ ghost use Rattle.streetmap_http.specs.declared.answer_head.MediaType.TheVariants
 ghost use Rattle.streetmap_http.specs.declared.answer_head.MediaType.TheVariants.{Html, Journal};
 
 use crate::response::Response;
+use crate::status::respond_status;
 use http::StatusCode;
 use std::alloc::{AllocError, Global};
 use streetmap_batch::Batch;
@@ -35,17 +36,18 @@ use streetmap_routes::Operation;
 use streetmap_tags::{Tagged, changes};
 
 /// The room that is allocated for the body of the answer to a batch before the batch is applied.
-/// With that of the head, 256 bytes, it is 1,024.
-pub(crate) const BODY_ROOM: usize = 768;
+/// With that of the head, 288 bytes, it is 1,024.
+pub(crate) const BODY_ROOM: usize = 736;
 
 /// An answer with a body.
-fn found(kind: MediaType, body: String) -> Response
+pub(crate) fn found(kind: MediaType, body: String) -> Response
     ensures { response_value result ≡ spec_response.found kind (string_bytes body) }
 {
     Response {
         status: StatusCode::OK,
         kind,
         tag: None,
+        serial: None,
         allow: None,
         body,
     }
@@ -65,6 +67,7 @@ fn faulty_in(body: String, fault: RequestFault) -> Response
         status: fault.status(),
         kind: MediaType::Json,
         tag: None,
+        serial: None,
         allow: fault.allow(),
         body,
     }
@@ -113,6 +116,7 @@ pub(crate) fn replied(body: String, batch: &Batch, reply: Reply) -> Response
         status: reply_status(reply),
         kind: MediaType::Json,
         tag: None,
+        serial: None,
         allow: None,
         body,
     }
@@ -346,6 +350,7 @@ pub(crate) fn respond_to<K: Tagged>(
             respond_feature(alloc, keeper, root, name.as_str(), id.as_str())
         }
         Operation::Changes(after, limit) => respond_changes(alloc, keeper, *after, *limit),
+        Operation::ServiceStatus => respond_status(alloc, keeper),
         Operation::Batch(batch) => respond_batch(alloc, keeper, batch),
     }
 }

@@ -9,6 +9,8 @@ pub struct Response {
     pub kind: MediaType,
     /// The number of the tag, if what is there has one.
     pub tag: Option<u64>,
+    /// The serial of the state after the request, if the answer shows it.
+    pub serial: Option<u64>,
     /// The methods of the path, if the request has another.
     pub allow: Option<Methods>,
     pub body: String,

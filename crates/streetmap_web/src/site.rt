@@ -1,6 +1,6 @@
 //! A service on the web.
 use crate::guard::Guard;
-use streetmap_routes::Base;
+use streetmap_routes::{Base, Offers};
 
 /// What a service is on the web.
 #[derive(Drop)]
@@ -9,8 +9,9 @@ pub struct Site {
     pub base: Base,
     /// Whether its answers have tags, and its requests conditions.
     pub tags: bool,
-    /// Whether it answers `/changes` with the accepted batches.
-    pub changes: bool,
+    /// Which paths it offers beside the eight. If it offers `/status`, each answer that needs the
+    /// state shows its serial (`Streetmap-Serial`).
+    pub offers: Offers,
     /// Which batches it refuses.
     pub guard: Guard,
 }

@@ -32,6 +32,7 @@ pub(crate) fn needs_state(operation: &Operation) -> bool
         | Operation::Page(_, _)
         | Operation::Feature(_, _)
         | Operation::Changes(_, _)
+        | Operation::ServiceStatus
         | Operation::Batch(_) => true,
     }
 }

@@ -28,7 +28,7 @@ returns-in-Ok-respond g c =
     response_sent g.K.Keeper.model (site_value c.args.site.now) request c.args.keeper.now c.respond.new.keeper c.root.result.now (wanted_value c.wanted_of-wanted.result)
     response (c.finish.result, closing) c.root.ensures.value
     (c.wanted_of-wanted.ensures
-    ∙ ap (wanted_of c.args.site.now.tags (preconditions_value c.args.request.preconditions)) (c.guarded-operation.ensures
+    ∙ ap (wanted_of c.args.site.now.tags c.args.site.now.offers.status (preconditions_value c.args.request.preconditions)) (c.guarded-operation.ensures
     ∙ ap (guarded (site_value c.args.site.now).guard (head_value c.args.request).token) c.in-Ok-operation.ensures))
     c.in-Ok-respond.ensures c.closes-closing.ensures (c.finish.ensures ∙ ap (λ bare. response_text closing bare (response_value response)) c.is_bare-bare.ensures)
 
@@ -37,6 +37,6 @@ returns-in-Err g c =
     fault_unsent g.K.Keeper.model (site_value c.args.site.now) (request_of (site_value c.args.site.now) (head_value c.args.request) c.args.body.now) c.args.keeper.now c.respond.new.keeper
     c.root.result.now (wanted_value c.wanted_of-wanted.result) c.in-Err.fault c.root.ensures.value
     (c.wanted_of-wanted.ensures
-    ∙ ap (wanted_of c.args.site.now.tags (preconditions_value c.args.request.preconditions)) (c.guarded-operation.ensures
+    ∙ ap (wanted_of c.args.site.now.tags c.args.site.now.offers.status (preconditions_value c.args.request.preconditions)) (c.guarded-operation.ensures
     ∙ ap (guarded (site_value c.args.site.now).guard (head_value c.args.request).token) c.in-Ok-operation.ensures))
     c.in-Err.ensures

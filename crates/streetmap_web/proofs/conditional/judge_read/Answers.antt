@@ -8,25 +8,25 @@ use Rattle.streetmap_web.proofs.Judgements.{tagged_judged, failed_by, instead_ju
 use Rattle.streetmap_web.proofs.conditional.judge_read.Goals as goal
 
 pub returns-in-Ok : goal.returns-in-Ok
-returns-in-Ok g c p =
+returns-in-Ok g c =
     let operation = operation_value c.args.operation.now in
-    subst (λ (v : Verdict). RespondsBy g.K.Keeper.model c.args.root.now operation v c.args.tag p IsResponse c.args.keeper.now c.respond_to.new.keeper (Ok c.tagged.result))
+    subst (λ (v : Verdict). RespondsBy g.K.Keeper.model c.args.root.now operation v c.args.tag IsResponse c.args.keeper.now c.respond_to.new.keeper (Ok c.tagged.result))
     (sym c.in-Holds.is)
-    (tagged_judged c.args.root.now operation c.args.tag p c.requires.reads c.requires.needed c.in-Ok.response c.tagged.result c.in-Ok.ensures c.tagged.ensures)
+    (tagged_judged c.args.root.now operation c.args.tag c.requires.reads c.requires.needed c.in-Ok.response c.tagged.result c.in-Ok.ensures c.tagged.ensures)
 
 pub returns-in-Err : goal.returns-in-Err
-returns-in-Err g c p =
+returns-in-Err g c =
     let operation = operation_value c.args.operation.now in
-    subst (λ (v : Verdict). RespondsBy {A = Response} g.K.Keeper.model c.args.root.now operation v c.args.tag p IsResponse c.args.keeper.now c.respond_to.new.keeper (Err c.in-Err.fault))
+    subst (λ (v : Verdict). RespondsBy {A = Response} g.K.Keeper.model c.args.root.now operation v c.args.tag IsResponse c.args.keeper.now c.respond_to.new.keeper (Err c.in-Err.fault))
     (sym c.in-Holds.is)
-    (failed_by c.args.root.now operation c.args.tag p c.requires.reads c.requires.needed c.in-Err.fault c.in-Err.ensures)
+    (failed_by c.args.root.now operation c.args.tag c.requires.reads c.requires.needed c.in-Err.fault c.in-Err.ensures)
 
 pub returns-in-Ok-respond_probe : goal.returns-in-Ok-respond_probe
-returns-in-Ok-respond_probe g c p =
-    instead_judged c.args.root.now (operation_value c.args.operation.now) c.args.tag p c.requires.reads c.requires.needed c.args.verdict c.in_default.not-Holds
+returns-in-Ok-respond_probe g c =
+    instead_judged c.args.root.now (operation_value c.args.operation.now) c.args.tag c.requires.reads c.requires.needed c.args.verdict c.in_default.not-Holds
     c.in-Ok-respond_probe.response c.instead.result c.or_starved.result c.in-Ok-respond_probe.ensures c.instead.ensures c.or_starved.ensures.ok c.or_starved.ensures.err
 
 pub returns-in-Err-respond_probe : goal.returns-in-Err-respond_probe
-returns-in-Err-respond_probe g c p =
-    failed_probe c.args.root.now (operation_value c.args.operation.now) c.args.tag p c.requires.reads c.requires.needed c.args.verdict c.in_default.not-Holds
+returns-in-Err-respond_probe g c =
+    failed_probe c.args.root.now (operation_value c.args.operation.now) c.args.tag c.requires.reads c.requires.needed c.args.verdict c.in_default.not-Holds
     c.in-Err-respond_probe.fault c.in-Err-respond_probe.ensures

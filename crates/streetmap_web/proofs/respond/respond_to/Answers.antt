@@ -35,3 +35,8 @@ pub returns-in-Changes : goal.returns-in-Changes
 returns-in-Changes g c =
     subst (λ (a : OperationValue). Responds g.K.Keeper.model c.args.root.now (plainly a) IsResponse c.args.keeper.now c.respond_changes.new.keeper c.respond_changes.result)
     (sym (ap operation_value c.in-Changes.is)) (c.respond_changes.ensures c.args.root.now)
+
+pub returns-in-ServiceStatus : goal.returns-in-ServiceStatus
+returns-in-ServiceStatus g c =
+    subst (λ (a : OperationValue). Responds g.K.Keeper.model c.args.root.now (plainly a) IsResponse c.args.keeper.now c.respond_status.new.keeper c.respond_status.result)
+    (sym (ap operation_value c.in-ServiceStatus.is)) (c.respond_status.ensures c.args.root.now)
