@@ -1,7 +1,7 @@
 """docs/openapi.json is an OpenAPI document, and describes each request and answer of the rows.
 
 The rows are those of examples/http.jsonl, those of examples/conditional.jsonl with tags, those of
-examples/changes.jsonl with changes, and those of services that refuse batches. A request for one of
+examples/changes.jsonl with changes, and those of services that refuse batches or show their status. A request for one of
 the paths, by a method that is described, has an answer whose status, media type, tag and body are
 described. Any other has an error.
 """
@@ -33,9 +33,13 @@ PATHS = {
     "/collections/{collectionId}/items/{featureId}",
     "/batches",
     "/changes",
+    "/status",
 }
 # The files of rows.
-ROWS = ("http.jsonl", "conditional.jsonl", "changes.jsonl", "fenced.jsonl", "follower.jsonl")
+ROWS = (
+    *("http.jsonl", "conditional.jsonl", "changes.jsonl", "fenced.jsonl", "follower.jsonl"),
+    *("status.jsonl", "status_and_tags.jsonl"),
+)
 
 
 @dataclass(frozen=True)

@@ -4,7 +4,7 @@ A row (examples/http.jsonl; examples/conditional.jsonl of a service with tags,
 examples/changes.jsonl of one with tags and changes) has the batches that are there before, the
 bytes of the requests, and all bytes of the answers. A proved test runs the same rows over other
 keepers, from a table. The rows of fenced.jsonl and follower.jsonl are of services that refuse
-batches.
+batches, and those of status.jsonl and status_and_tags.jsonl of services that show their status.
 """
 
 import json
@@ -79,6 +79,19 @@ def check_guards(context: Context, first: int) -> None:
     context.run("pipe", file, "--follower", f"{token}s", status=1, code="bad_token")
 
 
+def check_status(context: Context, first: int) -> None:
+    """The rows of servers with `--status`, alone and with tags and changes; the version that they
+    show is that of the program."""
+    version = context.run("--version").decode().split()[1]
+    context.check("the version", f'"version":"{version}"' in rows_in("status.jsonl")[0][3], True)
+    alone, all_three = ("--status",), ("--conditional", "--changes", "--status")
+    for name, options in (("status.jsonl", alone), ("status_and_tags.jsonl", all_three)):
+        for what, before, sent, wanted in rows_in(name):
+            answers = written(context, first, before, sent, options)
+            context.check(f"{name}: {what}", answers, wanted)
+            first += 1
+
+
 def run(context: Context) -> None:
     context.check("the table of the proved test is that of the rows", http_table.is_current(), True)
     asked = [*rows_in("http.jsonl"), *limits()]
@@ -92,4 +105,6 @@ def run(context: Context) -> None:
     for number, (what, before, sent, wanted) in enumerate(changes, len(asked) + len(tagged)):
         answers = written(context, number, before, sent, ("--conditional", "--changes"))
         context.check(what, answers, wanted)
-    check_guards(context, len(asked) + len(tagged) + len(changes))
+    first = len(asked) + len(tagged) + len(changes)
+    check_guards(context, first)
+    check_status(context, first + 100)

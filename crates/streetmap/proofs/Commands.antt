@@ -1,5 +1,6 @@
 -- What a command leaves in FILE, by the contracts of its calls of the keeper.
-use Rattle.std.proofs.Common.{◌≡◌, ◌⊎◌, inl, inr, ℕ, ◌+◌, List, [], ◌∷◌, ◌++◌, length, Option, None, Some, Result, Ok, Err, String, Bool, true, false, refl, sym, ap, subst, ◌∙◌}
+use Rattle.std.proofs.Common.{◌≡◌, ◌⊎◌, inl, inr, ℕ, ◌+◌, List, [], ◌∷◌, ◌++◌, length, Option, None, Some, Result, Ok, Err, String, Bool, true, false, refl}
+use Rattle.std.proofs.Common.{sym, ap, subst, ◌∙◌}
 use Rattle.std.specs.Prelude.{IsOk, IfSome, IfErr, ◌||◌}
 use Rattle.std.specs.declared.alloc.Global.{Global}
 use Rattle.std.proofs.lemmas.List.{append-nil}
@@ -51,18 +52,21 @@ same_state s t e = cc
 
 -- the law of a keeper whose store can be opened again
 abbrev pub ImagesHoldStates : {K Image : Type 0} → Model K → (Image → State → Type 0) → (K → Image → Type 0) → Type 0
-ImagesHoldStates {K} {Image} model holds leaves = (first last : K) (s : State) (image : Image) → model.represents first s → model.preserves first last → model.is_clean last
+ImagesHoldStates {K} {Image} model holds leaves = (first last : K) (s : State) (image : Image) → model.represents first s → model.preserves first last →
+    model.is_clean last
     → leaves last image → (t : State) × holds image t × model.may_leave last (Some t)
 
-module _ {K Image : Type 0} (model : Model K) {holds : Image → State → Type 0} {leaves : K → Image → Type 0} (images : ImagesHoldStates model holds leaves) where
-  -- each image that a crash may leave holds a state with a property of all states that may be left
-  pub hold_one_of : (first last : K) (s : State) (Is : State → Type 0) → model.represents first s → model.preserves first last → model.is_clean last
-      → ((t : State) → model.may_leave last (Some t) → Is t) → HoldOneOf holds (leaves last) Is
-  hold_one_of first last s Is is preserved clean so image left = let it = images first last s image is preserved clean left in (it.0, it.1, so it.0 it.2)
+module _ {K Image : Type 0} (model : Model K) {holds : Image → State → Type 0} {leaves : K → Image → Type 0} (images : ImagesHoldStates model holds leaves)
+  where
+    -- each image that a crash may leave holds a state with a property of all states that may be left
+    pub hold_one_of : (first last : K) (s : State) (Is : State → Type 0) → model.represents first s → model.preserves first last → model.is_clean last
+        → ((t : State) → model.may_leave last (Some t) → Is t) → HoldOneOf holds (leaves last) Is
+    hold_one_of first last s Is is preserved clean so image left = let it = images first last s image is preserved clean left in (it.0, it.1, so it.0 it.2)
 
-  -- no call was made
-  pub hold_still : (k : K) (s : State) (Is : State → Type 0) → model.represents k s → model.is_clean k → Is s → HoldOneOf holds (leaves k) Is
-  hold_still k s Is is clean so = hold_one_of k k s Is is (model.preserves_itself k) clean (λ t left. subst Is (sym (same_state t s (model.leaves_it k s is (Some t) left))) so)
+    -- no call was made
+    pub hold_still : (k : K) (s : State) (Is : State → Type 0) → model.represents k s → model.is_clean k → Is s → HoldOneOf holds (leaves k) Is
+    hold_still k s Is is clean so = hold_one_of k k s Is is (model.preserves_itself k) clean
+        (λ t left. subst Is (sym (same_state t s (model.leaves_it k s is (Some t) left))) so)
 
 -- a property that implies another one
 pub hold_more : {Image : Type 0} {holds : Image → State → Type 0} {leaves : Image → Type 0} {Is As : State → Type 0} → ((t : State) → Is t → As t)
@@ -114,7 +118,10 @@ module _ {K : Type 0} (model : Model K) where
   imported old new s t b body done it printed left =
       let same : b ≡ it.0 = (let e : ◌≡◌ {A = Result BatchValue _} (Ok b) (Ok it.0) = it.1 in cc) in
       let batch = subst (λ (x : BatchValue). ImportsBatch model old new s x (Ok body)) (sym same) it.2 in
-      let acted : IsAcknowledged (act s b).reply × (t ≡ (act s b).state) = (acknowledged_if b.key (act s b).reply body batch.0, leaves_one new (act s b).state t batch.1 left) in
+      let acted : IsAcknowledged (act s b).reply × (t ≡ (act s b).state) = (
+        acknowledged_if b.key (act s b).reply body batch.0,
+        leaves_one new (act s b).state t batch.1 left,
+      ) in
       elim printed [
         | inl e ↦ subst (λ (d : Done). Imported s b d t) (sym e) acted
         | inr e ↦ subst (λ (d : Done). Imported s b d t) (sym e) acted
@@ -198,10 +205,11 @@ module _ {K : Type 0} (model : Model K) where
     after_end read (Some (ends.Unread (batches.BadFeature place cause))) it = inl (leaves_one new (follow s read).state t it.3.1 left)
     after_end read (Some ends.NotNext) it = inl (leaves_one new (follow s read).state t it.3.1 left)
     after_end read (Some (ends.Refused why place)) it = inl (leaves_one new (follow s read).state t it.3.1 left)
-    after_end read (Some (ends.Stopped fault)) it = elim (after_stopped old new t (follow s read).state it.0 (line_outcome (follow s read).state it.0) refl fault it.3 left) [
-      | inl e ↦ inl e
-      | inr more ↦ inr (it.0, more.0, more.1, more.2)
-    ]
+    after_end read (Some (ends.Stopped fault)) it = elim (after_stopped old new t (follow s read).state it.0 (line_outcome (follow s read).state it.0) refl
+        fault it.3 left) [
+          | inl e ↦ inl e
+          | inr more ↦ inr (it.0, more.0, more.1, more.2)
+        ]
     after_end read (Some ends.CutLine) it = inl (leaves_one new (follow s read).state t it.1 left)
     after_end read (Some (ends.NotRead lines.LineTooLong)) it = inl (leaves_one new (follow s read).state t it.1 left)
     after_end read (Some (ends.NotRead lines.ReadFailed)) it = inl (leaves_one new (follow s read).state t it left)
@@ -209,17 +217,20 @@ module _ {K : Type 0} (model : Model K) where
     after_end read (Some ends.NotReported) it = inr (it.0, it.3.0, it.3.1, leaves_one new it.3.0.state t it.3.2 left)
 
     -- all lines were read
-    all_known : (read : List Line) (text rest : Option Text) → WhereKnown text rest (λ bytes remaining. (bytes ≡ text_of_lines read) × (remaining ≡ [])) → IfSome text (λ bytes. bytes ≡ text_of_lines read)
+    all_known : (read : List Line) (text rest : Option Text) → WhereKnown text rest (λ bytes remaining. (bytes ≡ text_of_lines read) × (remaining ≡ [])) →
+        IfSome text (λ bytes. bytes ≡ text_of_lines read)
     all_known read None rest known = tt
     all_known read (Some bytes) None known = absurd known
     all_known read (Some bytes) (Some remaining) known = known.0
 
-    all_lines : (count : ℕ) (read : List Line) (why : Option FollowFault) → FollowingEndsBy model old new (follow s read).state read input rest why → IsOk (end_of_lines count why)
+    all_lines : (count : ℕ) (read : List Line) (why : Option FollowFault) → FollowingEndsBy model old new (follow s read).state read input rest why →
+        IsOk (end_of_lines count why)
         → (t ≡ (follow s read).state) × IfSome input (λ bytes. bytes ≡ text_of_lines read)
     all_lines count read None by ok = (leaves_one new (follow s read).state t by.1 left, all_known read input rest by.0)
     all_lines count read (Some fault) by ok = absurd cc
 
-    pub applied : {T : Type 0} {reports : T → Text → Reply → T → Type 0} {first last : T} (it : Followed) → FollowsLines model old new s input rest reports first last it
+    pub applied : {T : Type 0} {reports : T → Text → Reply → T → Type 0} {first last : T} (it : Followed) →
+        FollowsLines model old new s input rest reports first last it
         → Applied s input (end_of_lines it.count it.fault) t
     applied it by = record {
       read = by.read;
@@ -277,7 +288,8 @@ module _ {K : Type 0} (model : Model K) where
 
   module _ (old new : K) (s t : State) (each : ℕ) (key : Text) (text : Option (List Item)) where
     -- the load reached its end, and then nothing else was changed
-    pub loaded_all : (it : LoadResult) (done : Done) → it.fault ≡ None → LoadsTo model old new s each key text it → ((u : State) → model.represents new u → t ≡ u) → Loaded s each key text done t
+    pub loaded_all : (it : LoadResult) (done : Done) → it.fault ≡ None → LoadsTo model old new s each key text it →
+        ((u : State) → model.represents new u → t ≡ u) → Loaded s each key text done t
     loaded_all it done is load same =
         let ends = subst (EndsIn model old new each key load.read load.sent (after_all s load.sent)) is load.ends in
         let all = subst (AreRead text load.read) is load.is in
@@ -292,7 +304,8 @@ module _ {K : Type 0} (model : Model K) where
           all = λ ok. (here, ends.0, all_read text load.read all);
         }
 
-    stopped_at : (read rest : List PlacedValue) (sent : List BatchValue) (b : BatchValue) (fault : Fault) → AreLeft each key read sent rest → IsNext key (1 + length sent) (edits_of rest) b
+    stopped_at : (read rest : List PlacedValue) (sent : List BatchValue) (b : BatchValue) (fault : Fault) → AreLeft each key read sent rest →
+        IsNext key (1 + length sent) (edits_of rest) b
         → LeavesUnanswered model old new (after_all s sent) b fault → model.may_leave new (Some t) → (t ≡ after_all s sent) ⊎ IsAfterNext s each key read sent t
     stopped_at read rest sent b keeper.Memory are next by left = inl (leaves_one new (after_all s sent) t by left)
     stopped_at read rest sent b keeper.Device are next by left = elim (leaves_either new (after_all s sent) (act (after_all s sent) b).state t by.1 left) [
@@ -302,7 +315,8 @@ module _ {K : Type 0} (model : Model K) where
     stopped_at read rest sent b keeper.Damaged are next by left = absurd by
     stopped_at read rest sent b keeper.Reopen are next by left = absurd by
 
-    state_of : (read : List PlacedValue) (sent : List BatchValue) (why : Option LoadFault) → EndsIn model old new each key read sent (after_all s sent) why → model.may_leave new (Some t)
+    state_of : (read : List PlacedValue) (sent : List BatchValue) (why : Option LoadFault) → EndsIn model old new each key read sent (after_all s sent) why →
+        model.may_leave new (Some t)
         → (t ≡ after_all s sent) ⊎ IsAfterNext s each key read sent t
     state_of read sent None by left = inl (leaves_one new (after_all s sent) t by.1 left)
     state_of read sent (Some (loads.AtFault fault)) by left = inl (leaves_one new (after_all s sent) t by.0.represents left)
@@ -315,7 +329,8 @@ module _ {K : Type 0} (model : Model K) where
     state_of read sent (Some loads.BadCount) by left = absurd by
     state_of read sent (Some loads.BadBatch) by left = absurd by
 
-    packed_of : (read : List PlacedValue) (sent : List BatchValue) (why : Option LoadFault) → EndsIn model old new each key read sent (after_all s sent) why → ArePacked each key read sent
+    packed_of : (read : List PlacedValue) (sent : List BatchValue) (why : Option LoadFault) → EndsIn model old new each key read sent (after_all s sent) why →
+        ArePacked each key read sent
     packed_of read sent None by = inl by.0
     packed_of read sent (Some (loads.AtFault fault)) by = inr (by.0.rest, by.0.are_left)
     packed_of read sent (Some loads.ReadFailed) by = inr (by.rest, by.are_left)
@@ -328,7 +343,8 @@ module _ {K : Type 0} (model : Model K) where
     packed_of read sent (Some loads.BadBatch) by = absurd by
 
     -- and the keeper was not called after it
-    pub loaded_as : (it : LoadResult) (done : Done) → (IsOk done → it.fault ≡ None) → LoadsTo model old new s each key text it → model.may_leave new (Some t) → Loaded s each key text done t
+    pub loaded_as : (it : LoadResult) (done : Done) → (IsOk done → it.fault ≡ None) → LoadsTo model old new s each key text it → model.may_leave new (Some t) →
+        Loaded s each key text done t
     loaded_as it done whole load left = record {
       read = load.read;
       first = first_read text load.read it.fault load.is;
@@ -345,7 +361,8 @@ module _ {K : Type 0} (model : Model K) where
     }
 
   -- less holds if the text is not known
-  pub loaded_some : (s t : State) (each : ℕ) (key : Text) (text : Option (List Item)) (done : Done) → Loaded s each key text done t → Loaded s each key None done t
+  pub loaded_some : (s t : State) (each : ℕ) (key : Text) (text : Option (List Item)) (done : Done) → Loaded s each key text done t →
+      Loaded s each key None done t
   loaded_some s t each key text done it = record {
     read = it.read;
     first = tt;
@@ -358,21 +375,25 @@ module _ {K : Type 0} (model : Model K) where
 
   -- ---- what is only read
 
-  pub unless_read : (reads : Bool) (s : State) (each : ℕ) (key : Text) (text : Option (List Item)) (done : Done) → reads ≡ true → LoadedUnless reads s each key text done s
+  pub unless_read : (reads : Bool) (s : State) (each : ℕ) (key : Text) (text : Option (List Item)) (done : Done) → reads ≡ true →
+      LoadedUnless reads s each key text done s
   unless_read true s each key text done is = refl
   unless_read false s each key text done is = absurd cc
 
-  pub unless_loaded : (reads : Bool) (s t : State) (each : ℕ) (key : Text) (text : Option (List Item)) (done : Done) → reads ≡ false → Loaded s each key text done t → LoadedUnless reads s each key text done t
+  pub unless_loaded : (reads : Bool) (s t : State) (each : ℕ) (key : Text) (text : Option (List Item)) (done : Done) → reads ≡ false →
+      Loaded s each key text done t → LoadedUnless reads s each key text done t
   unless_loaded true s t each key text done is it = absurd cc
   unless_loaded false s t each key text done is it = it
 
   -- nothing was loaded
-  pub unless_failed : (reads : Bool) (s : State) (each : ℕ) (key : Text) (text : Option (List Item)) (why : ProgramFault) → LoadedUnless reads s each key text (Err why) s
+  pub unless_failed : (reads : Bool) (s : State) (each : ℕ) (key : Text) (text : Option (List Item)) (why : ProgramFault) →
+      LoadedUnless reads s each key text (Err why) s
   unless_failed true s each key text why = refl
   unless_failed false s each key text why = nothing_loaded s each key text why
 
   -- less holds if the text is not known
-  pub unless_some : (reads : Bool) (s t : State) (each : ℕ) (key : Text) (text : Option (List Item)) (done : Done) → LoadedUnless reads s each key text done t → LoadedUnless reads s each key None done t
+  pub unless_some : (reads : Bool) (s t : State) (each : ℕ) (key : Text) (text : Option (List Item)) (done : Done) → LoadedUnless reads s each key text done t →
+      LoadedUnless reads s each key None done t
   unless_some true s t each key text done it = it
   unless_some false s t each key text done it = loaded_some s t each key text done it
 

@@ -48,7 +48,8 @@ module _ {K : Type 0} {model : Model K} where
   }
 
   -- one call, which was answered if all was done
-  pub kept_read : {T : Type 0} {a b : K} {r : Result T Fault} {Is : State → T → Type 0} (done : Type 0) → IsRead model a b r Is → (done → (x : T) × (r ≡ Ok x)) → IsKept model a b done
+  pub kept_read : {T : Type 0} {a b : K} {r : Result T Fault} {Is : State → T → Type 0} (done : Type 0) → IsRead model a b r Is → (done → (x : T) × (r ≡ Ok x))
+      → IsKept model a b done
   kept_read {T} {a} {b} {r} {Is} done read ok = record {
     preserved = read.call.preserved;
     began_clean = read.call.began_clean;

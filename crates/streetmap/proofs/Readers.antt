@@ -10,7 +10,8 @@ none_before None = refl
 none_before (Some bytes) = refl
 
 -- the same as of the reader itself
-pub remaining_is : {R A : Type 0} (remaining : R → Option (List ℕ)) (r : BufReader R A) (inner : R) → reader_inner r ≡ inner → reader_buffer r ≡ [] → reader_capacity r ≡ 8192
+pub remaining_is : {R A : Type 0} (remaining : R → Option (List ℕ)) (r : BufReader R A) (inner : R) → reader_inner r ≡ inner → reader_buffer r ≡ [] →
+    reader_capacity r ≡ 8192
     → reader_remaining remaining r ≡ remaining inner
 remaining_is remaining r inner is empty capacity =
     ap (λ n. if n == 0 then None else prepend_known (reader_buffer r) (remaining r.inner)) capacity

@@ -33,7 +33,7 @@ use std::env;
 use std::process::ExitCode;
 use streetmap_command::{Command, VERSION, read_command};
 use streetmap_faults::ProgramFault;
-use streetmap_routes::Base;
+use streetmap_routes::{Base, Offers};
 use streetmap_web::Site;
 
 /// The arguments of the command line, the first of which is the program's name.
@@ -62,6 +62,7 @@ fn perform(rt: &HostRuntime, command: Command<'_>) -> Result<(), ProgramFault> {
             base,
             conditional,
             changes,
+            status,
             guard,
         } => {
             let base = Base::new(rt.alloc(), base.as_str())?.ok_or(ProgramFault::BadBase)?;
@@ -73,7 +74,7 @@ fn perform(rt: &HostRuntime, command: Command<'_>) -> Result<(), ProgramFault> {
                 Site {
                     base,
                     tags,
-                    changes,
+                    offers: Offers { changes, status },
                     guard,
                 },
             )

@@ -21,7 +21,7 @@ use streetmap_faults::ProgramFault;
 use streetmap_guarantee::{pipe as serve_stream, serve_town, warm};
 use streetmap_journal::{Journal, JournalWriter, JournaledKeeper};
 use streetmap_ledger::{Durable, Keeper, KeepsBatches};
-use streetmap_routes::Base;
+use streetmap_routes::{Base, Offers};
 use streetmap_tags::Tagged;
 use streetmap_web::{End, Guard, KeeperService, Site, Watch};
 
@@ -60,7 +60,7 @@ pub(crate) fn service_of<K: KeepsBatches + Tagged>(
     ensures site { result.site ≡ record {
       base = base;
       tags = connections.conditional;
-      changes = connections.changes;
+      offers = record { changes = connections.changes; status = connections.status };
       guard = guard;
     } }
 {
@@ -74,7 +74,10 @@ pub(crate) fn service_of<K: KeepsBatches + Tagged>(
         site: Site {
             base,
             tags: connections.conditional,
-            changes: connections.changes,
+            offers: Offers {
+                changes: connections.changes,
+                status: connections.status,
+            },
             guard,
         },
         log: connections.log.then(|| rt.stderr()),
@@ -92,12 +95,8 @@ fn listen(rt: &HostRuntime, port: u16) -> Result<TcpListener, ProgramFault> {
 }
 
 /// Reports which lines a journal has.
-fn report_journal(
-    rt: &HostRuntime,
-    requested: JournalArguments<'_>,
-    journal: &Journal<JournalFile>,
-) -> Result<(), ProgramFault> {
-    let (path, first) = (requested.path, journal.after.saturating_add(1));
+fn report_journal(rt: &HostRuntime, journal: &Journal<JournalFile>) -> Result<(), ProgramFault> {
+    let (path, first) = (journal.writer.path(), journal.after.saturating_add(1));
     let last = journal.next.saturating_sub(1);
     println!(rt; "journal {path} from {first} to {last}").map_err(|_| ProgramFault::WriteFailed)
 }
@@ -133,7 +132,7 @@ fn listen_with_journal<K: KeepsBatches>(
     };
     let journal = begin(rt, keeper, requested)?;
     let listener = listen(rt, port)?;
-    report_journal(rt, requested, &journal)?;
+    report_journal(rt, &journal)?;
     Ok((listener, Some(journal)))
 }
 

@@ -44,7 +44,12 @@ load_value l = record {
 
 -- a journal as a value
 abbrev pub journal_value : JournalArguments → JournalWords
-journal_value j = record { path = j.path.now; after = j.after; sync = j.sync }
+journal_value j = record {
+  path = j.path.now;
+  after = j.after;
+  sync = j.sync;
+  rotate = j.rotate;
+}
 
 -- a guard as a value
 abbrev pub guard_value : GuardArgument → GuardWords
@@ -62,6 +67,7 @@ connections_value c = record {
   warm = c.warm;
   conditional = c.conditional;
   changes = c.changes;
+  status = c.status;
 }
 
 abbrev pub command_value : Command → CommandValue
@@ -69,8 +75,8 @@ command_value (Help topic) = help_command topic
 command_value Version = version_command
 command_value Lines = lines_command
 command_value (Create file) = create_command file.now
-command_value (Pipe file base conditional changes guard) =
-    pipe_command file.now (string_bytes base) conditional changes (guard_value guard)
+command_value (Pipe file base conditional changes status guard) =
+    pipe_command file.now (string_bytes base) conditional changes status (guard_value guard)
 command_value (Serve file c base journal guard) =
     serve_command file.now (connections_value c) (string_bytes base)
     (option_map journal_value journal) (guard_value guard)

@@ -3,7 +3,9 @@ use Rattle.std.specs.Prelude.{◌||◌, not}
 use Rattle.std.specs.Prelude.{◌≡◌, [], ◌∷◌, ℕ, Bool, false, codes, decimal, List, Option, Some}
 use Rattle.std.specs.Prelude.{None, length, unwrap_or, option_map, option_and_then, if◌then◌else◌}
 use Rattle.std.specs.Prelude.{nat_lt, nat_le, true, ◌&&◌, ◌++◌}
-use Rattle.std.specs.List.{list_any}
+use Rattle.std.specs.Prelude.{drop, ◌-◌, ◌==◌}
+use Rattle.std.specs.Char.{is_ascii_digit}
+use Rattle.std.specs.List.{list_any, list_all}
 use Rattle.std.specs.Str.{bytes_eq, all_ascii_digits}
 use Rattle.std.specs.Str.Parse.{digits_value}
 use Rattle.clap.specs.Words.{App, Rule, Row, Text, Kinds, IsAmong, new_app, new_rule, with_rule}
@@ -55,22 +57,27 @@ create = over_file (codes "create")
 abbrev pub with_guard : App → App
 with_guard a = with_rule (with_rule a (flag (codes "fenced"))) (option (codes "follower"))
 
+-- a command with the options that say what answers show beside the eight paths: tags, changes and
+-- the status
+abbrev pub with_shown : App → App
+with_shown a = with_rule (with_rule (with_rule a (flag (codes "conditional")))
+    (flag (codes "changes"))) (flag (codes "status"))
+
 abbrev pub pipe : App
-pipe = with_guard (with_rule (with_rule (with_rule (over_file (codes "pipe"))
-    (option (codes "base"))) (flag (codes "conditional"))) (flag (codes "changes")))
+pipe = with_guard (with_shown (with_rule (over_file (codes "pipe")) (option (codes "base"))))
 
 -- FILE, and the clients that are served
 abbrev pub serve_clients : App
-serve_clients = with_rule (with_rule (with_rule (with_rule (with_rule (with_rule
+serve_clients = with_shown (with_rule (with_rule (with_rule (with_rule
     (with_rule (with_rule (over_file (codes "serve"))
     (required_option (codes "port"))) (option (codes "count"))) (option (codes "clients")))
     (flag (codes "log"))) (option (codes "base"))) (flag (codes "warm")))
-    (flag (codes "conditional"))) (flag (codes "changes"))
 
 -- and a journal of what is accepted, and which batches are refused
 abbrev pub serve : App
-serve = with_guard (with_rule (with_rule (with_rule serve_clients (option (codes "journal")))
-    (option (codes "journal-after"))) (flag (codes "journal-sync")))
+serve = with_guard (with_rule (with_rule (with_rule (with_rule serve_clients
+    (option (codes "journal"))) (option (codes "journal-after"))) (flag (codes "journal-sync")))
+    (option (codes "journal-rotate")))
 
 -- FILE, TEXT, the key, the collection, whether features are replaced, and whether the progress of
 -- the import is reported
@@ -169,15 +176,17 @@ pub record LoadWords : Type 0 where
   pub explains : Bool
 
 -- a journal, as it is requested: its file, the serial after which it begins if it has no line,
--- and whether its lines are synchronised before answers
+-- whether its lines are synchronised before answers, and, if it is rotated, from how many bytes on
+-- a file of it is full
 pub record JournalWords : Type 0 where
   pub path : Text
   pub after : ℕ
   pub sync : Bool
+  pub rotate : Option ℕ
 
 -- the connections that are served: the port, how many in all, how many at once, whether each answer
--- has a line, whether indexes are learnt first, whether answers have tags, and whether changes are
--- answered
+-- has a line, whether indexes are learnt first, whether answers have tags, whether changes are
+-- answered, and whether the status is
 pub record ConnectionsWords : Type 0 where
   pub port : ℕ
   pub count : Option ℕ
@@ -186,6 +195,7 @@ pub record ConnectionsWords : Type 0 where
   pub warm : Bool
   pub conditional : Bool
   pub changes : Bool
+  pub status : Bool
 
 -- which batches are refused: none, all, or those without the token in the file at this path
 pub data GuardWords : Type 0 where
@@ -199,7 +209,7 @@ pub data CommandValue : Type 0 where
   version_command : CommandValue
   lines_command : CommandValue
   create_command : (file : Text) → CommandValue
-  pipe_command : (file base : Text) (conditional changes : Bool) (guard : GuardWords)
+  pipe_command : (file base : Text) (conditional changes status : Bool) (guard : GuardWords)
       → CommandValue
   serve_command : (file : Text) (connections : ConnectionsWords) (base : Text)
       (journal : Option JournalWords) (guard : GuardWords) → CommandValue
@@ -267,7 +277,8 @@ guard_by rows = guard_given (is_set (first_of (codes "fenced") rows))
 abbrev pub pipe_by : List Row → Option CommandValue
 pipe_by rows = option_and_then (λ f. option_map (λ g.
     pipe_command f (unwrap_or (first_of (codes "base") rows) plain_base)
-    (is_set (first_of (codes "conditional") rows)) (is_set (first_of (codes "changes") rows)) g)
+    (is_set (first_of (codes "conditional") rows)) (is_set (first_of (codes "changes") rows))
+    (is_set (first_of (codes "status") rows)) g)
     (guard_by rows)) (first_of (codes "file") rows)
 
 -- the serial after which something begins, up to 2^32 - 1; 0 if none is given
@@ -275,23 +286,41 @@ abbrev pub after_given : Option Text → Option ℕ
 after_given None = Some 0
 after_given (Some text) = if bytes_eq text (codes "0") then Some 0 else number_up_to 4294967295 text
 
+-- a point, and then digits only
+abbrev pub is_number_part : Text → Bool
+is_number_part [] = false
+is_number_part (b ∷ digits) = b == 46 && list_all is_ascii_digit digits
+
+-- a path that ends with a point and the twelve digits of a serial, as a file of a journal does
+abbrev pub is_numbered : Text → Bool
+is_numbered path = nat_lt 13 (length path) && is_number_part (drop (length path - 13) path)
+
+-- how many bytes a file of a journal takes, 1 to 2^32 - 1, if the journal is rotated, which its
+-- files' names need a number for
+abbrev pub rotate_given : (path : Text) → Option Text → Option (Option ℕ)
+rotate_given path None = Some None
+rotate_given path (Some text) =
+    if is_numbered path then option_map Some (number_up_to 4294967295 text) else None
+
 -- a journal, or none: its other options require it
-abbrev pub journal_given : (path after : Option Text) (sync : Bool)
+abbrev pub journal_given : (path after : Option Text) (sync : Bool) (rotate : Option Text)
     → Option (Option JournalWords)
-journal_given (Some path) after sync =
-    option_map (λ n. Some (record { path = path; after = n; sync = sync })) (after_given after)
-journal_given None None false = Some None
-journal_given None None true = None
-journal_given None (Some text) sync = None
+journal_given (Some path) after sync rotate = option_and_then (λ n. option_map (λ r.
+    Some (record { path = path; after = n; sync = sync; rotate = r }))
+    (rotate_given path rotate)) (after_given after)
+journal_given None None false None = Some None
+journal_given None after sync rotate = None
 
 abbrev pub journal_by : List Row → Option (Option JournalWords)
 journal_by rows = journal_given (first_of (codes "journal") rows)
     (first_of (codes "journal-after") rows) (is_set (first_of (codes "journal-sync") rows))
+    (first_of (codes "journal-rotate") rows)
 
 -- the connections, from the port, count, clients and flags that are given
-abbrev pub connections_given : (port count clients log warm conditional changes : Option Text)
+abbrev pub connections_given :
+    (port count clients log warm conditional changes status : Option Text)
     → Option ConnectionsWords
-connections_given port count clients log warm conditional changes =
+connections_given port count clients log warm conditional changes status =
     option_and_then (λ p. option_and_then (λ n. option_map (λ c. record {
       port = p;
       count = n;
@@ -300,6 +329,7 @@ connections_given port count clients log warm conditional changes =
       warm = is_set warm;
       conditional = is_set conditional;
       changes = is_set changes;
+      status = is_set status;
     }) (clients_given n clients)) (count_given count)) (port_given port)
 
 abbrev pub connections_by : List Row → Option ConnectionsWords
@@ -307,6 +337,7 @@ connections_by rows = connections_given (first_of (codes "port") rows)
     (first_of (codes "count") rows) (first_of (codes "clients") rows)
     (first_of (codes "log") rows) (first_of (codes "warm") rows)
     (first_of (codes "conditional") rows) (first_of (codes "changes") rows)
+    (first_of (codes "status") rows)
 
 -- the command `serve`, from the file, connections, journal, guard and base that are given
 abbrev pub serve_given : (file : Option Text) (connections : Option ConnectionsWords)

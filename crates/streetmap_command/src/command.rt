@@ -46,6 +46,8 @@ pub struct Connections {
     pub conditional: bool,
     /// Whether `/changes` is answered.
     pub changes: bool,
+    /// Whether `/status` is answered, and answers show the serial of the state.
+    pub status: bool,
 }
 
 /// The import of a text of features.
@@ -78,12 +80,14 @@ pub enum Command<'a> {
     },
     /// `streetmap pipe FILE`: serve one stream of requests on standard input and output, with links
     /// under the base; with `conditional` answers have tags, and requests conditions; with
-    /// `changes` `/changes` is answered; the guard says which batches are refused.
+    /// `changes` `/changes` is answered; with `status` `/status` is, and answers show the serial of
+    /// the state; the guard says which batches are refused.
     Pipe {
         file: &'a str,
         base: String,
         conditional: bool,
         changes: bool,
+        status: bool,
         guard: GuardArgument<'a>,
     },
     /// `streetmap serve FILE`: serve connections, with links under the base, and write a journal of
@@ -241,6 +245,7 @@ pub(crate) fn read_connections(found: &ArgMatches<'_>) -> Option<Connections>
         warm: has_flag(found, "warm"),
         conditional: has_flag(found, "conditional"),
         changes: has_flag(found, "changes"),
+        status: has_flag(found, "status"),
     })
 }
 
@@ -290,11 +295,13 @@ fn read_pipe<'a>(alloc: Global, found: &ArgMatches<'a>) -> Result<Command<'a>, C
     let base = read_base(alloc, value_of(found, "base"), "http://localhost/")?;
     let conditional = has_flag(found, "conditional");
     let changes = has_flag(found, "changes");
+    let status = has_flag(found, "status");
     Ok(Command::Pipe {
         file,
         base,
         conditional,
         changes,
+        status,
         guard,
     })
 }

@@ -154,6 +154,7 @@ pub(crate) fn make_pipe<'a>(alloc: Global) -> Result<Command<'a>, AllocError>
     let command = with_argument(command, option_arg(alloc, "base", texts::BASE));
     let command = with_argument(command, flag_arg(alloc, "conditional", texts::CONDITIONAL));
     let command = with_argument(command, flag_arg(alloc, "changes", texts::CHANGES));
+    let command = with_argument(command, flag_arg(alloc, "status", texts::STATUS));
     let command = with_argument(command, flag_arg(alloc, "fenced", texts::FENCED));
     with_argument(command, option_arg(alloc, "follower", texts::FOLLOWER))
 }
@@ -170,7 +171,8 @@ fn make_serve_clients<'a>(alloc: Global) -> Result<Command<'a>, AllocError>
     let command = with_argument(command, option_arg(alloc, "base", texts::BASE));
     let command = with_argument(command, flag_arg(alloc, "warm", texts::WARM));
     let command = with_argument(command, flag_arg(alloc, "conditional", texts::CONDITIONAL));
-    with_argument(command, flag_arg(alloc, "changes", texts::CHANGES))
+    let command = with_argument(command, flag_arg(alloc, "changes", texts::CHANGES));
+    with_argument(command, flag_arg(alloc, "status", texts::STATUS))
 }
 
 pub(crate) fn make_serve<'a>(alloc: Global) -> Result<Command<'a>, AllocError>
@@ -186,6 +188,10 @@ pub(crate) fn make_serve<'a>(alloc: Global) -> Result<Command<'a>, AllocError>
     let command = with_argument(
         command,
         flag_arg(alloc, "journal-sync", texts::JOURNAL_SYNC),
+    );
+    let command = with_argument(
+        command,
+        option_arg(alloc, "journal-rotate", texts::JOURNAL_ROTATE),
     );
     let command = with_argument(command, flag_arg(alloc, "fenced", texts::FENCED));
     with_argument(command, option_arg(alloc, "follower", texts::FOLLOWER))

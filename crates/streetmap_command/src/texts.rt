@@ -34,6 +34,8 @@ pub(crate) const CONDITIONAL: &str = "Gives answers tags, and takes conditions o
 
 pub(crate) const CHANGES: &str = "Answers /changes with the accepted batches";
 
+pub(crate) const STATUS: &str = "Answers /status, and shows the serial of the state";
+
 pub(crate) const FENCED: &str = "Refuses each batch (not with --follower)";
 
 pub(crate) const FOLLOWER: &str =
@@ -44,6 +46,8 @@ pub(crate) const JOURNAL: &str = "Writes each accepted batch to this file before
 pub(crate) const JOURNAL_AFTER: &str = "Begins an empty journal after this serial";
 
 pub(crate) const JOURNAL_SYNC: &str = "Synchronises the journal before each answer";
+
+pub(crate) const JOURNAL_ROTATE: &str = "Begins another file of the journal after this many bytes";
 
 pub(crate) const IMPORT: &str = "Puts the features of a text into a collection, as one batch";
 
@@ -109,6 +113,9 @@ pub(crate) const SPLIT_SHIFT: &str =
 pub(crate) const NO_TOPIC: &str = "After help comes the name of one command, or nothing";
 
 pub(crate) const NO_COMMAND: &str = "No command is named";
+
+pub(crate) const WRONG_ROTATION: &str =
+    "A journal that is rotated by 1 to 4294967295 bytes ends with a point and twelve digits";
 
 pub(crate) const WRONG_SERIAL: &str = "A serial is a number from 0 to 4294967295";
 

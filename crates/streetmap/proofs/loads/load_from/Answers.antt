@@ -27,10 +27,12 @@ returns-then-is_none-clause-leaves g c clean s is =
     let load = load_value c.args.load in
     let known = c.in-Ok.ensures in
     let same = remaining_is g.R.Read.remaining c.in-Ok.reader c.args.input known.inner known.empty known.capacity in
-    hold_one_of model g.met.K.Durable.images_hold_states old last s (Loaded s c.args.load.each load.key (load_items load (g.R.Read.remaining c.args.input)) c.end-done.result) is
+    hold_one_of model g.met.K.Durable.images_hold_states old last s (Loaded s c.args.load.each load.key (load_items load (g.R.Read.remaining c.args.input))
+    c.end-done.result) is
     (model.preserves_then old mid last says.calls.preserved kept.preserved) clean
     (λ t left. subst (λ (text : Option (List ℕ)). Loaded s c.args.load.each load.key (load_items load text) c.end-done.result t) same
-    (loaded_all model old mid s t c.args.load.each load.key (load_items load (reader_remaining g.R.Read.remaining c.in-Ok.reader)) c.load_text-loaded.result c.end-done.result (none_is c.load_text-loaded.result.fault (sym none ∙ c.if-is_none.true))
+    (loaded_all model old mid s t c.args.load.each load.key (load_items load (reader_remaining g.R.Read.remaining c.in-Ok.reader)) c.load_text-loaded.result
+    c.end-done.result (none_is c.load_text-loaded.result.fault (sym none ∙ c.if-is_none.true))
     (says.loads (kept.began_clean clean) s is) (λ u represents. leaves_only model last u t (kept.leaves clean u represents) left)))
 
 pub returns-else-is_none-clause-leaves : goal.returns-else-is_none-clause-leaves
@@ -42,9 +44,11 @@ returns-else-is_none-clause-leaves g c clean s is =
     let load = load_value c.args.load in
     let known = c.in-Ok.ensures in
     let same = remaining_is g.R.Read.remaining c.in-Ok.reader c.args.input known.inner known.empty known.capacity in
-    hold_one_of model g.met.K.Durable.images_hold_states old new s (Loaded s c.args.load.each load.key (load_items load (g.R.Read.remaining c.args.input)) c.end-done.result) is says.calls.preserved clean
+    hold_one_of model g.met.K.Durable.images_hold_states old new s (Loaded s c.args.load.each load.key (load_items load (g.R.Read.remaining c.args.input))
+    c.end-done.result) is says.calls.preserved clean
     (λ t left. subst (λ (text : Option (List ℕ)). Loaded s c.args.load.each load.key (load_items load text) c.end-done.result t) same
-    (loaded_as model old new s t c.args.load.each load.key (load_items load (reader_remaining g.R.Read.remaining c.in-Ok.reader)) c.load_text-loaded.result c.end-done.result c.end-done.ensures.whole
+    (loaded_as model old new s t c.args.load.each load.key (load_items load (reader_remaining g.R.Read.remaining c.in-Ok.reader)) c.load_text-loaded.result
+    c.end-done.result c.end-done.ensures.whole
     (says.loads clean s is) left))
 
 pub returns-then-is_none-clause-none_skipped : goal.returns-then-is_none-clause-none_skipped
@@ -52,14 +56,16 @@ returns-then-is_none-clause-none_skipped g c ok =
     let known = c.in-Ok.ensures in
     let same = remaining_is g.R.Read.remaining c.in-Ok.reader c.args.input known.inner known.empty known.capacity in
     subst (λ (text : Option (List ℕ)). SkipsNone (load_skips (load_value c.args.load) text)) same
-    (skips_none (load_skips (load_value c.args.load) (reader_remaining g.R.Read.remaining c.in-Ok.reader)) c.load_text-loaded.result (c.end-done.ensures.whole ok) (c.end-done.ensures.none_skipped ok) c.load_text-loaded.ensures.skips)
+    (skips_none (load_skips (load_value c.args.load) (reader_remaining g.R.Read.remaining c.in-Ok.reader)) c.load_text-loaded.result
+    (c.end-done.ensures.whole ok) (c.end-done.ensures.none_skipped ok) c.load_text-loaded.ensures.skips)
 
 pub returns-else-is_none-clause-none_skipped : goal.returns-else-is_none-clause-none_skipped
 returns-else-is_none-clause-none_skipped g c ok =
     let known = c.in-Ok.ensures in
     let same = remaining_is g.R.Read.remaining c.in-Ok.reader c.args.input known.inner known.empty known.capacity in
     subst (λ (text : Option (List ℕ)). SkipsNone (load_skips (load_value c.args.load) text)) same
-    (skips_none (load_skips (load_value c.args.load) (reader_remaining g.R.Read.remaining c.in-Ok.reader)) c.load_text-loaded.result (c.end-done.ensures.whole ok) (c.end-done.ensures.none_skipped ok) c.load_text-loaded.ensures.skips)
+    (skips_none (load_skips (load_value c.args.load) (reader_remaining g.R.Read.remaining c.in-Ok.reader)) c.load_text-loaded.result
+    (c.end-done.ensures.whole ok) (c.end-done.ensures.none_skipped ok) c.load_text-loaded.ensures.skips)
 
 pub returns-then-is_none-clause-began_clean : goal.returns-then-is_none-clause-began_clean
 returns-then-is_none-clause-began_clean g c clean = c.load_text-loaded.ensures.calls.began_clean (c.warn_of_degrees.ensures.began_clean clean)

@@ -11,4 +11,5 @@ returns g c ok =
     let known = c.in-Ok.ensures in
     let same = remaining_is g.R.Read.remaining c.in-Ok.reader c.args.input known.inner known.empty known.capacity in
     subst (λ (text : Option (List ℕ)). SkipsNone (load_skips (load_value c.args.load) text)) same
-    (skips_none (load_skips (load_value c.args.load) (reader_remaining g.R.Read.remaining c.in-Ok.reader)) c.print_text-loaded.result (c.end.ensures.whole ok) (c.end.ensures.none_skipped ok) c.print_text-loaded.ensures.skips)
+    (skips_none (load_skips (load_value c.args.load) (reader_remaining g.R.Read.remaining c.in-Ok.reader)) c.print_text-loaded.result (c.end.ensures.whole ok)
+    (c.end.ensures.none_skipped ok) c.print_text-loaded.ensures.skips)

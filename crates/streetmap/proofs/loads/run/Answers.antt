@@ -24,8 +24,10 @@ returns-in-Err-clause-leaves g c clean s is =
     let reads = c.args.requested.check || c.args.requested.print in
     let key = (load_value c.args.load).key in
     let stopped = c.in-Err.fault in
-    hold_one_of model g.met.K.Durable.images_hold_states c.args.sink.now.keeper new s (LoadedUnless reads s c.args.load.each key None (Err stopped)) is kept.preserved clean
-    (λ t left. subst (λ (u : State). LoadedUnless reads s c.args.load.each key None (Err stopped) u) (sym (leaves_only model new s t (kept.leaves clean s is) left)) (unless_failed model reads s c.args.load.each key None stopped))
+    hold_one_of model g.met.K.Durable.images_hold_states c.args.sink.now.keeper new s (LoadedUnless reads s c.args.load.each key None (Err stopped)) is
+    kept.preserved clean
+    (λ t left. subst (λ (u : State). LoadedUnless reads s c.args.load.each key None (Err stopped) u)
+    (sym (leaves_only model new s t (kept.leaves clean s is) left)) (unless_failed model reads s c.args.load.each key None stopped))
 
 pub returns-in-Ok-clause-began_clean : goal.returns-in-Ok-clause-began_clean
 returns-in-Ok-clause-began_clean g c clean = c.in-Ok.ensures.kept.began_clean (c.send_text.ensures.began_clean clean)

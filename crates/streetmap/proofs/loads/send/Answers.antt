@@ -13,5 +13,6 @@ returns-then-requested-2-clause-leaves g c clean s is =
 
 pub returns-else-requested-2-clause-leaves : goal.returns-else-requested-2-clause-leaves
 returns-else-requested-2-clause-leaves g c clean s is =
-    hold_more (λ t it. unless_loaded g.K.Keeper.model _ s t _ _ _ _ (or_neither c.args.requested.check c.args.requested.print c.if-requested-2.false c.if-requested.false) it)
+    hold_more (λ t it. unless_loaded g.K.Keeper.model _ s t _ _ _ _ (or_neither c.args.requested.check c.args.requested.print c.if-requested-2.false
+    c.if-requested.false) it)
     (c.load_from.ensures.leaves clean s is)

@@ -8,4 +8,5 @@ pub returns-in-Ok-clause-leaves : goal.returns-in-Ok-clause-leaves
 returns-in-Ok-clause-leaves g c clean s is = hold_more (λ t it. unless_some g.K.Keeper.model _ s t _ _ _ _ it) (c.send-in-Ok.ensures.leaves clean s is)
 
 pub returns-in-Err-clause-leaves : goal.returns-in-Err-clause-leaves
-returns-in-Err-clause-leaves g c clean s is = hold_still g.K.Keeper.model g.met.K.Durable.images_hold_states _ s _ is clean (unless_failed g.K.Keeper.model _ s _ _ _ _)
+returns-in-Err-clause-leaves g c clean s is = hold_still g.K.Keeper.model g.met.K.Durable.images_hold_states _ s _ is clean
+    (unless_failed g.K.Keeper.model _ s _ _ _ _)

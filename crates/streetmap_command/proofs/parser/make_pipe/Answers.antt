@@ -7,7 +7,8 @@ returns-clause-app c =
     let three = c.with_argument-command-2.ensures.app _ _ two c.flag_arg.ensures.rule c.flag_arg.ensures.local in
     let four = c.with_argument-command-3.ensures.app _ _ three c.flag_arg-2.ensures.rule c.flag_arg-2.ensures.local in
     let five = c.with_argument-command-4.ensures.app _ _ four c.flag_arg-3.ensures.rule c.flag_arg-3.ensures.local in
-    c.with_argument.ensures.app _ _ five c.option_arg-2.ensures.rule c.option_arg-2.ensures.local
+    let six = c.with_argument-command-5.ensures.app _ _ five c.flag_arg-4.ensures.rule c.flag_arg-4.ensures.local in
+    c.with_argument.ensures.app _ _ six c.option_arg-2.ensures.rule c.option_arg-2.ensures.local
 
 pub returns-clause-local : goal.returns-clause-local
 returns-clause-local c =
@@ -16,4 +17,5 @@ returns-clause-local c =
     let three = c.with_argument-command-2.ensures.local two c.flag_arg.ensures.local in
     let four = c.with_argument-command-3.ensures.local three c.flag_arg-2.ensures.local in
     let five = c.with_argument-command-4.ensures.local four c.flag_arg-3.ensures.local in
-    c.with_argument.ensures.local five c.option_arg-2.ensures.local
+    let six = c.with_argument-command-5.ensures.local five c.flag_arg-4.ensures.local in
+    c.with_argument.ensures.local six c.option_arg-2.ensures.local

@@ -10,7 +10,8 @@ returns-clause-app c =
     let six = c.with_argument-command-5.ensures.app _ _ five c.option_arg-3.ensures.rule c.option_arg-3.ensures.local in
     let seven = c.with_argument-command-6.ensures.app _ _ six c.flag_arg-2.ensures.rule c.flag_arg-2.ensures.local in
     let eight = c.with_argument-command-7.ensures.app _ _ seven c.flag_arg-3.ensures.rule c.flag_arg-3.ensures.local in
-    c.with_argument.ensures.app _ _ eight c.flag_arg-4.ensures.rule c.flag_arg-4.ensures.local
+    let nine = c.with_argument-command-8.ensures.app _ _ eight c.flag_arg-4.ensures.rule c.flag_arg-4.ensures.local in
+    c.with_argument.ensures.app _ _ nine c.flag_arg-5.ensures.rule c.flag_arg-5.ensures.local
 
 pub returns-clause-local : goal.returns-clause-local
 returns-clause-local c =
@@ -22,4 +23,5 @@ returns-clause-local c =
     let six = c.with_argument-command-5.ensures.local five c.option_arg-3.ensures.local in
     let seven = c.with_argument-command-6.ensures.local six c.flag_arg-2.ensures.local in
     let eight = c.with_argument-command-7.ensures.local seven c.flag_arg-3.ensures.local in
-    c.with_argument.ensures.local eight c.flag_arg-4.ensures.local
+    let nine = c.with_argument-command-8.ensures.local eight c.flag_arg-4.ensures.local in
+    c.with_argument.ensures.local nine c.flag_arg-5.ensures.local
