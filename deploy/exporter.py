@@ -10,6 +10,9 @@ settings name. FILE (/var/log/nginx/streetmap.log) is the log of nginx, of which
 added: deploy/nginx.conf has its form. A figure that cannot be had is left out.
 
     streetmap_up                    1 if the server answers within 2 s
+    streetmap_open                  1 if its store is open (of a server with STATUS=yes)
+    streetmap_state_serial          of its state (of the same)
+    streetmap_fenced                1 if it refuses each batch, by its settings or by NAME.fenced
     streetmap_serial                of the last whole line of the journal
     streetmap_journal_whole         0 if something after that line is no whole line
     streetmap_bytes                 of a `part`: file, log (beside it), journal (all its files)
@@ -20,13 +23,14 @@ added: deploy/nginx.conf has its form. A figure that cannot be had is left out.
     streetmap_requests_total        answers of nginx, by `method` and `status`
     streetmap_request_seconds       their times, a histogram
 
-A server says nothing of its own state: that it has shut its store shows in its answers alone, and
-that its journal lacks lines shows at the next start.
+Without STATUS=yes a server says nothing of its own state. A journal that stays behind the state's
+serial lacks lines, as on a full disk.
 """
 
 import argparse
 import contextlib
 import http.client
+import json
 import os
 import re
 import sys
@@ -53,6 +57,9 @@ BUCKETS = (0.001, 0.003, 0.01, 0.03, 0.1, 0.3, 1, 3, 10, 60)
 # Name and meaning of each figure of a town, and its labels beside the town.
 FIGURES: dict[str, tuple[str, list[str]]] = {
     "streetmap_up": ("whether the server answers", []),
+    "streetmap_open": ("whether the store is open", []),
+    "streetmap_state_serial": ("the serial of the state", []),
+    "streetmap_fenced": ("whether the server refuses each batch", []),
     "streetmap_serial": ("the last serial of the journal", []),
     "streetmap_journal_whole": ("whether the journal ends with a whole line", []),
     "streetmap_bytes": ("sizes of the files", ["part"]),
@@ -64,13 +71,14 @@ FIGURES: dict[str, tuple[str, list[str]]] = {
 Figure = tuple[str, list[str], float]
 
 
-def answers(port: int) -> bool:
-    """Whether a server at a port of this machine answers a request for its landing page."""
+def answer_of(port: int, path: str) -> tuple[int, bytes] | None:
+    """The status and the body of what a server at a port of this machine answers, if it does."""
     connection = http.client.HTTPConnection("127.0.0.1", port, timeout=ANSWER_SECONDS)
     with contextlib.closing(connection), contextlib.suppress(OSError, http.client.HTTPException):
-        connection.request("GET", "/")
-        return connection.getresponse().status == 200
-    return False
+        connection.request("GET", path)
+        answer = connection.getresponse()
+        return answer.status, answer.read()
+    return None
 
 
 def size_of(path: Path) -> int:
@@ -94,8 +102,11 @@ class Town:
         return self.settings.value(name).strip("\"'")
 
     def figures(self) -> Iterator[Figure]:
-        port = self.setting("PORT")
-        yield "streetmap_up", [], port.isdecimal() and answers(int(port))
+        yield from self.of_own_server()
+        is_fenced = (
+            self.setting("FENCED") or self.file.with_name(f"{self.file.name}.fenced").exists()
+        )
+        yield "streetmap_fenced", [], bool(is_fenced)
         log = self.file.with_name(f"{self.file.name}-wal")
         for part, path in (("file", self.file), ("log", log)):
             yield "streetmap_bytes", [part], size_of(path)
@@ -115,6 +126,19 @@ class Town:
         for kind, dsn in (("table", self.setting("DATABASE")), ("source", source)):
             if dsn.startswith(("postgresql://", "postgres://")):
                 yield from self.of_database(kind, dsn)
+
+    def of_own_server(self) -> Iterator[Figure]:
+        """Whether the town's server answers, and what it says of its state."""
+        port = self.setting("PORT")
+        found = answer_of(int(port), "/") if port.isdecimal() else None
+        yield "streetmap_up", [], found is not None and found[0] == 200
+        if found is None or not self.setting("STATUS"):
+            return
+        status, body = answer_of(int(port), "/status") or (0, b"")
+        if status in (200, 500):
+            yield "streetmap_open", [], status == 200
+        if status == 200:
+            yield "streetmap_state_serial", [], json.loads(body)["batches"]
 
     def of_journal(self, journal: Path) -> Iterator[Figure]:
         parts = parts_of(journal)

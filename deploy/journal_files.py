@@ -215,9 +215,11 @@ def replace_file(path: Path, text: str) -> None:
     beside = path.with_name(f".{path.name}.new")
     with beside.open("w") as file:
         with contextlib.suppress(FileNotFoundError):
-            status = path.stat()
+            status, made = path.stat(), os.fstat(file.fileno())
             os.fchmod(file.fileno(), status.st_mode & 0o7777)
-            os.fchown(file.fileno(), status.st_uid, status.st_gid)
+            # A unit must not call this (SystemCallFilter=), and its files are its own.
+            if (status.st_uid, status.st_gid) != (made.st_uid, made.st_gid):
+                os.fchown(file.fileno(), status.st_uid, status.st_gid)
         file.write(text)
         file.flush()
         os.fsync(file.fileno())

@@ -47,10 +47,11 @@ _streetmap() {
     if [[ $cur == -* ]]; then
         local options=
         case ${words[1]} in
-            pipe) options="--base --conditional --changes --fenced --follower" ;;
+            pipe) options="--base --conditional --changes --status --fenced --follower" ;;
             serve)
-                options="--port --count --clients --log --warm --conditional --changes --base
-                    --journal --journal-after --journal-sync --fenced --follower"
+                options="--port --count --clients --log --warm --conditional --changes --status
+                    --base --journal --journal-after --journal-sync --journal-rotate --fenced
+                    --follower"
                 ;;
             import) options="--key --collection --replace --progress" ;;
             export) options="--collection --progress" ;;

@@ -50,7 +50,8 @@ class Figures:
 
 
 def write(folder: Path, served: Served, name: str, value: str) -> None:
-    lines = [f"PORT={served.port}", f"JOURNAL={served.journal}", f"{name}={value}", ""]
+    lines = [f"PORT={served.port}", f"JOURNAL={served.journal}", "STATUS=yes"]
+    lines += [f"{name}={value}", ""]
     (folder / f"{served.file.name}.conf").write_text("\n".join(lines))
 
 
@@ -72,6 +73,9 @@ def check_whole(figures: Figures) -> None:
     for name, labels, wanted in (
         ("up", "town=first", 1),
         ("up", "town=left", 1),
+        ("open", "town=first", 1),
+        ("state_serial", "town=first", reply["serial"]),
+        ("fenced", "town=first", 0),
         ("serial", "town=first", reply["serial"]),
         ("journal_whole", "town=first", 1),
         ("bytes", "part=journal,town=first", size),
@@ -100,6 +104,10 @@ def check_away(figures: Figures) -> None:
     check("a cut line", figures.of("journal_whole", "town=left"), 0)
     site.left.journal.write_bytes(whole)
     site.left.process.start()
+    fenced = site.left.file.with_name(f"{site.left.file.name}.fenced")
+    fenced.touch()
+    check("a server that is fenced", figures.of("fenced", "town=left"), 1)
+    fenced.unlink()
     site.primary.process.kill()
     check("a database is away", figures.of("copy_up", "copy=table,town=first"), 0)
     site.primary.process.start()

@@ -37,7 +37,7 @@ class Served:
             free_port(),
         )
         given = [str(context.program), "serve", str(file), "--port", str(port), "--base", BASE]
-        given += ["--clients", "32", "--log", "--conditional", "--changes"]
+        given += ["--clients", "32", "--log", "--conditional", "--changes", "--status"]
         given += ["--journal", str(journal)]
         return cls(file, journal, Process(context, name, given, port), port)
 
