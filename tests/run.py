@@ -37,7 +37,7 @@ LIMIT, SLOW_LIMIT, COMMAND_LIMIT = 1800, 7200, 120
 # and to what clients of the groups do.
 JOBS = max(1, len(os.sched_getaffinity(0)) - 1)
 # These take longest, and begin first.
-LONG = ("gateway", "lint", "map", "mirror", "package", "pieces")
+LONG = ("gateway", "lint", "machines", "map", "mirror", "package", "pieces")
 
 
 def use_debian_python() -> None:

@@ -6,7 +6,7 @@ from pathlib import Path
 from closure import CRATES, lines_from_state_up, lines_in_all
 
 PAGE = CRATES.parent / "docs" / "THEOREM.md"
-MOST_LINES, MOST_FROM_STATE_UP, MOST_IN_ALL = 150, 1_750, 5_250
+MOST_LINES, MOST_FROM_STATE_UP, MOST_IN_ALL = 150, 1_850, 5_350
 GUARANTEE = CRATES / "streetmap_guarantee"
 ROW = re.compile(r"^\| `(streetmap_\w+)/specs/(\w+)` \| (\d+) \| (.*) \|$", re.MULTILINE)
 QUOTED = re.compile(r"`([^`]+)`")

@@ -22,7 +22,7 @@ ROOT = TESTS.parent
 README = ROOT / "README.md"
 DOCUMENTS = [README, *sorted((ROOT / "docs").glob("*.md"))]
 CONTRIBUTING = ROOT / "CONTRIBUTING.md"
-MOST_WORDS, MOST_COLUMNS, MOST_README, MOST_CONTRIBUTING = 35_000, 100, 120, 60
+MOST_WORDS, MOST_COLUMNS, MOST_README, MOST_CONTRIBUTING = 36_000, 100, 120, 60
 HEADLINE = (
     "For every list of batches, and a stop before or within any write, the file, where it opens "
     "again, holds the state of a beginning of the accepted batches that contains every "

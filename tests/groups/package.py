@@ -14,8 +14,9 @@ from collections.abc import Iterator
 from dataclasses import dataclass
 from pathlib import Path
 
+from debian_packages import built_packages, output_of
 from gateway_tests import packaging
-from harness import Context, Word, first_line, free_port
+from harness import Context, first_line, free_port
 from messages import OPEN_LAMPS, batch, get
 from operating_tests.document import commands_of
 from units import started, unit_lines
@@ -90,7 +91,6 @@ share/streetmap/deploy/report_failure.sh
 share/streetmap/deploy/restore.py
 """.split()
 MANUALS = ["streetmap", "streetmap-rotate-journal"]
-NAMES = ("streetmap", "streetmap-gateway")
 # A purge as a machine does it that nobody sits at.
 PURGE = ("env", "DEBIAN_FRONTEND=noninteractive", "dpkg", "--purge", "streetmap")
 # Words before the cursor, and what completes them.
@@ -120,15 +120,6 @@ COMP_CWORD=$((${#COMP_WORDS[@]} - 1))
 _streetmap streetmap
 echo "${COMPREPLY[*]}"
 """
-
-
-def output_of(*words: Word) -> str:
-    """What a command prints, which has to succeed."""
-    given = list(map(str, words))
-    ended = subprocess.run(given, capture_output=True, text=True, check=False)
-    if ended.returncode != 0:
-        raise RuntimeError(f"{' '.join(given)}: {ended.stdout}{ended.stderr}")
-    return ended.stdout
 
 
 def texts_that_name(text: str, folder: Path) -> list[Path]:
@@ -224,33 +215,40 @@ def check_words(context: Context) -> None:
     """The arguments of the program, with a journal and with an empty or a missing one."""
     settings = (REPOSITORY / "deploy" / "town.conf").read_text()
     without = "serve /var/lib/streetmap/town --port 8080 --clients 64 --base http://localhost:8080/"
-    tags, path = "--conditional", "/var/lib/streetmap/town journal"
+    tags, status, path = "--conditional", "--status", "/var/lib/streetmap/town journal"
+    both = [tags, status]
     rows: tuple[tuple[str, str, str, list[str]], ...] = (
-        ("an empty journal", "", "", [tags]),
-        ("a log, a warm start", "LOG=\nWARM=\n", "LOG=yes\nWARM=1\n", ["--log", "--warm", tags]),
-        ("settings before LOG and WARM", "LOG=\nWARM=\n", "\n", [tags]),
-        ("no tags", "CONDITIONAL=yes\n", "CONDITIONAL=\n", []),
-        ("settings before tags", "CONDITIONAL=yes\n", "\n", []),
-        ("changes", "CHANGES=\n", "CHANGES=yes\n", [tags, "--changes"]),
-        ("settings before changes", "CHANGES=\n", "\n", [tags]),
-        ("a fenced server", "FENCED=\n", "FENCED=yes\n", [tags, "--fenced"]),
-        ("settings before it", "FENCED=\n", "\n", [tags]),
-        ("a token", "FOLLOWER_TOKEN=\n", "FOLLOWER_TOKEN=/t k\n", [tags, "--follower", "/t k"]),
-        ("settings before tokens", "FOLLOWER_TOKEN=\n", "\n", [tags]),
-        ("both", "FOLLOWER_TOKEN=\n", "FOLLOWER_TOKEN=/t\nFENCED=1\n", [tags, "--fenced"]),
-        ("a missing journal", "JOURNAL=\n", "\n", [tags]),
-        ("a journal", "JOURNAL=\n", f"JOURNAL={path}\n", [tags, "--journal", path]),
+        ("an empty journal", "", "", both),
+        ("a log, a warm start", "LOG=\nWARM=\n", "LOG=yes\nWARM=1\n", ["--log", "--warm", *both]),
+        ("settings before LOG and WARM", "LOG=\nWARM=\n", "\n", both),
+        ("no tags", "CONDITIONAL=yes\n", "CONDITIONAL=\n", [status]),
+        ("settings before tags", "CONDITIONAL=yes\n", "\n", [status]),
+        ("changes", "CHANGES=\n", "CHANGES=yes\n", [tags, "--changes", status]),
+        ("settings before changes", "CHANGES=\n", "\n", both),
+        ("no status", "STATUS=yes\n", "STATUS=\n", [tags]),
+        ("settings before the status", "STATUS=yes\n", "\n", [tags]),
+        ("a fenced server", "FENCED=\n", "FENCED=yes\n", [*both, "--fenced"]),
+        ("settings before it", "FENCED=\n", "\n", both),
+        ("a token", "FOLLOWER_TOKEN=\n", "FOLLOWER_TOKEN=/t k\n", [*both, "--follower", "/t k"]),
+        ("settings before tokens", "FOLLOWER_TOKEN=\n", "\n", both),
+        ("both", "FOLLOWER_TOKEN=\n", "FOLLOWER_TOKEN=/t\nFENCED=1\n", [*both, "--fenced"]),
+        ("a missing journal", "JOURNAL=\n", "\n", both),
+        ("a journal", "JOURNAL=\n", f"JOURNAL={path}\n", [*both, "--journal", path]),
         (
             "words of a journal",
-            "JOURNAL=\nJOURNAL_AFTER=\nJOURNAL_WORDS=\n",
-            f"JOURNAL={path}\nJOURNAL_AFTER=7\nJOURNAL_WORDS=--journal-sync\n",
-            [tags, "--journal", path, "--journal-after", "7", "--journal-sync"],
+            "JOURNAL=\nJOURNAL_AFTER=\nJOURNAL_ROTATE=\nJOURNAL_WORDS=\n",
+            f"JOURNAL={path}\nJOURNAL_AFTER=7\nJOURNAL_ROTATE=9\nJOURNAL_WORDS=--journal-sync\n",
+            [
+                *both,
+                *("--journal", path, "--journal-after", "7", "--journal-rotate", "9"),
+                "--journal-sync",
+            ],
         ),
         (
             "older settings of a journal",
-            "JOURNAL=\nJOURNAL_AFTER=\n",
+            "JOURNAL=\nJOURNAL_AFTER=\nJOURNAL_ROTATE=\n",
             f"JOURNAL={path}\n",
-            [tags, "--journal", path],
+            [*both, "--journal", path],
         ),
     )
     for what, old, new, wanted in rows:
@@ -279,13 +277,6 @@ def check_unit(context: Context) -> None:
     context.check("answers under a trace", [answer.status for answer in answers], [200, 200])
     made = set(re.findall(r"^\d+ +(\w+)\(", trace.read_text(), re.MULTILINE)) - {"execve"}
     context.check("calls that the unit forbids", made - allowed_calls(UNIT), set())
-
-
-def built_packages(context: Context, folder: Path) -> tuple[Path, Path]:
-    """The packages of the program and of the gateway, in a folder."""
-    output_of("bash", REPOSITORY / "packaging" / "deb.sh", context.program, folder)
-    (package,), (gateway,) = (folder.glob(f"{name}_*.deb") for name in NAMES)
-    return package, gateway
 
 
 def code_of(program: Path, copy: Path) -> bytes:

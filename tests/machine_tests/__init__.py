@@ -1,0 +1,1 @@
+"""Commands of operators on machines with a real systemd."""
