@@ -50,8 +50,7 @@ _streetmap() {
             pipe) options="--base --conditional --changes --status --fenced --follower" ;;
             serve)
                 options="--port --count --clients --log --warm --conditional --changes --status
-                    --base --journal --journal-after --journal-sync --journal-rotate --fenced
-                    --follower"
+                    --base --journal --journal-after --journal-sync --fenced --follower"
                 ;;
             import) options="--key --collection --replace --progress" ;;
             export) options="--collection --progress" ;;

@@ -19,7 +19,6 @@ from harness import Context, Word
 from loading import load_words, sequence
 from messages import Edit, delete, feature, insert_lamp, open_collection, point, post, put
 from model import compact
-from rotated_journal import check_rotating
 from served_journal import check_serving, journal_of
 from sqlite_file import Rows, change, copy_file, forget, kept_rows, make_format_1, rows
 
@@ -399,8 +398,5 @@ def run(context: Context) -> None:
     words = ("--port", "1", "--journal", context.folder / "none.journal")
     if context.takes("serve", none, *words):
         check_serving(context, town)
-    numbered = ("--journal", "none.000000000001", "--journal-rotate", "9")
-    if context.takes("serve", none, "--port", "1", *numbered):
-        check_rotating(context)
     if context.takes("check", none, "--replay"):
         check_replays(context, town)

@@ -236,17 +236,17 @@ def check_words(context: Context) -> None:
         ("a journal", "JOURNAL=\n", f"JOURNAL={path}\n", [*both, "--journal", path]),
         (
             "words of a journal",
-            "JOURNAL=\nJOURNAL_AFTER=\nJOURNAL_ROTATE=\nJOURNAL_WORDS=\n",
-            f"JOURNAL={path}\nJOURNAL_AFTER=7\nJOURNAL_ROTATE=9\nJOURNAL_WORDS=--journal-sync\n",
+            "JOURNAL=\nJOURNAL_AFTER=\nJOURNAL_WORDS=\n",
+            f"JOURNAL={path}\nJOURNAL_AFTER=7\nJOURNAL_WORDS=--journal-sync\n",
             [
                 *both,
-                *("--journal", path, "--journal-after", "7", "--journal-rotate", "9"),
+                *("--journal", path, "--journal-after", "7"),
                 "--journal-sync",
             ],
         ),
         (
             "older settings of a journal",
-            "JOURNAL=\nJOURNAL_AFTER=\nJOURNAL_ROTATE=\n",
+            "JOURNAL=\nJOURNAL_AFTER=\n",
             f"JOURNAL={path}\n",
             [*both, "--journal", path],
         ),

@@ -28,7 +28,7 @@ class Town:
     @classmethod
     def of(cls, made: Machine) -> "Town":
         copy, _, compare, copy_files = commands_of("Backup")
-        _, rotate = commands_of("Rotation")
+        (rotate,) = commands_of("Rotation")
         return cls(made, copy, compare, copy_files, rotate)
 
     @property

@@ -95,8 +95,12 @@ fn listen(rt: &HostRuntime, port: u16) -> Result<TcpListener, ProgramFault> {
 }
 
 /// Reports which lines a journal has.
-fn report_journal(rt: &HostRuntime, journal: &Journal<JournalFile>) -> Result<(), ProgramFault> {
-    let (path, first) = (journal.writer.path(), journal.after.saturating_add(1));
+fn report_journal(
+    rt: &HostRuntime,
+    requested: JournalArguments<'_>,
+    journal: &Journal<JournalFile>,
+) -> Result<(), ProgramFault> {
+    let (path, first) = (requested.path, journal.after.saturating_add(1));
     let last = journal.next.saturating_sub(1);
     println!(rt; "journal {path} from {first} to {last}").map_err(|_| ProgramFault::WriteFailed)
 }
@@ -132,7 +136,7 @@ fn listen_with_journal<K: KeepsBatches>(
     };
     let journal = begin(rt, keeper, requested)?;
     let listener = listen(rt, port)?;
-    report_journal(rt, &journal)?;
+    report_journal(rt, requested, &journal)?;
     Ok((listener, Some(journal)))
 }
 

@@ -44,12 +44,7 @@ load_value l = record {
 
 -- a journal as a value
 abbrev pub journal_value : JournalArguments → JournalWords
-journal_value j = record {
-  path = j.path.now;
-  after = j.after;
-  sync = j.sync;
-  rotate = j.rotate;
-}
+journal_value j = record { path = j.path.now; after = j.after; sync = j.sync }
 
 -- a guard as a value
 abbrev pub guard_value : GuardArgument → GuardWords

@@ -3,9 +3,7 @@ use Rattle.std.specs.Prelude.{◌||◌, not}
 use Rattle.std.specs.Prelude.{◌≡◌, [], ◌∷◌, ℕ, Bool, false, codes, decimal, List, Option, Some}
 use Rattle.std.specs.Prelude.{None, length, unwrap_or, option_map, option_and_then, if◌then◌else◌}
 use Rattle.std.specs.Prelude.{nat_lt, nat_le, true, ◌&&◌, ◌++◌}
-use Rattle.std.specs.Prelude.{drop, ◌-◌, ◌==◌}
-use Rattle.std.specs.Char.{is_ascii_digit}
-use Rattle.std.specs.List.{list_any, list_all}
+use Rattle.std.specs.List.{list_any}
 use Rattle.std.specs.Str.{bytes_eq, all_ascii_digits}
 use Rattle.std.specs.Str.Parse.{digits_value}
 use Rattle.clap.specs.Words.{App, Rule, Row, Text, Kinds, IsAmong, new_app, new_rule, with_rule}
@@ -75,9 +73,8 @@ serve_clients = with_shown (with_rule (with_rule (with_rule (with_rule
 
 -- and a journal of what is accepted, and which batches are refused
 abbrev pub serve : App
-serve = with_guard (with_rule (with_rule (with_rule (with_rule serve_clients
-    (option (codes "journal"))) (option (codes "journal-after"))) (flag (codes "journal-sync")))
-    (option (codes "journal-rotate")))
+serve = with_guard (with_rule (with_rule (with_rule serve_clients (option (codes "journal")))
+    (option (codes "journal-after"))) (flag (codes "journal-sync")))
 
 -- FILE, TEXT, the key, the collection, whether features are replaced, and whether the progress of
 -- the import is reported
@@ -176,13 +173,11 @@ pub record LoadWords : Type 0 where
   pub explains : Bool
 
 -- a journal, as it is requested: its file, the serial after which it begins if it has no line,
--- whether its lines are synchronised before answers, and, if it is rotated, from how many bytes on
--- a file of it is full
+-- and whether its lines are synchronised before answers
 pub record JournalWords : Type 0 where
   pub path : Text
   pub after : ℕ
   pub sync : Bool
-  pub rotate : Option ℕ
 
 -- the connections that are served: the port, how many in all, how many at once, whether each answer
 -- has a line, whether indexes are learnt first, whether answers have tags, whether changes are
@@ -286,35 +281,18 @@ abbrev pub after_given : Option Text → Option ℕ
 after_given None = Some 0
 after_given (Some text) = if bytes_eq text (codes "0") then Some 0 else number_up_to 4294967295 text
 
--- a point, and then digits only
-abbrev pub is_number_part : Text → Bool
-is_number_part [] = false
-is_number_part (b ∷ digits) = b == 46 && list_all is_ascii_digit digits
-
--- a path that ends with a point and the twelve digits of a serial, as a file of a journal does
-abbrev pub is_numbered : Text → Bool
-is_numbered path = nat_lt 13 (length path) && is_number_part (drop (length path - 13) path)
-
--- how many bytes a file of a journal takes, 1 to 2^32 - 1, if the journal is rotated, which its
--- files' names need a number for
-abbrev pub rotate_given : (path : Text) → Option Text → Option (Option ℕ)
-rotate_given path None = Some None
-rotate_given path (Some text) =
-    if is_numbered path then option_map Some (number_up_to 4294967295 text) else None
-
 -- a journal, or none: its other options require it
-abbrev pub journal_given : (path after : Option Text) (sync : Bool) (rotate : Option Text)
+abbrev pub journal_given : (path after : Option Text) (sync : Bool)
     → Option (Option JournalWords)
-journal_given (Some path) after sync rotate = option_and_then (λ n. option_map (λ r.
-    Some (record { path = path; after = n; sync = sync; rotate = r }))
-    (rotate_given path rotate)) (after_given after)
-journal_given None None false None = Some None
-journal_given None after sync rotate = None
+journal_given (Some path) after sync =
+    option_map (λ n. Some (record { path = path; after = n; sync = sync })) (after_given after)
+journal_given None None false = Some None
+journal_given None None true = None
+journal_given None (Some text) sync = None
 
 abbrev pub journal_by : List Row → Option (Option JournalWords)
 journal_by rows = journal_given (first_of (codes "journal") rows)
     (first_of (codes "journal-after") rows) (is_set (first_of (codes "journal-sync") rows))
-    (first_of (codes "journal-rotate") rows)
 
 -- the connections, from the port, count, clients and flags that are given
 abbrev pub connections_given :

@@ -8,7 +8,7 @@ use crate::command::{has_flag, read_connections, value_of};
 use crate::help::{help_called, topic_named};
 use crate::parser::make_parser;
 use crate::texts;
-use crate::words::{read_each, read_fractions, read_guard, read_journal, read_rotate};
+use crate::words::{read_each, read_fractions, read_guard, read_journal};
 use clap::{ArgMatches, Error};
 use std::alloc::{AllocError, Global};
 
@@ -96,17 +96,6 @@ fn wrong_value(matches: &ArgMatches<'_>) -> &'static str {
     }
 }
 
-/// Whether the bytes after which a journal is rotated are wrong, or its name has no number.
-fn is_rotated_wrongly(found: &ArgMatches<'_>) -> bool {
-    match (
-        value_of(found, "journal"),
-        value_of(found, "journal-rotate"),
-    ) {
-        (Some(path), Some(bytes)) => read_rotate(path, Some(bytes)).is_none(),
-        _ => false,
-    }
-}
-
 /// Which value of `serve` is wrong.
 fn wrong_in_serve(found: &ArgMatches<'_>) -> &'static str {
     if read_connections(found).is_none() {
@@ -115,8 +104,6 @@ fn wrong_in_serve(found: &ArgMatches<'_>) -> &'static str {
         texts::FENCED_FOLLOWER
     } else if value_of(found, "journal").is_none() && read_journal(found).is_none() {
         texts::NO_JOURNAL
-    } else if is_rotated_wrongly(found) {
-        texts::WRONG_ROTATION
     } else {
         texts::WRONG_SERIAL
     }

@@ -189,10 +189,6 @@ pub(crate) fn make_serve<'a>(alloc: Global) -> Result<Command<'a>, AllocError>
         command,
         flag_arg(alloc, "journal-sync", texts::JOURNAL_SYNC),
     );
-    let command = with_argument(
-        command,
-        option_arg(alloc, "journal-rotate", texts::JOURNAL_ROTATE),
-    );
     let command = with_argument(command, flag_arg(alloc, "fenced", texts::FENCED));
     with_argument(command, option_arg(alloc, "follower", texts::FOLLOWER))
 }

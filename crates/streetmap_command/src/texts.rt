@@ -47,8 +47,6 @@ pub(crate) const JOURNAL_AFTER: &str = "Begins an empty journal after this seria
 
 pub(crate) const JOURNAL_SYNC: &str = "Synchronises the journal before each answer";
 
-pub(crate) const JOURNAL_ROTATE: &str = "Begins another file of the journal after this many bytes";
-
 pub(crate) const IMPORT: &str = "Puts the features of a text into a collection, as one batch";
 
 pub(crate) const IMPORT_TEXT: &str = "A GeoJSON FeatureCollection";
@@ -113,9 +111,6 @@ pub(crate) const SPLIT_SHIFT: &str =
 pub(crate) const NO_TOPIC: &str = "After help comes the name of one command, or nothing";
 
 pub(crate) const NO_COMMAND: &str = "No command is named";
-
-pub(crate) const WRONG_ROTATION: &str =
-    "A journal that is rotated by 1 to 4294967295 bytes ends with a point and twelve digits";
 
 pub(crate) const WRONG_SERIAL: &str = "A serial is a number from 0 to 4294967295";
 

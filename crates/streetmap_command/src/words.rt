@@ -6,19 +6,13 @@ ghost use Rattle.streetmap_command.specs.CommandView.{guard_value};
 ghost use Rattle.streetmap_command.specs.Program.{load_by, batches_by, apply_by, agrees};
 ghost use Rattle.streetmap_command.specs.Program.{options_given, journal_by, guard_by};
 ghost use Rattle.streetmap_command.specs.Program.{each_given, after_given, fractions_given};
-ghost use Rattle.streetmap_command.specs.Program.{text_given, rotate_given};
-ghost use Rattle.std.specs.List.{list_all};
-ghost use Rattle.std.specs.Char.{is_ascii_digit};
-ghost use Rattle.streetmap_command.specs.Program as spec;
+ghost use Rattle.streetmap_command.specs.Program.{text_given};
 
 use crate::command::{Command, CommandFault, has_flag, read_number, value_of};
 use clap::ArgMatches;
 
 /// The edits of a batch of a load, if no number is given.
 const EACH: u32 = 1000;
-
-/// The bytes of a point and the twelve digits of a serial, with which a file of a journal is named.
-const NUMBER_BYTES: usize = 13;
 
 /// The load of a text of features, one per line.
 #[derive(Clone, Copy, Drop)]
@@ -68,8 +62,6 @@ pub struct JournalArguments<'a> {
     pub after: u32,
     /// Whether its lines are synchronised before answers.
     pub sync: bool,
-    /// How many bytes a file of it takes before the next is begun; any number if none is given.
-    pub rotate: Option<u32>,
 }
 
 /// Which batches a server refuses.
@@ -116,45 +108,6 @@ fn read_after(given: Option<&str>) -> Option<u32>
     }
 }
 
-/// Whether all bytes are digits.
-fn are_digits(bytes: &[u8]) -> bool
-    ensures { result ≡ list_all is_ascii_digit bytes.now }
-{
-    bytes.iter().all(|byte| byte.is_ascii_digit())
-}
-
-/// Whether bytes are a point, and then digits only.
-fn is_number_part(bytes: &[u8]) -> bool
-    ensures { result ≡ spec.is_number_part bytes.now }
-{
-    match bytes.split_first() {
-        Some((first, digits)) => *first == b'.' && are_digits(digits),
-        None => false,
-    }
-}
-
-/// Whether a path ends with a point and the twelve digits of a serial.
-fn is_numbered(path: &str) -> bool
-    ensures { result ≡ spec.is_numbered path.now }
-{
-    let bytes = path.as_bytes();
-    if bytes.len() <= NUMBER_BYTES {
-        return false;
-    }
-    is_number_part(&bytes[bytes.len() - NUMBER_BYTES..])
-}
-
-/// How many bytes a file of a journal takes, if it is rotated: then its name has a number.
-pub(crate) fn read_rotate(path: &str, given: Option<&str>) -> Option<Option<u32>>
-    ensures { result ≡ rotate_given path.now (option_map (λ s. s.now) given.entry) }
-{
-    match given {
-        Some(text) if is_numbered(path) => Some(Some(read_number(text, u32::MAX)?)),
-        Some(_) => None,
-        None => Some(None),
-    }
-}
-
 /// The journal that is given, or none: its other options require it.
 pub(crate) fn read_journal<'a>(found: &ArgMatches<'a>) -> Option<Option<JournalArguments<'a>>>
     ensures { option_map (option_map journal_value) result
@@ -162,15 +115,13 @@ pub(crate) fn read_journal<'a>(found: &ArgMatches<'a>) -> Option<Option<JournalA
 {
     let after = value_of(found, "journal-after");
     let sync = has_flag(found, "journal-sync");
-    let rotate = value_of(found, "journal-rotate");
     match value_of(found, "journal") {
         Some(path) => Some(Some(JournalArguments {
             path,
             after: read_after(after)?,
             sync,
-            rotate: read_rotate(path, rotate)?,
         })),
-        None if after.is_none() && !sync && rotate.is_none() => Some(None),
+        None if after.is_none() && !sync => Some(None),
         None => None,
     }
 }

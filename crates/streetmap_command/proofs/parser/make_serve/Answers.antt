@@ -13,12 +13,9 @@ returns-clause-app c =
     c.with_argument-command-3.ensures.app _ _ three c.flag_arg.ensures.rule
     c.flag_arg.ensures.local in
     let five =
-    c.with_argument-command-4.ensures.app _ _ four c.option_arg-3.ensures.rule
-    c.option_arg-3.ensures.local in
-    let six =
-    c.with_argument-command-5.ensures.app _ _ five c.flag_arg-2.ensures.rule
+    c.with_argument-command-4.ensures.app _ _ four c.flag_arg-2.ensures.rule
     c.flag_arg-2.ensures.local in
-    c.with_argument.ensures.app _ _ six c.option_arg-4.ensures.rule c.option_arg-4.ensures.local
+    c.with_argument.ensures.app _ _ five c.option_arg-3.ensures.rule c.option_arg-3.ensures.local
 
 pub returns-clause-local : goal.returns-clause-local
 returns-clause-local c =
@@ -26,6 +23,5 @@ returns-clause-local c =
     let two = c.with_argument-command.ensures.local one c.option_arg.ensures.local in
     let three = c.with_argument-command-2.ensures.local two c.option_arg-2.ensures.local in
     let four = c.with_argument-command-3.ensures.local three c.flag_arg.ensures.local in
-    let five = c.with_argument-command-4.ensures.local four c.option_arg-3.ensures.local in
-    let six = c.with_argument-command-5.ensures.local five c.flag_arg-2.ensures.local in
-    c.with_argument.ensures.local six c.option_arg-4.ensures.local
+    let five = c.with_argument-command-4.ensures.local four c.flag_arg-2.ensures.local in
+    c.with_argument.ensures.local five c.option_arg-3.ensures.local
